@@ -1,0 +1,18 @@
+//! Texts, byte strings, moments and messages: the values that every other crate passes on.
+#![tactic(auto)]
+
+mod blob;
+mod message;
+mod method;
+mod moment;
+mod no_memory;
+mod sequence;
+mod text;
+
+pub use blob::Blob;
+pub use message::{Field, Fields, LinkRequest, Names, Request, Requests, Response};
+pub use method::Method;
+pub use moment::{MOMENT_LIMIT, Moment};
+pub use no_memory::NoMemory;
+pub use sequence::Sequence;
+pub use text::{Text, TextErr};
