@@ -14,5 +14,8 @@ pub use message::{Field, Fields, LinkRequest, Names, Request, Requests, Response
 pub use method::Method;
 pub use moment::{MOMENT_LIMIT, Moment};
 pub use no_memory::NoMemory;
-pub use sequence::Sequence;
+pub use sequence::{Places, Sequence};
 pub use text::{Text, TextErr};
+
+#[cfg(test)]
+mod tests;

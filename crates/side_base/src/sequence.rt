@@ -5,6 +5,9 @@ use std::alloc::Global;
 use std::collections::VecDeque;
 use std::marker::Model;
 
+/// A list of places, each counted from 0.
+pub type Places = Sequence<u32>;
+
 /// An ordered list of items, which contracts see as a list.
 ///
 /// Both ends are cheap: an item is added at the back, and taken off at the front, in constant time.
