@@ -1,0 +1,4 @@
+pub mod Composed
+pub mod Gathered
+pub mod Pieces
+pub mod Sent

@@ -1,0 +1,4 @@
+pub mod Faults
+pub mod MemorySink
+pub mod MemorySource
+pub mod Told

@@ -1,0 +1,23 @@
+//! The outside as the other crates see it: where bytes come from and where they go, with a count of faults for each.
+#![tactic(auto)]
+
+mod failed;
+mod memory_sink;
+mod memory_source;
+mod reading;
+mod schedule;
+mod sending;
+mod sink;
+mod source;
+
+pub use failed::Failed;
+pub use memory_sink::MemorySink;
+pub use memory_source::MemorySource;
+pub use reading::{GatherErr, gather};
+pub use schedule::Sizes;
+pub use sending::send;
+pub use sink::Sink;
+pub use source::Source;
+
+#[cfg(test)]
+mod tests;
