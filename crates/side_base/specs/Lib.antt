@@ -1,1 +1,3 @@
+pub mod Decimal
+pub mod Duration
 pub mod Text

@@ -2,6 +2,8 @@
 #![tactic(auto)]
 
 mod blob;
+mod decimal;
+mod duration;
 mod message;
 mod method;
 mod moment;
@@ -10,6 +12,8 @@ mod sequence;
 mod text;
 
 pub use blob::Blob;
+pub use decimal::{number_of, split_digits};
+pub use duration::{DURATION_LIMIT, DurationErr, duration_ms};
 pub use message::{Field, Fields, LinkRequest, Names, Request, Requests, Response};
 pub use method::Method;
 pub use moment::{MOMENT_LIMIT, Moment};
