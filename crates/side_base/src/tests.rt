@@ -11,6 +11,10 @@ fn a_text_is_utf8(rt: HostRuntime) -> Result<(), Fail> {
         assert_eq!(rt; text.copy()?.bytes(), bytes);
         assert_eq!(rt; Text::from_str(alloc, text.as_str())?.bytes(), bytes);
     }
+    let mut key = Text::new(alloc);
+    key.push("a")?;
+    key.push("||k")?;
+    assert_eq!(rt; key.bytes(), b"a||k".as_slice());
     let broken: [(&[u8], usize); 6] = [
         (b"\x61\xff", 1),
         (b"\x80", 0),

@@ -1,4 +1,4 @@
-ghost use Rattle.std.specs.Prelude.{◌≡◌, ℕ, List, ◌↔◌, IfOk, IsErrOf, IsUtf8};
+ghost use Rattle.std.specs.Prelude.{◌≡◌, ℕ, List, [], ◌++◌, ◌↔◌, IfOk, OnOk, OnErr, IsErrOf, IsUtf8};
 ghost use Rattle.std.specs.String.{string_bytes};
 ghost use Rattle.side_base.specs.Text.{IsNotUtf8At};
 
@@ -41,6 +41,15 @@ impl Model for Text {
 }
 
 impl Text {
+    /// The empty text; takes no memory.
+    pub fn new(alloc: Global) -> Text
+        ensures { result ≡ [] }
+    {
+        Text {
+            string: String::new(alloc),
+        }
+    }
+
     /// A copy of `bytes` as a text.
     pub fn from_bytes(alloc: Global, bytes: &[u8]) -> Result<Text, TextErr>
         ensures text { IfOk result (λ text. (text ≡ bytes.now) × IsUtf8 bytes.now) }
@@ -61,6 +70,14 @@ impl Text {
         Ok(Text {
             string: String::from_str(alloc, text)?,
         })
+    }
+
+    /// Appends `piece`; without memory the text stays as it was.
+    pub fn push(&mut self, piece: &str) -> Result<(), NoMemory>
+        ensures ok { OnOk result (self.new ≡ self.old ++ piece.now) }
+        ensures err { OnErr result (self.new ≡ self.old) }
+    {
+        self.string.push_str(piece)
     }
 
     /// The bytes of the text.

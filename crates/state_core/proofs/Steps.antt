@@ -1,14 +1,12 @@
 -- What one more entry changes of what a history says.
-use Rattle.std.proofs.Common.{◌≡◌, ◌+◌, ◌<◌, ◌≤◌, ◌^◌, ◌++◌, ◌∷◌, [], ℕ, Bool, true, false, List, length, reverse, Option, Some, None, bytes_eq, option_map, refl, ap, sym, ◌∙◌, arith, cond}
-use Rattle.std.specs.List.{find, filter_map, enumerate_from, cons_option}
+use Rattle.std.proofs.Common.{◌≡◌, ◌+◌, ◌++◌, ◌∷◌, [], ℕ, Bool, true, false, List, length, reverse, Option, Some, None, bytes_eq, option_map, refl, ap, sym, ◌∙◌, arith, cond}
+use Rattle.std.specs.List.{find, enumerate_from, cons_option}
 use Rattle.std.specs.BTreeMap.{get_by_text}
 use Rattle.std.proofs.lemmas.List.{reverse-append, append-nil, length-append}
 use Rattle.std.proofs.lemmas.List.Elements.{filter_map-append}
-use Rattle.state_core.specs.Store.{Entry, Stands, HasSaved, IsSame, item_of, writes, row_in, row_of}
+use Rattle.state_core.specs.Store.{Entry, Stands, item_of, writes, row_in}
 use Rattle.state_core.specs.declared.command.Item.{Item}
-use Rattle.state_core.specs.declared.command.Cmd.{Cmd}
-use Rattle.state_core.specs.declared.command.Reply.{Reply}
-use Rattle.state_core.specs.declared.command.Cmd.TheVariants.{Get, Save}
+use Rattle.state_core.specs.declared.command.Cmd.TheVariants.{Save}
 use Rattle.state_core.specs.declared.command.Reply.TheVariants.{Saved}
 use Rattle.state_core.specs.declared.store.Row.{Row}
 use Rattle.state_core.specs.declared.store.Store.{Store}

@@ -1,4 +1,4 @@
-use Rattle.std.proofs.Common.{refl, arith}
+use Rattle.std.proofs.Common.{refl}
 use Rattle.state_core.proofs.Steps.{stands_unwritten, stands_written}
 use Rattle.state_core.proofs.store.Store.apply.Goals as goal
 

@@ -1,4 +1,4 @@
-use Rattle.std.proofs.Common.{arith, refl, ℕ, List}
+use Rattle.std.proofs.Common.{arith, refl}
 use Rattle.std.proofs.lemmas.Map.Text.{text_keys}
 use Rattle.state_core.proofs.store.Store.save.Goals as goal
 
