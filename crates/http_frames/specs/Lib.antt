@@ -1,0 +1,4 @@
+pub mod Closes
+pub mod Plain
+pub mod PlainReading
+pub mod Written
