@@ -7,7 +7,6 @@ mod duration;
 mod message;
 mod method;
 mod moment;
-mod no_memory;
 mod sequence;
 mod text;
 
@@ -17,9 +16,11 @@ pub use duration::{DURATION_LIMIT, DurationErr, duration_ms};
 pub use message::{Field, Fields, LinkRequest, Names, Request, Requests, Response};
 pub use method::Method;
 pub use moment::{MOMENT_LIMIT, Moment};
-pub use no_memory::NoMemory;
 pub use sequence::{Places, Sequence};
 pub use text::{Text, TextErr};
+
+/// The allocator had no room. A call that answers it has changed nothing, unless it says otherwise.
+pub use std::alloc::AllocError as NoMemory;
 
 #[cfg(test)]
 mod tests;

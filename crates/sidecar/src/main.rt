@@ -1,0 +1,37 @@
+//! The program: makes the real devices, runs the command that its words ask for, and ends with its status.
+#![tactic(auto)]
+
+use net_edge::{StdSink, StdSource};
+use side_base::{NoMemory, Text};
+use sidecar_cli::{Status, World, sidecar_main};
+use std::env;
+use std::io::ErrorKind;
+use std::process::ExitCode;
+use std::rt::Env;
+
+fn main(rt: HostRuntime) -> ExitCode {
+    let mut world = World {
+        source: StdSource::new(rt.stdin()),
+        sink: StdSink::new(rt.stdout()),
+        note: StdSink::new(rt.stderr()),
+    };
+    let status = match words(&rt) {
+        Ok(words) => sidecar_main(rt.alloc(), &words, &mut world),
+        Err(NoMemory) => Status::NoMemory.tell(&mut world.note),
+    };
+    ExitCode::from(status.code())
+}
+
+/// The words of the command line behind the program's name; none where one of them is not UTF-8, which no command is.
+fn words<R: Env + AllocGlobal>(rt: &R) -> Result<Vec<Text>, NoMemory> {
+    let mut words = Vec::new(rt.alloc());
+    let all = match env::args(rt) {
+        Ok(all) => all,
+        Err(error) if error.kind() == ErrorKind::OutOfMemory => return Err(NoMemory),
+        Err(_) => return Ok(words),
+    };
+    for word in all.skip(1) {
+        words.push(Text::from_str(rt.alloc(), word.as_str())?)?;
+    }
+    Ok(words)
+}

@@ -1,0 +1,41 @@
+ghost use Rattle.std.specs.Prelude.{◌≡◌, ◌<◌, ◌^◌, length, IfOk};
+ghost use Rattle.sidecar_cli.specs.Output.{output_of, closes};
+
+use crate::command::command;
+use crate::response::response;
+use http_frames::{PlainRequest, PlainRequests, push_response};
+use side_base::{Blob, NoMemory, Text};
+use state_core::Store;
+use std::alloc::Global;
+
+/// The bytes of the responses to requests over a new store, up to the first request that closes the connection.
+pub(crate) fn answers(
+    alloc: Global,
+    app: &Text,
+    mut requests: PlainRequests,
+) -> Result<Blob, NoMemory>
+    requires { length requests < 2 ^ 62 }
+    ensures { IfOk result (λ out. out ≡ output_of app.now requests) }
+{
+    let mut store = Store::empty(alloc);
+    let mut out = Blob::new(alloc);
+    while let Some(request) = requests.take_first() {
+        let close = closes(&request);
+        let cmd = command(alloc, app, request)?;
+        let response = response(alloc, store.apply(&cmd))?;
+        push_response(&mut out, &response, false, close)?;
+        if close {
+            return Ok(out);
+        }
+    }
+    Ok(out)
+}
+
+fn closes(request: &PlainRequest) -> bool
+    ensures { result ≡ closes request.now }
+{
+    match request {
+        PlainRequest::Get { close, .. } => *close,
+        PlainRequest::Save { .. } => false,
+    }
+}
