@@ -1,0 +1,15 @@
+mod Ends
+pub mod Growing
+pub mod Histories
+mod Joins
+mod Known
+mod Leaves
+pub mod Lists
+mod Meets
+mod Moved
+mod Ran
+mod Rested
+mod Splits
+mod Steps
+mod Told
+mod Turns

@@ -1,0 +1,5 @@
+pub mod Growth
+pub mod History
+pub mod Play
+pub mod Rule
+pub mod Sitting

@@ -1,0 +1,159 @@
+//! One call, step by step: a glance at the tickets, a ticket, the wait, the step of the object, and the next in turn.
+ghost use Rattle.std.specs.Prelude.{◌≡◌, ℕ, ◌+◌, ◌^◌, ◌<◌, ◌≤◌, ◌↔◌, [], ◌∷◌, ◌++◌, length, Some, IfOk, IfErr, IsErr};
+ghost use Rattle.turn_cell.specs.declared.view.Stage.TheVariants.{Idle, Waiting, InTurn, Decided};
+ghost use Rattle.turn_cell.specs.History.{IsLegal};
+ghost use Rattle.turn_cell.specs.Sitting.{Extends, Exhausts, IsAlone, entry_by};
+ghost use Rattle.turn_cell.specs.Play.{Hit, IsTokenOf, IsFree, IsWaiting, IsServed, IsSoundView, StepMade, sitting};
+
+use crate::error::Exhausted;
+use crate::object::Object;
+use crate::table::{
+    Decide, Decision, Draw, Glance, Leave, Look, OBJECT, Pass, SERVING, TICKET, Token, Words,
+};
+use std::hint::spin_loop;
+use std::marker::Brand;
+use std::sync::Wait;
+use std::thread::yield_now;
+
+/// The most entries of a history.
+const MOST_ENTRIES: u64 = 1 << 62;
+
+// How often a seat that waits looks before it yields the processor, and how often before it sleeps.
+const LOOKS: u32 = 32;
+
+const YIELDS: u32 = 40;
+
+/// The ticket of a free seat, unless the cell is exhausted.
+fn draw<O: Object>(table: &Words<O>, token: &mut Token<O>) -> Result<u64, Exhausted>
+    requires table { IsTokenOf table.now.table_id table.now.key.value token.old }
+    requires free { IsFree token.old }
+    ensures table { token.new.table_id ≡ token.old.table_id }
+    ensures ok { IfOk result (λ n. token.new.me ≡ (record token.old.me.0 { stage = Waiting n }, [])) }
+    ensures err { IfErr result (λ e. Exhausts O.Object table.now.key.value (sitting token.old) e.count (sitting token.new) × IsFree token.new) }
+    ensures exact { IfErr result (λ _. IsAlone (sitting token.old) → length token.old.me.0.seen ≡ 2 ^ 62) }
+{
+    let count = table.load::<Glance>(token, TICKET);
+    if count >= MOST_ENTRIES {
+        return Err(Exhausted { count });
+    }
+    Ok(table.fetch_add::<Draw>(token, TICKET, 1))
+}
+
+// What a seat does between two looks: it spins, then yields, then sleeps until the word moves.
+fn rest<O: Object, R: Wait>(rt: &R, table: &Words<O>, serving: u64, looks: u32)
+    requires { table.now.table_id.words ≡ 2 }
+{
+    if looks < LOOKS {
+        spin_loop();
+    } else if looks < YIELDS {
+        yield_now();
+    } else {
+        table.park(rt, SERVING, (serving & 0xffff_ffff) as u32);
+    }
+}
+
+/// Waits until the ticket is served.
+fn wait<O: Object, R: Wait>(rt: &R, table: &Words<O>, token: &mut Token<O>, number: u64)
+    requires table { IsTokenOf table.now.table_id table.now.key.value token.old }
+    requires waits { IsWaiting number token.old }
+    ensures table { token.new.table_id ≡ token.old.table_id }
+    ensures hit { Hit O.Object table.now.key.value token.old.me number token.new.me }
+{
+    let mut looks: u32 = 0;
+    for _ in rt.forever() {
+        let serving = table.load::<Look>(token, SERVING);
+        if serving == number {
+            return;
+        }
+        rest(rt, table, serving, looks);
+        looks = looks.saturating_add(1);
+    }
+    unreachable!()
+}
+
+/// Wakes those who sleep, where somebody waits for the ticket after `number`.
+fn hand_on<O: Object>(table: &Words<O>, number: u64)
+    requires { table.now.table_id.words ≡ 2 }
+{
+    if table.peek(TICKET) > number.saturating_add(1) {
+        table.wake_all(SERVING);
+    }
+}
+
+/// Decides the entry. It is in the history once the seat leaves.
+fn decide<O: Object, W: Decision<O::Cmd, O::Reply>>(
+    table: &Words<O>,
+    token: &mut Token<O>,
+    number: u64,
+    object: &O,
+    cmd: &O::Cmd,
+    reply: &O::Reply,
+)
+    requires table { IsTokenOf table.now.table_id table.now.key.value token.old }
+    requires turn { (token.old.me.0.stage ≡ InTurn number) × (number < 2 ^ 62) }
+    requires legal { IsLegal O.Object table.now.key.value (token.old.me.0.seen ++ entry_by (sitting token.old) cmd.now reply.now (O.mark object.now) ∷ []) }
+    requires entry { W.entry ≡ Some (entry_by (sitting token.old) cmd.now reply.now (O.mark object.now)) }
+    ensures table { token.new.table_id ≡ token.old.table_id }
+    ensures decided { token.new.me ≡ (record token.old.me.0 { stage = Decided number (entry_by (sitting token.old) cmd.now reply.now (O.mark object.now)) }, token.old.me.1) }
+{
+    let _ = number;
+    let _ = object;
+    let _ = cmd;
+    let _ = reply;
+    table.fetch_or::<Decide<W>>(token, SERVING, 0);
+}
+
+/// Makes the step of the ticket that is served.
+fn run<O: Object>(table: &Words<O>, token: &mut Token<O>, number: u64, cmd: &O::Cmd) -> O::Reply
+    requires table { IsTokenOf table.now.table_id table.now.key.value token.old }
+    requires served { IsServed O.Object table.now.key.value number token.old }
+    requires room { number < 2 ^ 62 }
+    requires takes { O.takes table.now.key.value cmd.now }
+    ensures table { token.new.table_id ≡ token.old.table_id }
+    ensures step { StepMade O.Object table.now.key.value token.old.me.0 cmd.now result token.new.me }
+{
+    let mut object = table.exchange(token, OBJECT, None).unwrap();
+    let reply = object.apply(cmd);
+    decide::<O, Brand>(table, token, number, &object, cmd, &reply);
+    table.exchange(token, OBJECT, Some(object));
+    table.fetch_add::<Leave>(token, SERVING, 1);
+    hand_on(table, number);
+    reply
+}
+
+/// Leaves a turn past the last entry.
+fn pass<O: Object>(table: &Words<O>, token: &mut Token<O>, number: u64)
+    requires table { IsTokenOf table.now.table_id table.now.key.value token.old }
+    requires served { IsServed O.Object table.now.key.value number token.old }
+    requires late { 2 ^ 62 ≤ number }
+    ensures table { token.new.table_id ≡ token.old.table_id }
+    ensures free { token.new.me ≡ (record token.old.me.0 { count = Some number; stage = Idle }, []) }
+    ensures sound { IsSoundView O.Object table.now.key.value token.new.me.0 }
+{
+    table.fetch_add::<Pass>(token, SERVING, 1);
+    hand_on(table, number);
+}
+
+/// One call of a free seat.
+pub(crate) fn take_turn<O: Object, R: Wait>(
+    rt: &R,
+    table: &Words<O>,
+    token: &mut Token<O>,
+    cmd: &O::Cmd,
+) -> Result<O::Reply, Exhausted>
+    requires table { IsTokenOf table.now.table_id table.now.key.value token.old }
+    requires free { IsFree token.old }
+    requires takes { O.takes table.now.key.value cmd.now }
+    ensures free { IsFree token.new }
+    ensures ok { IfOk result (λ reply. Extends O.Object table.now.key.value (sitting token.old) cmd.now reply (sitting token.new)) }
+    ensures err { IfErr result (λ e. Exhausts O.Object table.now.key.value (sitting token.old) e.count (sitting token.new)) }
+    ensures exact { IsAlone (sitting token.old) → (IsErr result ↔ (length token.old.me.0.seen ≡ 2 ^ 62)) }
+{
+    let number = draw(table, token)?;
+    wait(rt, table, token, number);
+    if number >= MOST_ENTRIES {
+        pass(table, token, number);
+        return Err(Exhausted { count: number });
+    }
+    Ok(run(table, token, number, cmd))
+}
