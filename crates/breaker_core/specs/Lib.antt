@@ -1,0 +1,4 @@
+pub mod Breaker
+pub mod Course
+pub mod Laws
+pub mod Present
