@@ -1,0 +1,246 @@
+-- The bytes that the tables of the grammar tell apart.
+use Rattle.std.proofs.Common.{◌≡◌, ◌⊎◌, inl, inr, ℕ, Bool, true, false, ◌||◌, ◌&&◌, cond, eqb, List, [], ◌∷◌, drop, Option, Some, None, refl, sym, ap, subst, ◌∙◌}
+use Rattle.std.proofs.lemmas.Bool.{ne_eqb}
+use Rattle.std.proofs.lemmas.Bool.Decides.{eqb_tells}
+use Rattle.json_text.specs.declared.kind.Kind.{Kind}
+use Rattle.json_text.specs.declared.kind.Kind.TheVariants as kinds
+use Rattle.json_text.specs.declared.spot.Span.{Span}
+use Rattle.json_text.specs.declared.lexeme.Lexeme.{Lexeme}
+use Rattle.json_text.specs.declared.lexeme.Lexeme.TheVariants.{Minus as minus, LeadingZero as leading_zero, Integer as integer, Point as point, Decimals as decimals, Exponent as exponent, ExponentSign as exponent_sign, ExponentDigits as exponent_digits, Letters as letters, Plain as plain, Tail as tail, Escape as escape, Digits as digits, Closed as closed}
+use Rattle.json_text.specs.Lexeme.{begins, next, ends, literal, next_letter, ends_after_letters}
+use Rattle.json_text.specs.declared.part.Bracket.{Bracket}
+use Rattle.json_text.specs.declared.part.Bracket.TheVariants.{List as list, Map as map}
+use Rattle.json_text.specs.declared.part.Part.{Part}
+use Rattle.json_text.specs.declared.part.Part.TheVariants.{Start as start, Next as next_part, Named as named, Member as member, Rest as rest}
+use Rattle.json_text.specs.Grammar.{is_blank, opens, closes, turns, takes_value, takes_name}
+
+pub none_some : {A : Type 0} (x : A) (B : Type 0) → None ≡ Some x → B
+none_some x B h = let bad : ⊥ = cc in absurd bad
+
+pub some_none : {A : Type 0} (x : A) (B : Type 0) → Some x ≡ None → B
+some_none x B h = let bad : ⊥ = cc in absurd bad
+
+pub false_true : (B : Type 0) → false ≡ true → B
+false_true B h = let bad : ⊥ = cc in absurd bad
+
+-- a byte at which f gives something isn't one at which it gives nothing
+pub not_byte : {A : Type 0} (f : ℕ → Option A) (byte v : ℕ) (x : A) → f v ≡ None → f byte ≡ Some x → eqb byte v ≡ false
+not_byte f byte v x none some = ne_eqb byte v (λ e. none_some x ⊥ (sym none ∙ sym (ap f e) ∙ some))
+
+pub is_it : (byte v : ℕ) → eqb byte v ≡ true → byte ≡ v
+is_it byte v h = elim (eqb_tells byte v) [ inl is ↦ is.1 | inr other ↦ false_true (byte ≡ v) (sym other.0 ∙ h) ]
+
+pub or_yes : (a b : Bool) → (a || b) ≡ true → (a ≡ true) ⊎ (b ≡ true)
+or_yes true b h = inl refl
+or_yes false b h = inr h
+
+pub and_yes : (a b : Bool) → (a && b) ≡ true → (a ≡ true) × (b ≡ true)
+and_yes true b h = (refl, h)
+and_yes false b h = false_true ((false ≡ true) × (b ≡ true)) h
+
+on_byte_is : (wanted byte : ℕ) (here q : Part) → cond (eqb byte wanted) (Some here) None ≡ Some q → byte ≡ wanted
+on_byte_is wanted byte here q h = elim (eqb_tells byte wanted) [ inl is ↦ is.1 | inr other ↦ none_some q (byte ≡ wanted) (let no : eqb byte wanted ≡ false = other.0 in rw no at h) ]
+
+pub byte_closes : (level : Option Bracket) (here : Part) (byte : ℕ) → closes level here byte ≡ true → (byte ≡ 93) ⊎ (byte ≡ 125)
+unfolding closes
+byte_closes None here byte h = false_true _ h
+byte_closes (Some list) start byte h = inl (is_it byte 93 h)
+byte_closes (Some list) rest byte h = inl (is_it byte 93 h)
+byte_closes (Some list) next_part byte h = false_true _ h
+byte_closes (Some list) (named name) byte h = false_true _ h
+byte_closes (Some list) (member name) byte h = false_true _ h
+byte_closes (Some map) start byte h = inr (is_it byte 125 h)
+byte_closes (Some map) rest byte h = inr (is_it byte 125 h)
+byte_closes (Some map) next_part byte h = false_true _ h
+byte_closes (Some map) (named name) byte h = false_true _ h
+byte_closes (Some map) (member name) byte h = false_true _ h
+
+pub closes_not_blank : (level : Option Bracket) (here : Part) (byte : ℕ) → closes level here byte ≡ true → is_blank byte ≡ false
+closes_not_blank level here byte h = elim (byte_closes level here byte h) [ inl e ↦ ap is_blank e | inr e ↦ ap is_blank e ]
+
+pub closes_level : (level : Option Bracket) (here : Part) (byte : ℕ) → closes level here byte ≡ true → (bracket : Bracket) × (level ≡ Some bracket)
+unfolding closes
+closes_level None here byte h = false_true _ h
+closes_level (Some bracket) here byte h = (bracket, refl)
+
+-- what a comma or a colon is not
+pub turn_clear : (level : Option Bracket) (here q : Part) (byte : ℕ) → turns level here byte ≡ Some q → ((byte ≡ 44) ⊎ (byte ≡ 58)) × (is_blank byte ≡ false) × (closes level here byte ≡ false)
+unfolding turns closes
+turn_clear None here q byte h = none_some q _ h
+turn_clear (Some list) rest q byte h = let e = on_byte_is 44 byte next_part q h in (inl e, ap is_blank e, ap (λ b. eqb b 93) e)
+turn_clear (Some list) start q byte h = none_some q _ h
+turn_clear (Some list) next_part q byte h = none_some q _ h
+turn_clear (Some list) (named name) q byte h = none_some q _ h
+turn_clear (Some list) (member name) q byte h = none_some q _ h
+turn_clear (Some map) rest q byte h = let e = on_byte_is 44 byte next_part q h in (inl e, ap is_blank e, ap (λ b. eqb b 125) e)
+turn_clear (Some map) start q byte h = none_some q _ h
+turn_clear (Some map) next_part q byte h = none_some q _ h
+turn_clear (Some map) (named name) q byte h = let e = on_byte_is 58 byte (member name) q h in (inr e, ap is_blank e, refl)
+turn_clear (Some map) (member name) q byte h = none_some q _ h
+
+value_turns : (level : Option Bracket) (here : Part) (byte : ℕ) (n : Option Span) → takes_value level here ≡ Some n → turns level here byte ≡ None
+unfolding turns takes_value
+value_turns None here byte n h = refl
+value_turns (Some list) rest byte n h = none_some n _ h
+value_turns (Some list) start byte n h = refl
+value_turns (Some list) next_part byte n h = refl
+value_turns (Some list) (named name) byte n h = refl
+value_turns (Some list) (member name) byte n h = refl
+value_turns (Some map) rest byte n h = none_some n _ h
+value_turns (Some map) start byte n h = none_some n _ h
+value_turns (Some map) next_part byte n h = none_some n _ h
+value_turns (Some map) (named name) byte n h = none_some n _ h
+value_turns (Some map) (member name) byte n h = refl
+
+value_closes : (level : Option Bracket) (here : Part) (byte : ℕ) (n : Option Span) → takes_value level here ≡ Some n → eqb byte 93 ≡ false → closes level here byte ≡ false
+unfolding closes takes_value
+value_closes None here byte n h e = refl
+value_closes (Some list) rest byte n h e = none_some n _ h
+value_closes (Some list) start byte n h e = e
+value_closes (Some list) next_part byte n h e = refl
+value_closes (Some list) (named name) byte n h e = refl
+value_closes (Some list) (member name) byte n h e = refl
+value_closes (Some map) rest byte n h e = none_some n _ h
+value_closes (Some map) start byte n h e = none_some n _ h
+value_closes (Some map) next_part byte n h e = none_some n _ h
+value_closes (Some map) (named name) byte n h e = none_some n _ h
+value_closes (Some map) (member name) byte n h e = refl
+
+no_blank : (byte : ℕ) → eqb byte 32 ≡ false → eqb byte 9 ≡ false → eqb byte 10 ≡ false → eqb byte 13 ≡ false → is_blank byte ≡ false
+no_blank byte a b c d = rw (a, b, c, d) refl
+
+-- what a byte is not where it begins a word, a list or a map, or a name
+pub record Clear (level : Option Bracket) (here : Part) (byte : ℕ) : Type 0 where
+  pub not_blank : is_blank byte ≡ false
+  pub no_close : closes level here byte ≡ false
+  pub no_turn : turns level here byte ≡ None
+
+pub word_clear : (level : Option Bracket) (here : Part) (byte : ℕ) (n : Option Span) (first : Lexeme) → takes_value level here ≡ Some n → begins byte ≡ Some first → Clear level here byte × (opens byte ≡ None)
+unfolding begins
+word_clear level here byte n first takes h =
+    let square : eqb byte 91 ≡ false = not_byte begins byte 91 first refl h in
+    let brace : eqb byte 123 ≡ false = not_byte begins byte 123 first refl h in (
+      record {
+        not_blank = no_blank byte (not_byte begins byte 32 first refl h) (not_byte begins byte 9 first refl h) (not_byte begins byte 10 first refl h) (not_byte begins byte 13 first refl h);
+        no_close = value_closes level here byte n takes (not_byte begins byte 93 first refl h);
+        no_turn = value_turns level here byte n takes;
+      },
+      rw (square, brace) refl,
+    )
+
+pub nested_clear : (level : Option Bracket) (here : Part) (byte : ℕ) (n : Option Span) (bracket : Bracket) → takes_value level here ≡ Some n → opens byte ≡ Some bracket → Clear level here byte
+nested_clear level here byte n bracket takes h = record {
+  not_blank = no_blank byte (not_byte opens byte 32 bracket refl h) (not_byte opens byte 9 bracket refl h) (not_byte opens byte 10 bracket refl h) (not_byte opens byte 13 bracket refl h);
+  no_close = value_closes level here byte n takes (not_byte opens byte 93 bracket refl h);
+  no_turn = value_turns level here byte n takes;
+}
+
+pub name_clear : (level : Option Bracket) (here : Part) (byte : ℕ) → takes_name level here ≡ true → byte ≡ 34 → Clear level here byte × (takes_value level here ≡ None)
+unfolding takes_name takes_value closes turns
+name_clear None here byte takes e = false_true _ takes
+name_clear (Some list) here byte takes e = false_true _ takes
+name_clear (Some map) start byte takes e = (record { not_blank = ap is_blank e; no_close = ap (λ b. eqb b 125) e; no_turn = refl }, refl)
+name_clear (Some map) next_part byte takes e = (record { not_blank = ap is_blank e; no_close = refl; no_turn = refl }, refl)
+name_clear (Some map) rest byte takes e = false_true _ takes
+name_clear (Some map) (named name) byte takes e = false_true _ takes
+name_clear (Some map) (member name) byte takes e = false_true _ takes
+
+-- a byte that doesn't go on with a number
+pub record NotNumeric (byte : ℕ) : Type 0 where
+  pub zero : next leading_zero byte ≡ None
+  pub whole : next integer byte ≡ None
+  pub fraction : next decimals byte ≡ None
+  pub power : next exponent_digits byte ≡ None
+
+not_numeric : (byte v : ℕ) → NotNumeric v → byte ≡ v → NotNumeric byte
+not_numeric byte v h e = subst NotNumeric (sym e) h
+
+at_32 : NotNumeric 32
+unfolding next
+at_32 = record { zero = refl; whole = refl; fraction = refl; power = refl }
+
+at_9 : NotNumeric 9
+unfolding next
+at_9 = record { zero = refl; whole = refl; fraction = refl; power = refl }
+
+at_10 : NotNumeric 10
+unfolding next
+at_10 = record { zero = refl; whole = refl; fraction = refl; power = refl }
+
+at_13 : NotNumeric 13
+unfolding next
+at_13 = record { zero = refl; whole = refl; fraction = refl; power = refl }
+
+at_44 : NotNumeric 44
+unfolding next
+at_44 = record { zero = refl; whole = refl; fraction = refl; power = refl }
+
+at_58 : NotNumeric 58
+unfolding next
+at_58 = record { zero = refl; whole = refl; fraction = refl; power = refl }
+
+at_93 : NotNumeric 93
+unfolding next
+at_93 = record { zero = refl; whole = refl; fraction = refl; power = refl }
+
+at_125 : NotNumeric 125
+unfolding next
+at_125 = record { zero = refl; whole = refl; fraction = refl; power = refl }
+
+pub blank_ends : (byte : ℕ) → is_blank byte ≡ true → NotNumeric byte
+blank_ends byte h = elim (or_yes (eqb byte 32 || eqb byte 9 || eqb byte 10) (eqb byte 13) h) [
+  | inl a ↦ elim (or_yes (eqb byte 32 || eqb byte 9) (eqb byte 10) a) [
+    | inl b ↦ elim (or_yes (eqb byte 32) (eqb byte 9) b) [ inl c ↦ not_numeric byte 32 at_32 (is_it byte 32 c) | inr c ↦ not_numeric byte 9 at_9 (is_it byte 9 c) ]
+    | inr b ↦ not_numeric byte 10 at_10 (is_it byte 10 b)
+  ]
+  | inr a ↦ not_numeric byte 13 at_13 (is_it byte 13 a)
+]
+
+pub close_ends : (level : Option Bracket) (here : Part) (byte : ℕ) → closes level here byte ≡ true → NotNumeric byte
+close_ends level here byte h = elim (byte_closes level here byte h) [ inl e ↦ not_numeric byte 93 at_93 e | inr e ↦ not_numeric byte 125 at_125 e ]
+
+pub turn_ends : (level : Option Bracket) (here q : Part) (byte : ℕ) → turns level here byte ≡ Some q → NotNumeric byte
+turn_ends level here q byte h = elim ((turn_clear level here q byte h).0) [ inl e ↦ not_numeric byte 44 at_44 e | inr e ↦ not_numeric byte 58 at_58 e ]
+
+letters_over : (kind : Kind) (read : ℕ) (others : List ℕ) (byte : ℕ) (k : Kind) → ends_after_letters kind others ≡ Some k → next_letter kind read others byte ≡ None
+letters_over kind read [] byte k e = refl
+letters_over kind read (letter ∷ others) byte k e = none_some k _ e
+
+-- a word that may end doesn't go on with such a byte
+pub word_over : (q : Lexeme) (k : Kind) (byte : ℕ) → NotNumeric byte → ends q ≡ Some k → next q byte ≡ None
+unfolding next ends
+word_over minus k byte h e = none_some k _ e
+word_over leading_zero k byte h e = h.zero
+word_over integer k byte h e = h.whole
+word_over point k byte h e = none_some k _ e
+word_over decimals k byte h e = h.fraction
+word_over exponent k byte h e = none_some k _ e
+word_over exponent_sign k byte h e = none_some k _ e
+word_over exponent_digits k byte h e = h.power
+word_over (letters kind read) k byte h e = letters_over kind read (drop read (literal kind)) byte k e
+word_over (plain high) k byte h e = none_some k _ e
+word_over (tail second more) k byte h e = none_some k _ e
+word_over escape k byte h e = none_some k _ e
+word_over (digits more unit) k byte h e = none_some k _ e
+word_over closed k byte h e = refl
+
+number_no_text : (B : Type 0) → Some kinds.Number ≡ Some kinds.Text → B
+number_no_text B h = let bad : ⊥ = cc in absurd bad
+
+-- a string that has ended doesn't go on at all
+pub text_over : (q : Lexeme) (byte : ℕ) → ends q ≡ Some kinds.Text → next q byte ≡ None
+unfolding next ends
+text_over minus byte e = none_some kinds.Text _ e
+text_over leading_zero byte e = number_no_text _ e
+text_over integer byte e = number_no_text _ e
+text_over point byte e = none_some kinds.Text _ e
+text_over decimals byte e = number_no_text _ e
+text_over exponent byte e = none_some kinds.Text _ e
+text_over exponent_sign byte e = none_some kinds.Text _ e
+text_over exponent_digits byte e = number_no_text _ e
+text_over (letters kind read) byte e = letters_over kind read (drop read (literal kind)) byte kinds.Text e
+text_over (plain high) byte e = none_some kinds.Text _ e
+text_over (tail second more) byte e = none_some kinds.Text _ e
+text_over escape byte e = none_some kinds.Text _ e
+text_over (digits more unit) byte e = none_some kinds.Text _ e
+text_over closed byte e = refl

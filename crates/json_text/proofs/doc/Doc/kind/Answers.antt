@@ -1,0 +1,6 @@
+use Rattle.std.proofs.Common.{ap}
+use Rattle.json_text.proofs.Walks.{own_spot, for_first}
+use Rattle.json_text.proofs.doc.Doc.kind.Goals as goal
+
+pub returns : goal.returns
+returns c values h = for_first values _ _ (own_spot c.args.self.now c.args.n.number c.entry.result.now values c.entry.ensures h) (λ s children later e. ap (λ x. x.kind) e)

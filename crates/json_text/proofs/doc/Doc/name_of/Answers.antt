@@ -1,0 +1,17 @@
+use Rattle.std.proofs.Common.{◌≡◌, sym, subst, ap, ◌∙◌}
+use Rattle.std.specs.Prelude.{IfOk}
+use Rattle.std.specs.Str.{IsUtf8}
+use Rattle.std.proofs.lemmas.Str.{IsUtf8-from_is_utf8}
+use Rattle.json_text.specs.Unescape.{name_shown}
+use Rattle.json_text.specs.Doc.{bytes_read}
+use Rattle.json_text.proofs.Walks.{own_spot, for_first}
+use Rattle.json_text.proofs.doc.Doc.name_of.Goals as goal
+
+pub text_from-requires : goal.text_from-requires
+text_from-requires c =
+    subst IsUtf8 (sym (c.deref.ensures.value ∙ c.in-Ok.ensures ∙ ap (λ e. name_shown (bytes_read c.args.self.now) e.spot) c.entry.ensures))
+    (IsUtf8-from_is_utf8 _ (c.args.self.now.readable c.args.n.number c.entry.result.now c.requires).1)
+
+pub returns-in-Ok : goal.returns-in-Ok
+returns-in-Ok c values h = for_first values _ _ (own_spot c.args.self.now c.args.n.number c.entry.result.now values c.entry.ensures h)
+    (λ s children later e. subst (λ bytes. IfOk c.text_from.result (λ text. text ≡ bytes)) (c.deref.ensures.value ∙ c.in-Ok.ensures ∙ ap (name_shown (bytes_read c.args.self.now)) e) c.text_from.ensures)

@@ -1,0 +1,15 @@
+pub mod Forest
+pub mod Lexeme
+pub mod Grammar
+pub mod Progress
+pub mod Faults
+pub mod Scan
+pub mod Reading
+pub mod Between
+pub mod Reader
+pub mod Unescape
+pub mod Readable
+pub mod Doc
+pub mod Piece
+pub mod Causes
+pub mod Spelling

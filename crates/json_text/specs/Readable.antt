@@ -1,0 +1,14 @@
+-- Texts in UTF-8.
+use Rattle.std.specs.Prelude.{◌≡◌, ℕ, ◌<◌, true, List, length, slice_index_or}
+use Rattle.std.specs.Str.{is_utf8}
+use Rattle.json_text.specs.declared.spot.Spot.{Spot}
+use Rattle.json_text.specs.declared.spot.Entry.{Entry}
+use Rattle.json_text.specs.Unescape.{text_shown, name_shown}
+
+-- the text of a value and its name are UTF-8
+abbrev pub IsReadable : List ℕ → Spot → Type 0
+IsReadable bytes spot = (is_utf8 (text_shown bytes spot) ≡ true) × (is_utf8 (name_shown bytes spot) ≡ true)
+
+-- those of all values are
+abbrev pub TextsAreReadable : List ℕ → List Entry → Type 0
+TextsAreReadable bytes nodes = (k : ℕ) (entry : Entry) → k < length nodes → IsReadable bytes (slice_index_or nodes k entry).spot

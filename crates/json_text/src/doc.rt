@@ -1,0 +1,209 @@
+ghost use Rattle.std.specs.Prelude.{◌≡◌, ◌≢◌, ◌<◌, ◌≤◌, length, slice_index_or, MatchOption, IfSome, IfNone, IfOk, IsTrue, ◌↔◌, slice_get, Some, if◌then◌else◌};
+ghost use Rattle.json_text.specs.Forest.{empty};
+ghost use Rattle.json_text.specs.Unescape.{HasText, HasName, text_shown, name_shown};
+ghost use Rattle.json_text.specs.Readable.{TextsAreReadable};
+ghost use Rattle.std.specs.Str.{IsUtf8};
+
+use crate::kind::Kind;
+use crate::shown::{has_name, has_text, name_bytes, text_byte_of, text_bytes};
+use crate::spot::Entry;
+use side_base::{NoMemory, Text, TextErr};
+use std::alloc::{AllocError, Global};
+
+/// The number of a value of a document.
+#[derive(Clone, Copy, Debug, PartialEq, Eq)]
+pub struct Node {
+    number: usize,
+}
+
+/// A JSON text that has been read: its bytes, and its values as spans of them.
+#[derive(Drop)]
+pub struct Doc<'a> {
+    pub(crate) bytes: &'a [u8],
+    pub(crate) nodes: Vec<Entry>,
+    ghost some: { 0 < length nodes.items },
+    ghost readable: { TextsAreReadable bytes.now nodes.items },
+}
+
+impl<'a> Doc<'a> {
+    ghost use Rattle.json_text.specs.Doc.{bytes_read, values_kept, IsNode, IsRoot, IsDepthAt, IsAfter, StandsAt, OfNode, IsLastNamed};
+
+    /// The value that the text is.
+    pub fn root(&self) -> Node
+        ensures first { IsRoot result }
+        ensures node { IsNode self.now result }
+    {
+        let _nodes = &self.nodes;
+        Node { number: 0 }
+    }
+
+    /// The bytes that were read.
+    pub fn bytes(&self) -> &[u8]
+        ensures { result.now ≡ bytes_read self.now }
+    {
+        self.bytes
+    }
+
+    // The value's entry.
+    pub(crate) fn entry(&self, n: Node) -> &Entry
+        requires { IsNode self.now n }
+        ensures { result.now ≡ slice_index_or (values_kept self.now) n.number result.now }
+    {
+        &self.nodes[n.number]
+    }
+
+    // How many lists and maps the value of this number stands in, if there is one.
+    fn depth_at(&self, number: usize) -> Option<usize>
+        ensures none { IfNone result (length (values_kept self.now) ≤ number) }
+        ensures some { IfSome result (IsDepthAt self.now number) }
+    {
+        if number < self.nodes.len() {
+            Some(self.nodes[number].depth)
+        } else {
+            None
+        }
+    }
+
+    /// What the value is.
+    pub fn kind(&self, n: Node) -> Kind
+        requires { IsNode self.now n }
+        ensures { OfNode self.now n (λ spot children later. result ≡ spot.kind) }
+    {
+        self.entry(n).spot.kind
+    }
+
+    /// The place where the value begins, and the place after its end.
+    pub fn span(&self, n: Node) -> (usize, usize)
+        requires { IsNode self.now n }
+        ensures start { OfNode self.now n (λ spot children later. result.0 ≡ spot.span.start) }
+        ensures end { OfNode self.now n (λ spot children later. result.1 ≡ spot.span.end) }
+    {
+        let span = self.entry(n).spot.span;
+        (span.start, span.end)
+    }
+
+    /// The first item of a list, or the value of the first member of a map; `None` exactly where there is none.
+    pub fn first(&self, n: Node) -> Option<Node>
+        requires { IsNode self.now n }
+        ensures node { IfSome result (IsNode self.now) }
+        ensures first { OfNode self.now n (λ spot children later. MatchOption result (children ≡ empty) (λ m. StandsAt self.now m children × (children ≢ empty))) }
+    {
+        let own = *self.entry(n);
+        let number = n.number + 1;
+        match self.depth_at(number) {
+            Some(depth) => {
+                if depth > own.depth {
+                    Some(Node { number })
+                } else {
+                    None
+                }
+            }
+            None => None,
+        }
+    }
+
+    /// The item or the member's value that follows in the same list or map; `None` exactly where there is none.
+    pub fn next(&self, n: Node) -> Option<Node>
+        requires { IsNode self.now n }
+        ensures node { IfSome result (IsNode self.now) }
+        ensures after { IfSome result (IsAfter n) }
+        ensures next { OfNode self.now n (λ spot children later. MatchOption result (later ≡ empty) (λ m. StandsAt self.now m later × (later ≢ empty))) }
+    {
+        let own = *self.entry(n);
+        let number = n.number.saturating_add(own.size.max(1));
+        match self.depth_at(number) {
+            Some(depth) => {
+                if depth == own.depth {
+                    Some(Node { number })
+                } else {
+                    None
+                }
+            }
+            None => None,
+        }
+    }
+
+    /// The value of the last member of this name, compared as texts; `None` exactly where the value is no map with such
+    /// a member.
+    pub fn member(&self, n: Node, name: &[u8]) -> Option<Node>
+        requires { IsNode self.now n }
+        ensures node { IfSome result (IsNode self.now) }
+        ensures last { OfNode self.now n (λ spot children later. IsLastNamed self.now name.now children result) }
+    {
+        let mut found = None;
+        let mut here = self.first(n);
+        loop {
+            match here {
+                Some(node) => {
+                    found = chosen(self.name_is(node, name), node, found);
+                    here = self.next(node);
+                }
+                None => return found,
+            }
+        }
+    }
+
+    /// Whether the value is this text.
+    pub fn text_is(&self, n: Node, text: &[u8]) -> bool
+        requires { IsNode self.now n }
+        ensures { OfNode self.now n (λ spot children later. IsTrue result ↔ HasText (bytes_read self.now) spot text.now) }
+    {
+        has_text(self.bytes, self.entry(n).spot, text)
+    }
+
+    /// Whether the value is a member of this name.
+    pub fn name_is(&self, n: Node, name: &[u8]) -> bool
+        requires { IsNode self.now n }
+        ensures { OfNode self.now n (λ spot children later. IsTrue result ↔ HasName (bytes_read self.now) spot name.now) }
+    {
+        has_name(self.bytes, self.entry(n).spot, name)
+    }
+
+    /// The byte of number `i`, from 0, of the text that the value is; `None` exactly where it has no such byte.
+    pub fn text_byte(&self, n: Node, i: usize) -> Option<u8>
+        requires { IsNode self.now n }
+        ensures { OfNode self.now n (λ spot children later. result ≡ slice_get (text_shown (bytes_read self.now) spot) i) }
+    {
+        text_byte_of(self.bytes, self.entry(n).spot, i)
+    }
+
+    /// A copy of the text that the value is; an empty one for another value.
+    pub fn text_of(&self, alloc: Global, n: Node) -> Result<Text, NoMemory>
+        requires { IsNode self.now n }
+        ensures { OfNode self.now n (λ spot children later. IfOk result (λ text. text ≡ text_shown (bytes_read self.now) spot)) }
+    {
+        match text_bytes(alloc, self.bytes, self.entry(n).spot) {
+            Ok(bytes) => text_from(alloc, &bytes),
+            Err(error) => Err(error),
+        }
+    }
+
+    /// A copy of the name of a member; an empty one for another value.
+    pub fn name_of(&self, alloc: Global, n: Node) -> Result<Text, NoMemory>
+        requires { IsNode self.now n }
+        ensures { OfNode self.now n (λ spot children later. IfOk result (λ text. text ≡ name_shown (bytes_read self.now) spot)) }
+    {
+        match name_bytes(alloc, self.bytes, self.entry(n).spot) {
+            Ok(bytes) => text_from(alloc, &bytes),
+            Err(error) => Err(error),
+        }
+    }
+}
+
+fn chosen(named: bool, node: Node, found: Option<Node>) -> Option<Node>
+    ensures { result ≡ (if named then Some node else found) }
+{
+    if named { Some(node) } else { found }
+}
+
+// A text of these bytes.
+fn text_from(alloc: Global, bytes: &[u8]) -> Result<Text, NoMemory>
+    requires { IsUtf8 bytes.now }
+    ensures { IfOk result (λ text. text ≡ bytes.now) }
+{
+    match Text::from_bytes(alloc, bytes) {
+        Ok(text) => Ok(text),
+        Err(TextErr::NoMemory) => Err(AllocError),
+        Err(TextErr::NotUtf8 { at: _ }) => unreachable!(),
+    }
+}

@@ -1,0 +1,26 @@
+//! JSON read exactly (RFC 8259): where a text goes wrong, and what it holds as spans of its own bytes.
+#![tactic(auto)]
+
+mod doc;
+mod error;
+mod kind;
+mod lexeme;
+mod parse;
+mod part;
+mod piece;
+mod reader;
+mod scan;
+mod shown;
+mod spot;
+mod surrogates;
+#[cfg(test)]
+mod tests;
+mod texts;
+mod unescape;
+mod write;
+
+pub use doc::{Doc, Node};
+pub use error::JsonErr;
+pub use kind::Kind;
+pub use parse::read;
+pub use write::push_string;

@@ -1,0 +1,164 @@
+// Passing over one word: a number, a string or a literal.
+ghost use Rattle.std.specs.Prelude.{◌≡◌, ◌≤◌, ◌&&◌, ◌==◌, ℕ, List, length, false, Some, None, IfOk, IfErr, IfSome, IfNone};
+ghost use Rattle.json_text.specs.Lexeme.{ends};
+ghost use Rattle.json_text.specs.Faults.{is_lone_in};
+ghost use Rattle.json_text.specs.Scan.{Passes, EndsAt, BreaksAt, ArePlain, IsAsciiUpTo};
+
+use crate::kind::Kind;
+use crate::lexeme::{Lexeme, meaning, next_word};
+use crate::surrogates::is_lone_at;
+use byte_lanes::{first_above, first_special};
+
+/// A word that has ended: the place after it, what it means, and a place up to which the bytes after it are ASCII.
+#[derive(Clone, Copy)]
+pub(crate) struct Scanned {
+    pub end: usize,
+    pub kind: Kind,
+    pub above: usize,
+}
+
+// How far a word has come.
+#[derive(Clone, Copy)]
+struct Run {
+    at: usize,
+    word: Lexeme,
+    above: usize,
+}
+
+/// Passes over the word that has come to `first` at place `from`. `ascii` is a place up to which the bytes are ASCII. An
+/// error is the place where the word breaks off.
+#[inline]
+pub(crate) fn scan(bytes: &[u8], from: usize, first: Lexeme, ascii: usize) -> Result<Scanned, usize>
+    requires inside { from ≤ length bytes.now }
+    requires known { IsAsciiUpTo bytes.now from ascii }
+    ensures ended { IfOk result (λ word. EndsAt bytes.now from first word.end word.kind) }
+    ensures ascii { IfOk result (λ word. IsAsciiUpTo bytes.now word.end word.above) }
+    ensures broken { IfErr result (λ at. BreaksAt bytes.now from first at) }
+{
+    let mut word = first;
+    let mut at = from;
+    let mut above = ascii;
+    loop {
+        let run = match run_plain(bytes, at, word, above) {
+            Ok(run) => run,
+            Err(place) => return Err(place),
+        };
+        if run.at == bytes.len() {
+            return finish(run);
+        }
+        match next_word(run.word, bytes[run.at]) {
+            Some(after) => {
+                word = after;
+                at = run.at + 1;
+                above = run.above;
+            }
+            None => return finish(run),
+        }
+    }
+}
+
+fn finish(run: Run) -> Result<Scanned, usize>
+    ensures ended { IfOk result (λ word. (ends run.word ≡ Some word.kind) × (word.end ≡ run.at) × (word.above ≡ run.above)) }
+    ensures broken { IfErr result (λ at. (ends run.word ≡ None) × (at ≡ run.at)) }
+{
+    match meaning(run.word) {
+        Some(kind) => Ok(Scanned {
+            end: run.at,
+            kind,
+            above: run.above,
+        }),
+        None => Err(run.at),
+    }
+}
+
+// Within a string, passes over the bytes that stand for themselves. An error is the place of a lone surrogate's escape.
+#[inline]
+fn run_plain(bytes: &[u8], at: usize, word: Lexeme, above: usize) -> Result<Run, usize>
+    requires inside { at ≤ length bytes.now }
+    requires known { IsAsciiUpTo bytes.now at above }
+    ensures low { IfOk result (λ run. at ≤ run.at) }
+    ensures high { IfOk result (λ run. run.at ≤ length bytes.now) }
+    ensures passed { IfOk result (λ run. Passes bytes.now at word run.at run.word) }
+    ensures paired { IfOk result (λ run. is_lone_in run.word bytes.now run.at ≡ false) }
+    ensures ascii { IfOk result (λ run. IsAsciiUpTo bytes.now run.at run.above) }
+    ensures lone { IfErr result (λ place. BreaksAt bytes.now at word place) }
+{
+    match plain_high(word) {
+        Some(high) => {
+            let above = ascii_end(bytes, at, above);
+            let end = plain_end(bytes, at, above);
+            let high = is_still_high(high, at, end);
+            if is_lone_at(bytes, end, high) {
+                return Err(end);
+            }
+            Ok(Run {
+                at: end,
+                word: Lexeme::Plain { high },
+                above,
+            })
+        }
+        None => Ok(Run { at, word, above }),
+    }
+}
+
+// Between two characters of a string, whether the one before is the escape of a high surrogate.
+#[inline]
+fn plain_high(word: Lexeme) -> Option<bool>
+    ensures between { IfSome result (λ high. word ≡ Lexeme.Plain high) }
+    ensures within { IfNone result ((bytes : List ℕ) → (at : ℕ) → is_lone_in word bytes at ≡ false) }
+{
+    match word {
+        Lexeme::Plain { high } => Some(high),
+        Lexeme::Minus => None,
+        Lexeme::LeadingZero => None,
+        Lexeme::Integer => None,
+        Lexeme::Point => None,
+        Lexeme::Decimals => None,
+        Lexeme::Exponent => None,
+        Lexeme::ExponentSign => None,
+        Lexeme::ExponentDigits => None,
+        Lexeme::Letters { kind: _, read: _ } => None,
+        Lexeme::Tail { second: _, more: _ } => None,
+        Lexeme::Escape => None,
+        Lexeme::Digits { more: _, unit: _ } => None,
+        Lexeme::Closed => None,
+    }
+}
+
+// The escape of a high surrogate stands right before place `end` if it did before `at` and nothing has come since.
+#[inline]
+fn is_still_high(high: bool, at: usize, end: usize) -> bool
+    ensures { result ≡ (high && end == at) }
+{
+    high && end == at
+}
+
+// A place up to which the bytes from place `at` on are ASCII: `above`, or once that is reached the next such place.
+fn ascii_end(bytes: &[u8], at: usize, above: usize) -> usize
+    requires inside { at ≤ length bytes.now }
+    requires known { IsAsciiUpTo bytes.now at above }
+    ensures { IsAsciiUpTo bytes.now at result }
+{
+    if above > at {
+        return above;
+    }
+    match first_above(bytes, at) {
+        Some(place) => place,
+        None => bytes.len(),
+    }
+}
+
+// The end of the bytes from place `at` on that stand for themselves.
+fn plain_end(bytes: &[u8], at: usize, above: usize) -> usize
+    requires inside { at ≤ length bytes.now }
+    requires known { IsAsciiUpTo bytes.now at above }
+    ensures { ArePlain bytes.now at result }
+{
+    if above <= at {
+        return at;
+    }
+    match first_special(bytes, at) {
+        Some(place) if place < above => place,
+        _ => above,
+    }
+}

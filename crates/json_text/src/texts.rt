@@ -1,0 +1,84 @@
+// The texts that strings spell: compared, told byte by byte, and copied.
+ghost use Rattle.std.specs.Prelude.{◌≡◌, ◌≤◌, ◌<◌, ◌↔◌, ◌++◌, ℕ, List, length, IsTrue, MatchOption, IfOk, slice_get};
+ghost use Rattle.json_text.specs.Piece.{piece_bytes};
+ghost use Rattle.json_text.specs.Unescape.{unescaped, content};
+
+use crate::piece::Piece;
+use crate::spot::Span;
+use crate::unescape::{Pending, pending_after, piece_after};
+use std::alloc::{AllocError, Global};
+
+/// The bytes between the quotes of a string.
+pub(crate) fn content_of(bytes: &[u8], span: Span) -> &[u8]
+    ensures { result.now ≡ content bytes.now span }
+{
+    let from = span.start.saturating_add(1).min(bytes.len());
+    let rest = &bytes[from..];
+    let len = span
+        .end
+        .saturating_sub(1)
+        .saturating_sub(span.start.saturating_add(1));
+    &rest[..len.min(rest.len())]
+}
+
+/// Whether the inside of a string spells this text.
+pub(crate) fn spells(inside: &[u8], text: &[u8]) -> bool
+    ensures { IsTrue result ↔ (unescaped inside.now ≡ text.now) }
+{
+    let mut pending = Pending::Between { high: 0 };
+    let mut rest = text;
+    for byte in inside {
+        match behind(rest, piece_after(pending, *byte)) {
+            Some(others) => rest = others,
+            None => return false,
+        }
+        pending = pending_after(pending, *byte);
+    }
+    rest.is_empty()
+}
+
+// What follows the piece in a text that begins with it.
+fn behind(text: &[u8], piece: Piece) -> Option<&[u8]>
+    ensures { MatchOption result ((others : List ℕ) → text.now ≡ piece_bytes piece ++ others → ⊥) (λ others. text.now ≡ piece_bytes piece ++ others.now) }
+{
+    if text.len() < piece.len {
+        return None;
+    }
+    let (front, others) = text.split_at(piece.len);
+    if front == &piece.bytes[..piece.len] {
+        Some(others)
+    } else {
+        None
+    }
+}
+
+/// The byte of this number of the text that the inside of a string spells, if it has one.
+pub(crate) fn byte_of(inside: &[u8], number: usize) -> Option<u8>
+    ensures { result ≡ slice_get (unescaped inside.now) number }
+{
+    let mut pending = Pending::Between { high: 0 };
+    let mut left = number;
+    for byte in inside {
+        let piece = piece_after(pending, *byte);
+        if left < piece.len {
+            return Some(piece.bytes[left]);
+        }
+        left -= piece.len;
+        pending = pending_after(pending, *byte);
+    }
+    None
+}
+
+/// The bytes of the text that the inside of a string spells.
+pub(crate) fn unescape(alloc: Global, inside: &[u8]) -> Result<Vec<u8>, AllocError>
+    ensures { IfOk result (λ text. text.items ≡ unescaped inside.now) }
+{
+    let mut text = Vec::with_capacity(alloc, inside.len())?;
+    let mut pending = Pending::Between { high: 0 };
+    for byte in inside {
+        let piece = piece_after(pending, *byte);
+        text.extend_from_slice(&piece.bytes[..piece.len])?;
+        pending = pending_after(pending, *byte);
+    }
+    Ok(text)
+}
