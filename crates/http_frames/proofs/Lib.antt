@@ -1,1 +1,17 @@
+mod ChunkStepLemmas
+mod ContentLemmas
+mod DataLemmas
+mod FramerLemmas
+mod HeadLemmas
+mod HeadStepLemmas
+mod InChunksLemmas
+mod LengthLemmas
+mod LineLemmas
 mod PlainLemmas
+mod ProgressLemmas
+mod RequestLemmas
+mod RowLemmas
+mod SplitLemmas
+mod TargetLemmas
+mod TrailerLemmas
+mod TurnLemmas

@@ -16,7 +16,8 @@ use Rattle.std.specs.Char.{is_ascii_digit}
 use Rattle.httparse.specs.Grammar.{AllPass}
 use Rattle.httparse.specs.Pieces.{Stops}
 use Rattle.http_frames.specs.Plain.{is_key_byte, is_text_byte, IsKey, IsText, quote, quoted, save_front, head_end, item_front, item_middle, item_end, get_front, get_end, item_of, bytes_of, IsPlainRequest, IsPlain, HasNoPlain}
-use Rattle.http_frames.specs.PlainReading.{◌>>=◌, after_front, is_in, split_run, key_at, text_at, item_at, save_at, get_end_at, get_at, first_at}
+use Rattle.http_frames.specs.Front.{after_front}
+use Rattle.http_frames.specs.PlainReading.{◌>>=◌, is_in, split_run, key_at, text_at, item_at, save_at, get_end_at, get_at, first_at}
 use Rattle.http_frames.specs.declared.plain.PlainRequest.{PlainRequest}
 use Rattle.http_frames.specs.declared.plain.PlainRequest.TheVariants.{Save, Get}
 use Rattle.http_frames.specs.declared.plain.Class.{Class}
@@ -35,7 +36,7 @@ after_front-takes front bytes rest e =
     ∙ ap (λ (t : List ℕ). t ++ drop (length front) bytes) ((bytes_eq-Decides (take (length front) bytes) front).0 parts.0)
     ∙ ap (λ (t : List ℕ). front ++ t) parts.1
 
-prefix_len-again : (test : ℕ → Bool) (run rest : List ℕ) → AllPass test run → Stops test rest
+pub prefix_len-again : (test : ℕ → Bool) (run rest : List ℕ) → AllPass test run → Stops test rest
     → prefix_len test (run ++ rest) ≡ length run
 prefix_len-again test [] [] pass stop = absurd stop
 prefix_len-again test [] (x ∷ rest) pass stop = rw stop refl
@@ -51,7 +52,7 @@ split_run-again class run rest pass stop =
     let n = prefix_len-again (is_in class) run rest pass stop in
     rw (n, take_at run rest (length run) refl, drop_at run rest (length run) refl) refl
 
-run_passes : (test : ℕ → Bool) (bytes : List ℕ) → AllPass test (take (prefix_len test bytes) bytes)
+pub run_passes : (test : ℕ → Bool) (bytes : List ℕ) → AllPass test (take (prefix_len test bytes) bytes)
 run_passes test [] = All-nil (λ v. test v ≡ true)
 run_passes test (x ∷ bytes) = elim (test x) as (λ b. test x ≡ b → AllPass test (take (cond b (1 + prefix_len test bytes) 0) (x ∷ bytes))) [
   | true ↦ λ e. rw (one-add) (All-cons (λ v. test v ≡ true) x _ e (run_passes test bytes))

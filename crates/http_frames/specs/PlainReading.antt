@@ -5,6 +5,7 @@ use Rattle.std.specs.Option.{option_or}
 use Rattle.std.specs.List.{prefix_len}
 use Rattle.std.specs.Str.{bytes_eq}
 use Rattle.std.specs.Char.{is_ascii_digit}
+use Rattle.http_frames.specs.Front.{after_front}
 use Rattle.http_frames.specs.Plain.{is_key_byte, is_text_byte, quote, quoted, save_front, head_end, item_front, item_middle, item_end, get_front, get_end}
 use Rattle.http_frames.specs.declared.plain.Class.{Class}
 use Rattle.http_frames.specs.declared.plain.Class.TheVariants.{Digit, Key, Text}
@@ -19,11 +20,6 @@ None >>= f = None
 -- a value that was read, and the bytes after it
 abbrev pub Read : Type 0 → Type 0
 Read A = Option (A × List ℕ)
-
--- the bytes after front
-unfoldable pub after_front : List ℕ → List ℕ → Option (List ℕ)
-after_front front bytes =
-    if bytes_eq (take (length front) bytes) front then Some (drop (length front) bytes) else None
 
 abbrev pub is_in : Class → ℕ → Bool
 is_in Digit byte = is_ascii_digit byte

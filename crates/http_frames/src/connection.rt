@@ -45,7 +45,7 @@ fn has_item(value: &[u8], word: &[u8]) -> bool
 
 /// Whether two words are one without regard to the case of ASCII letters.
 #[tactic(auto, unfolding(crate::specs::Closes::is_same_word))]
-fn is_same_word(one: &[u8], other: &[u8]) -> bool
+pub(crate) fn is_same_word(one: &[u8], other: &[u8]) -> bool
     ensures { result ≡ is_same_word one.now other.now }
 {
     one.eq_ignore_ascii_case(other)

@@ -4,8 +4,9 @@ ghost use Rattle.httparse.specs.Grammar.{AllPass};
 ghost use Rattle.http_frames.specs.Plain.{IsPlain, HasNoPlain, is_key_byte, quoted};
 ghost use Rattle.http_frames.specs.declared.plain.PlainErr.TheVariants.{NoMemory};
 ghost use Rattle.http_frames.specs.declared.plain.PlainRequest.{PlainRequest};
-ghost use Rattle.http_frames.specs.PlainReading.{after_front, is_in, split_run, key_at, text_at, item_at, save_at, get_end_at, get_at, first_at};
+ghost use Rattle.http_frames.specs.PlainReading.{is_in, split_run, key_at, text_at, item_at, save_at, get_end_at, get_at, first_at};
 
+use crate::front::after_front;
 use itoa::Buffer;
 use side_base::{Blob, NoMemory, Sequence, Text};
 use std::alloc::Global;
@@ -227,15 +228,6 @@ fn text_at(bytes: &[u8]) -> Option<(&[u8], &[u8])>
     } else {
         None
     }
-}
-
-/// What follows `front` at the beginning of the bytes.
-#[tactic(auto, unfolding(crate::specs::PlainReading::after_front))]
-fn after_front<'b>(front: &[u8], bytes: &'b [u8]) -> Option<&'b [u8]>
-    ensures read { option_map (λ rest. rest.now) result ≡ after_front front.now bytes.now }
-    ensures within { IfSome result (λ rest. length rest.now ≤ length bytes.now) }
-{
-    bytes.strip_prefix(front)
 }
 
 /// The longest run of a class at the front, and what follows it.

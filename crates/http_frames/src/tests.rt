@@ -1,3 +1,4 @@
 mod connection;
+mod framer;
 mod plain;
 mod response;

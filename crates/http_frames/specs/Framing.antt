@@ -1,0 +1,81 @@
+-- What a framer holds, and what each of its calls does.
+use Rattle.std.specs.Prelude.{◌≡◌, ℕ, ◌⊎◌, List, [], ◌++◌, Bool, true, false, Option, Some, None, Result, Ok, Err}
+use Rattle.httparse.specs.Grammar.{RequestHead}
+use Rattle.side_base.specs.declared.message.Request.{Request}
+use Rattle.http_frames.specs.HeadRules.{fields_of, asks_to_continue, request_of}
+use Rattle.http_frames.specs.Requests.{ReadsHead, ReadsWhole, HasNoWhole, IsRefused, IsAccepted}
+use Rattle.http_frames.specs.declared.step.Step.{Step}
+use Rattle.http_frames.specs.declared.step.Step.TheVariants as step
+use Rattle.http_frames.specs.declared.refusal.FrameErr.{FrameErr}
+use Rattle.http_frames.specs.declared.refusal.FrameErr.TheVariants.{NoMemory}
+
+-- the bytes from the start of the request that is not whole yet, whether its `Continue` was given, and the refusal
+-- that ended the stream, after which no bytes are kept
+pub record State : Type 0 where
+  pub pending : List ℕ
+  pub continued : Bool
+  pub refused : Option FrameErr
+
+-- a stream that is not refused
+abbrev pub waiting : List ℕ → Bool → State
+waiting pending continued = record { pending = pending; continued = continued; refused = None }
+
+-- a stream that is
+abbrev pub ended : FrameErr → State
+ended error = record { pending = []; continued = false; refused = Some error }
+
+-- bytes that come: a refused stream keeps none
+abbrev pub grown : Option FrameErr → State → List ℕ → State
+grown None state piece = waiting (state.pending ++ piece) state.continued
+grown (Some error) state piece = state
+
+abbrev pub fed : State → List ℕ → State
+fed state piece = grown state.refused state piece
+
+-- where the head of the unfinished request asks for `Continue`, that was given
+abbrev pub IsQuiet : List ℕ → Bool → Type 0
+IsQuiet pending continued = (head : RequestHead) (after : List ℕ) → ReadsHead pending head after
+    → asks_to_continue head.minor (fields_of head) ≡ true → continued ≡ true
+
+-- a whole request is given, and the bytes behind it are left
+pub record IsRequestStep (old : State) (request : Request) (new : State) : Type 0 where
+  pub waits : old.refused ≡ None
+  pub head : RequestHead
+  pub body : List ℕ
+  pub rest : List ℕ
+  pub whole : ReadsWhole old.pending head body rest
+  pub is : request ≡ request_of head body
+  pub told : asks_to_continue head.minor (fields_of head) ≡ true → old.continued ≡ true
+  pub after : new ≡ waiting rest false
+
+-- `Continue` is given for a head that asks for it, once
+pub record IsContinueStep (old new : State) : Type 0 where
+  pub waits : old.refused ≡ None
+  pub head : RequestHead
+  pub after : List ℕ
+  pub heads : ReadsHead old.pending head after
+  pub asks : asks_to_continue head.minor (fields_of head) ≡ true
+  pub untold : old.continued ≡ false
+  pub told : new ≡ waiting old.pending true
+
+-- nothing further: no whole request begins the bytes, no front of them is refused, and no `Continue` is due
+pub record IsNeedStep (old new : State) : Type 0 where
+  pub waits : old.refused ≡ None
+  pub none : HasNoWhole old.pending
+  pub accepted : IsAccepted old.pending
+  pub quiet : IsQuiet old.pending old.continued
+  pub same : new ≡ old
+
+-- the bytes are refused, which ends the stream
+pub record IsRefusal (old : State) (error : FrameErr) : Type 0 where
+  pub waits : old.refused ≡ None
+  pub refused : IsRefused old.pending error
+  pub quiet : IsQuiet old.pending old.continued
+
+-- what a call of `next` gives
+abbrev pub IsNext : State → Result Step FrameErr → State → Type 0
+IsNext old (Ok (step.Request request)) new = IsRequestStep old request new
+IsNext old (Ok step.Continue) new = IsContinueStep old new
+IsNext old (Ok step.Need) new = IsNeedStep old new
+IsNext old (Err NoMemory) new = new ≡ old
+IsNext old (Err error) new = (new ≡ ended error) × ((old ≡ ended error) ⊎ IsRefusal old error)

@@ -1,0 +1,128 @@
+ghost use Rattle.std.specs.Prelude.{◌≡◌, ◌≤◌, [], false, IsTrue, ◌↔◌, OnOk, OnErr, length, drop};
+ghost use Rattle.http_frames.specs.Framing.{waiting, fed, IsNext};
+
+use crate::progress::Content;
+use crate::turn::{Turn, take_turn};
+use crate::{FrameErr, Step};
+use side_base::NoMemory;
+use std::alloc::Global;
+use std::marker::Model;
+use std::mem;
+
+/// Where the stream stands.
+#[derive(Debug, Drop)]
+pub(crate) enum Stage {
+    /// The head of the next request is not whole.
+    Head,
+    /// The head of a request was taken.
+    Content(Content),
+    /// The stream is refused.
+    Refused(FrameErr),
+}
+
+/// Takes requests out of a stream of bytes that comes in pieces.
+///
+/// `feed` brings the bytes, and `next` gives what they hold. What it gives depends on the bytes alone, and not on how
+/// they were cut into pieces.
+#[derive(Debug, Drop)]
+pub struct Framer {
+    alloc: Global,
+    bytes: Vec<u8>,
+    /// Where the request begins that is not given out yet.
+    start: usize,
+    continued: bool,
+    stage: Stage,
+}
+
+impl Model for Framer {
+    ghost use Rattle.http_frames.specs.Framing.{State};
+
+    ghost Value = { State };
+
+    ghost use Rattle.http_frames.specs.Framer.{state_of, IsFramer};
+
+    ghost view = { state_of };
+
+    ghost invariant = { IsFramer };
+}
+
+impl Framer {
+    /// A framer that was fed nothing; takes no memory.
+    pub fn new(alloc: Global) -> Self
+        ensures { result ≡ waiting [] false }
+    {
+        Framer {
+            alloc,
+            bytes: Vec::new(alloc),
+            start: 0,
+            continued: false,
+            stage: Stage::Head,
+        }
+    }
+
+    /// Takes the bytes that came. A refused stream takes none. Without memory nothing has changed.
+    pub fn feed(&mut self, piece: &[u8]) -> Result<(), NoMemory>
+        ensures ok { OnOk result (self.new ≡ fed self.old piece.now) }
+        ensures err { OnErr result (self.new ≡ self.old) }
+    {
+        if let Stage::Refused(_) = self.stage {
+            return Ok(());
+        }
+        remove_front(&mut self.bytes, self.start);
+        self.start = 0;
+        self.bytes.extend_from_slice(piece)
+    }
+
+    /// What the bytes that were fed hold next.
+    ///
+    /// A refusal is given again by each further call. After `NoMemory` nothing has changed, and the call may be made
+    /// again.
+    pub fn next(&mut self) -> Result<Step, FrameErr>
+        ensures { IsNext self.old result self.new }
+    {
+        let stage = mem::replace(&mut self.stage, Stage::Head);
+        let pending = &self.bytes[self.start..];
+        let (stage, turn) = take_turn(self.alloc, pending, self.continued, stage);
+        self.stage = stage;
+        match turn? {
+            Turn::Request { request, end } => {
+                self.start += end;
+                self.continued = false;
+                Ok(Step::Request(request))
+            }
+            Turn::Continue => {
+                self.continued = true;
+                Ok(Step::Continue)
+            }
+            Turn::Need => Ok(Step::Need),
+            Turn::Refused(error) => {
+                self.bytes.clear();
+                self.start = 0;
+                Err(error)
+            }
+        }
+    }
+
+    /// Whether no byte of an unfinished request is held. Takes no memory.
+    pub fn is_between(&self) -> bool
+        ensures { IsTrue result ↔ (self.now ≡ waiting [] false) }
+    {
+        match self.stage {
+            Stage::Head => self.start == self.bytes.len(),
+            Stage::Content(_) => false,
+            Stage::Refused(_) => false,
+        }
+    }
+}
+
+/// Removes the first bytes.
+fn remove_front(bytes: &mut Vec<u8>, count: usize)
+    requires { count ≤ length bytes.old.items }
+    ensures { bytes.new.items ≡ drop count bytes.old.items }
+{
+    if count > 0 {
+        let len = bytes.len();
+        bytes.copy_within(count..len, 0);
+        bytes.truncate(len - count);
+    }
+}

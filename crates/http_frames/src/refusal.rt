@@ -1,0 +1,39 @@
+ghost use Rattle.std.specs.Prelude.{◌≡◌};
+ghost use Rattle.http_frames.specs.declared.refusal.FrameErr.TheVariants as errors;
+
+use std::alloc::AllocError;
+
+/// Why the bytes of a request are refused. Each refusal ends the connection.
+#[derive(Clone, Copy, Debug, PartialEq, Eq)]
+pub enum FrameErr {
+    /// 16,384 bytes came without a whole head.
+    HeadTooLong,
+    /// The bytes begin no head.
+    BadHead,
+    /// A head has more than 64 fields.
+    TooManyHeaders,
+    /// A request of HTTP/1.1 has not exactly one `Host`.
+    BadHost,
+    /// Both `Content-Length` and `Transfer-Encoding` are there.
+    BothLengths,
+    /// `Transfer-Encoding` is not the one field `chunked` of HTTP/1.1.
+    TransferCoding,
+    /// `Content-Length` is not one field of 1 to 18 decimal digits.
+    BadLength,
+    /// A `Content-Encoding` is not `identity`.
+    Coding,
+    /// The content is longer than 4,194,304 bytes.
+    TooLong,
+    /// The bytes begin no content in chunks whose lines and trailers have at most 16,384 bytes.
+    BadChunk,
+    /// There is no room. Nothing has changed, and the call may be made again.
+    NoMemory,
+}
+
+impl From<AllocError> for FrameErr {
+    ghost from_gives = { λ _ error. error ≡ errors.NoMemory };
+
+    fn from(_: AllocError) -> FrameErr {
+        FrameErr::NoMemory
+    }
+}
