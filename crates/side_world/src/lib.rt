@@ -2,6 +2,7 @@
 #![tactic(auto)]
 
 mod failed;
+mod gate;
 mod memory_sink;
 mod memory_source;
 mod reading;
@@ -11,6 +12,7 @@ mod sink;
 mod source;
 
 pub use failed::Failed;
+pub use gate::{FreeGate, Gate, Point};
 pub use memory_sink::MemorySink;
 pub use memory_source::MemorySource;
 pub use reading::{GatherErr, gather};

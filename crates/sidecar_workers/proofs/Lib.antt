@@ -1,0 +1,5 @@
+pub mod Places
+pub mod Rounds
+pub mod StopJoins
+pub mod StopSplits
+pub mod StopSteps
