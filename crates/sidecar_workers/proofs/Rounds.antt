@@ -23,6 +23,7 @@ module _ {W : Type 0} (work : Ghosts W) where
     same = (refl, refl);
     seat = refl;
     stopped = λ e. absurd (cc);
+    awake = tt;
     told = λ cs is. (cs, [], is, sym (append-nil cs), (λ more e run. run));
   }
 
@@ -35,6 +36,7 @@ module _ {W : Type 0} (work : Ghosts W) where
     same = (q.same.0 ∙ r.same.0, q.same.1 ∙ r.same.1);
     seat = let again : Standing → Standing = λ z. record z { found = u.seat.found } in q.seat ∙ ap again r.seat;
     stopped = q.stopped;
+    awake = q.awake;
     told = λ cs is. let later = q.told cs is in let before = r.told later.0 later.2 in
         (before.0, before.1 ++ later.1, before.2, later.3 ∙ (ap (λ (l : List Call). l ++ later.1) before.3 ∙ append_assoc before.0 before.1 later.1), makes_more before.1 later.1 ending before.4 later.4);
   }

@@ -27,10 +27,12 @@ module _ {W : Type 0} (work : Ghosts W) where
     pub same : (s'.number ≡ s.number) × (s'.exit ≡ s.exit)
     pub seat : s'.seat ≡ record s.seat { found = s'.seat.found }
     pub stopped : ending ≡ Some exits.Stopped → s'.seat.found ≡ true
+    pub awake : IfSome ending (λ e. e ≢ exits.Stopped → s'.seat.found ≡ false)
     pub told : (cs : List Call) → work.calls s'.work ≡ Some cs → (bs ds : List Call) × (work.calls s.work ≡ Some bs) × (cs ≡ bs ++ ds) × Makes ds ending
 
   -- a worker has run: it ended, owes nothing, and has kept its fact; where it ended of its own, it has the fact of that end; its
-  -- seat has ended exactly where it stops all others; it was stopped only where it found the word set; and its calls are a run
+  -- seat has ended exactly where it stops all others; it was stopped exactly where its last look found the word set; and its calls
+  -- are a run
   pub record HasRun (s s' : Slot W) : Type 0 where
     pub ending : Exit
     pub exit : s'.exit ≡ Some ending
@@ -40,4 +42,5 @@ module _ {W : Type 0} (work : Ghosts W) where
     pub number : s'.number ≡ s.number
     pub seat : s'.seat ≡ record s.seat { found = s'.seat.found; ended = reason_of ending }
     pub stopped : ending ≡ exits.Stopped → s'.seat.found ≡ true
+    pub awake : ending ≢ exits.Stopped → s'.seat.found ≡ false
     pub told : (cs : List Call) → work.calls s'.work ≡ Some cs → (bs ds : List Call) × (work.calls s.work ≡ Some bs) × (cs ≡ bs ++ ds) × IsRun ds ending
