@@ -1,8 +1,8 @@
-use crate::{StdSink, StdSource};
-use side_world::{Failed, gather, send};
-use std::io;
+use crate::{HostDisk, StdSink, StdSource};
+use side_world::{Disk, Failed, gather, send};
 use std::io::Write;
 use std::test::Fail;
+use std::{fs, io};
 
 // A writer that takes one byte at a time, and after three takes nothing.
 #[derive(Drop)]
@@ -45,5 +45,22 @@ fn a_writer_is_a_sink(rt: HostRuntime) -> Result<(), Fail> {
         send(&mut StdSink::new(Narrow { taken: 0 }), b"abcd"),
         Err(Failed)
     );
+    Ok(())
+}
+
+#[test]
+fn a_file_is_a_disk(rt: HostRuntime) -> Result<(), Fail> {
+    let path = "a_file_is_a_disk.bytes";
+    let mut disk = HostDisk::open(&rt, path)?;
+    assert_eq!(rt; disk.len()?, 0);
+    disk.write_at(0, b"journal")?;
+    disk.write_at(4, b"eying")?;
+    disk.sync()?;
+    let mut found = HostDisk::open(&rt, path)?;
+    assert_eq!(rt; found.len()?, 9);
+    let mut piece = [0; 5];
+    found.read_at(3, &mut piece)?;
+    assert_eq!(rt; piece, *b"reyin");
+    fs::remove_file(&rt, path)?;
     Ok(())
 }

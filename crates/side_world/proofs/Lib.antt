@@ -1,4 +1,5 @@
 pub mod Composed
+pub mod Disks
 pub mod Gathered
 pub mod Pieces
 pub mod Sent

@@ -1,8 +1,8 @@
-ghost use Rattle.std.specs.Prelude.{◌≡◌, [], Some};
+ghost use Rattle.std.specs.Prelude.{◌≡◌, [], Some, IfOk};
 
 use crate::schedule::{Schedule, Sizes};
 use crate::{Failed, Sink};
-use side_base::{Blob, Places};
+use side_base::{Blob, NoMemory, Places};
 use std::alloc::Global;
 use std::marker::Model;
 
@@ -32,6 +32,23 @@ impl MemorySink {
             contents: Blob::new(alloc),
             schedule: Schedule::new(sizes, failing),
         }
+    }
+
+    /// The same, with room for `room` bytes: until then no write takes memory.
+    pub fn with_room(
+        alloc: Global,
+        room: usize,
+        sizes: Sizes,
+        failing: Places,
+    ) -> Result<Self, NoMemory>
+        ensures { IfOk result (λ sink. sink ≡ record { contents = []; faults = 0 }) }
+    {
+        let mut contents = Blob::new(alloc);
+        contents.reserve(room)?;
+        Ok(MemorySink {
+            contents,
+            schedule: Schedule::new(sizes, failing),
+        })
     }
 
     /// All bytes that were written.

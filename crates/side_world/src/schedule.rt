@@ -41,16 +41,27 @@ impl Schedule {
         ensures failed { OnErr result (Rose self.old.faults self.new.faults) }
         ensures no_fewer { self.old.faults ≤ self.new.faults }
     {
+        self.call()?;
+        match self.sizes.take_first() {
+            Some(size) => Ok(size.max(1).min(possible)),
+            None => Ok(possible),
+        }
+    }
+
+    /// Counts a call, which fails where it is listed.
+    pub(crate) fn call(&mut self) -> Result<(), Failed>
+        ensures listed { IsErr result ↔ Contains self.old.failing self.old.calls }
+        ensures ok { OnOk result (self.new.faults ≡ self.old.faults) }
+        ensures failed { OnErr result (Rose self.old.faults self.new.faults) }
+        ensures no_fewer { self.old.faults ≤ self.new.faults }
+    {
         let call = self.calls;
         self.calls = call.saturating_add(1);
         if is_listed(&self.failing, call) {
             self.faults = self.faults.saturating_add(1);
             return Err(Failed);
         }
-        match self.sizes.take_first() {
-            Some(size) => Ok(size.max(1).min(possible)),
-            None => Ok(possible),
-        }
+        Ok(())
     }
 
     /// Counts a fault of the device itself.
