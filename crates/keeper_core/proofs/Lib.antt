@@ -1,0 +1,9 @@
+pub mod Counted
+pub mod Found
+pub mod Lapsed
+pub mod Least
+pub mod Overlay
+pub mod Placed
+pub mod Sizes
+pub mod Sorted
+pub mod Table

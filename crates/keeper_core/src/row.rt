@@ -1,0 +1,11 @@
+/// What a key has, lent by its keeper.
+#[derive(Clone, Copy, Debug)]
+pub struct RowView<'a> {
+    /// The value, byte for byte.
+    pub value: &'a [u8],
+    /// The number of the write that stored it, from 1, which no other write of the store has.
+    pub version: u64,
+    /// The moment from which on the row is no longer live, in milliseconds since 1970; 0 is never. It may lie past the greatest
+    /// `Moment`.
+    pub until: u64,
+}
