@@ -4,7 +4,7 @@ use Rattle.http_frames.specs.Plain.{IsPlain, HasNoPlain}
 use Rattle.http_frames.specs.declared.plain.PlainRequest.{PlainRequest}
 use Rattle.side_world.specs.Told.{Took, IsDrained}
 use Rattle.sidecar_cli.specs.declared.run.TheConstants.{INPUT_LIMIT}
-use Rattle.sidecar_cli.specs.Output.{output_of}
+use Rattle.sidecar_cli.specs.Output.{IsOutputOf}
 use Rattle.sidecar_cli.specs.Words.{Asks}
 
 -- these bytes were taken from the source, and it has ended, where they are no more than an input may have
@@ -18,7 +18,7 @@ pub record IsAnswer (app bytes out : List ℕ) : Type 0 where
   pub requests : List PlainRequest
   pub within : length bytes ≤ INPUT_LIMIT
   pub plain : IsPlain bytes requests
-  pub answered : out ≡ output_of app requests
+  pub answered : IsOutputOf app requests out
 
 -- the same under the app id of the words
 abbrev pub IsOutput : List (List ℕ) → List ℕ → List ℕ → Type 0

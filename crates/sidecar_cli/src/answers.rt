@@ -1,12 +1,17 @@
 ghost use Rattle.std.specs.Prelude.{◌≡◌, ◌<◌, ◌^◌, length, IfOk};
-ghost use Rattle.sidecar_cli.specs.Output.{output_of, closes};
+ghost use Rattle.sidecar_cli.specs.Output.{IsOutputOf, closes};
 
 use crate::command::command;
 use crate::response::response;
 use http_frames::{PlainRequest, PlainRequests, push_response};
-use side_base::{Blob, NoMemory, Text};
+use keeper_core::MemoryKeeper;
+use side_base::{Blob, NoMemory, Places, Text};
 use state_core::Store;
 use std::alloc::Global;
+use turn_cell::Object;
+
+/// The most bytes that the rows of the store take: of each, its key, its value and 8.
+pub const STORE_LIMIT: u64 = 268_435_456;
 
 /// The bytes of the responses to requests over a new store, up to the first request that closes the connection.
 pub(crate) fn answers(
@@ -15,9 +20,10 @@ pub(crate) fn answers(
     mut requests: PlainRequests,
 ) -> Result<Blob, NoMemory>
     requires { length requests < 2 ^ 62 }
-    ensures { IfOk result (λ out. out ≡ output_of app.now requests) }
+    ensures { IfOk result (λ out. IsOutputOf app.now requests out) }
 {
-    let mut store = Store::empty(alloc);
+    let keeper = MemoryKeeper::new(alloc, STORE_LIMIT, Places::new(alloc));
+    let mut store = Store::new(alloc, keeper);
     let mut out = Blob::new(alloc);
     while let Some(request) = requests.take_first() {
         let close = closes(&request);

@@ -2,8 +2,8 @@ ghost use Rattle.std.specs.Prelude.{◌≡◌, IfOk};
 ghost use Rattle.sidecar_cli.specs.Command.{stored_key, command_of};
 
 use http_frames::PlainRequest;
-use side_base::{NoMemory, Text};
-use state_core::{Cmd, Item};
+use side_base::{Moment, NoMemory, Text};
+use state_core::{Cmd, Item, Items, Mode};
 use std::alloc::Global;
 
 const SEPARATOR: &str = "||";
@@ -15,13 +15,32 @@ pub(crate) fn command(alloc: Global, app: &Text, request: PlainRequest) -> Resul
     match request {
         PlainRequest::Get { key, .. } => Ok(Cmd::Get {
             key: stored_key(alloc, app, &key)?,
+            now: first_moment(),
         }),
-        PlainRequest::Save { key, value } => Ok(Cmd::Save {
-            item: Item {
+        PlainRequest::Save { key, value } => {
+            let mut items = Items::new(alloc);
+            items.push(Item {
                 key: stored_key(alloc, app, &key)?,
                 value,
-            },
-        }),
+                etag: None,
+                mode: Mode::Unsaid,
+                ttl: None,
+            })?;
+            Ok(Cmd::Save {
+                items,
+                now: first_moment(),
+            })
+        }
+    }
+}
+
+/// The beginning of 1970: no row lapses here, so that no clock is asked.
+fn first_moment() -> Moment
+    ensures { result ≡ 0 }
+{
+    match Moment::at(0) {
+        Some(now) => now,
+        None => unreachable!(),
     }
 }
 

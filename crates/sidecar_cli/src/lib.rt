@@ -9,6 +9,7 @@ mod status;
 mod words;
 mod world;
 
+pub use answers::STORE_LIMIT;
 pub use run::{INPUT_LIMIT, sidecar_main};
 pub use status::{Device, Status};
 pub use world::World;

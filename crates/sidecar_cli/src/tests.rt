@@ -20,6 +20,9 @@ const FOUND: &[u8] =
 const FOUND_AND_CLOSED: &[u8] =
     b"HTTP/1.1 200 OK\r\nContent-Type: application/json\r\nETag: 1\r\nContent-Length: 3\r\nConnection: close\r\n\r\n\"x\"";
 
+/// More than any of these runs writes, so that a sink takes no memory while it runs.
+const SINK_ROOM: usize = 512;
+
 const RUN: [&str; 3] = ["--app-id", "a", "--stdio"];
 
 fn joined(alloc: Global, parts: &[&[u8]]) -> Result<Blob, NoMemory> {
@@ -51,7 +54,7 @@ fn source(alloc: Global, bytes: Blob, failing: &[u32]) -> Result<MemorySource, N
 fn sink(alloc: Global, sizes: &[usize], failing: &[u32]) -> Result<MemorySink, NoMemory> {
     let sizes: Sizes = list(alloc, sizes)?;
     let failing: Places = list(alloc, failing)?;
-    Ok(MemorySink::new(alloc, sizes, failing))
+    MemorySink::with_room(alloc, SINK_ROOM, sizes, failing)
 }
 
 fn world(

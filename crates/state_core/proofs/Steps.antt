@@ -1,63 +1,59 @@
--- What one more entry changes of what a history says.
-use Rattle.std.proofs.Common.{◌≡◌, ◌+◌, ◌++◌, ◌∷◌, [], ℕ, Bool, true, false, List, length, reverse, Option, Some, None, bytes_eq, option_map, refl, ap, sym, ◌∙◌, arith, cond}
-use Rattle.std.specs.List.{find, enumerate_from, cons_option}
-use Rattle.std.specs.BTreeMap.{get_by_text}
-use Rattle.std.proofs.lemmas.List.{reverse-append, append-nil, length-append}
-use Rattle.std.proofs.lemmas.List.Elements.{filter_map-append}
-use Rattle.state_core.specs.Store.{Entry, Stands, item_of, writes, row_in}
-use Rattle.state_core.specs.declared.command.Item.{Item}
-use Rattle.state_core.specs.declared.command.Cmd.TheVariants.{Save}
-use Rattle.state_core.specs.declared.command.Reply.TheVariants.{Saved}
-use Rattle.state_core.specs.declared.store.Row.{Row}
+-- One more entry of a history.
+use Rattle.std.proofs.Common.{◌≡◌, ◌+◌, ◌++◌, ◌∷◌, [], ℕ, List, max, length-append, ap, sym, subst, ◌∙◌, arith}
+use Rattle.std.proofs.lemmas.List.Sums.{fold-append}
+use Rattle.keeper_core.specs.declared.keeper.Keeper.{Ghosts}
+use Rattle.state_core.specs.declared.command.Cmd.{Cmd}
+use Rattle.state_core.specs.declared.reply.Reply.{Reply}
 use Rattle.state_core.specs.declared.store.Store.{Store}
+use Rattle.state_core.specs.Write.{Write, upserts}
+use Rattle.state_core.specs.Reply.{Held}
+use Rattle.state_core.specs.Written.{written, size_in, held_with, IsAnswered}
+use Rattle.state_core.specs.History.{Step, Course, moment_of, held_in, course_with, course_after, course_of, last_mark, now_in, IsStep}
+use Rattle.state_core.specs.Store.{Stands, held_by}
+use Rattle.state_core.proofs.Writes.{upserts-append, rows_after-append}
 
--- a further item gets the next number
-enumerate_from-snoc : {X : Type 0} (n : ℕ) (xs : List X) (x : X) → enumerate_from n (xs ++ x ∷ []) ≡ enumerate_from n xs ++ (n + length xs, x) ∷ []
-enumerate_from-snoc n [] x = ap (λ k. (k, x) ∷ []) (omega arith)
-enumerate_from-snoc n (y ∷ ys) x = ap (λ z. (n, y) ∷ z) (enumerate_from-snoc (n + 1) ys x ∙ ap (λ k. enumerate_from (n + 1) ys ++ (k, x) ∷ []) (omega arith))
-
--- the numbered writes from the last to the first, after one more
-numbered-snoc : (ws : List Item) (w : Item) → reverse (enumerate_from 1 (ws ++ w ∷ [])) ≡ (1 + length ws, w) ∷ reverse (enumerate_from 1 ws)
-numbered-snoc ws w = ap reverse (enumerate_from-snoc 1 ws w) ∙ reverse-append (enumerate_from 1 ws) ((1 + length ws, w) ∷ [])
-
-option_map-cond : {X Y : Type 0} (f : X → Y) (b : Bool) (x y : Option X) → option_map f (cond b x y) ≡ cond b (option_map f x) (option_map f y)
-option_map-cond f true x y = refl
-option_map-cond f false x y = refl
-
--- a further write is what its key has, and changes no other key
-row_in-snoc : (ws : List Item) (item : Item) (key : List ℕ) → row_in (ws ++ item ∷ []) key ≡ cond (bytes_eq key item.key) (Some (record { value = item.value; version = 1 + length ws })) (row_in ws key)
-row_in-snoc ws item key =
-    ap (λ z. option_map (λ (p : ℕ × Item). record { value = p.1.value; version = p.0 }) (find (λ (p : ℕ × Item). bytes_eq key p.1.key) z)) (numbered-snoc ws item)
-    ∙ option_map-cond (λ (p : ℕ × Item). record { value = p.1.value; version = p.0 }) (bytes_eq key item.key) _ _
-
--- an entry that wrote nothing adds no write
-no_write : (history : List Entry) (e : Entry) → item_of e.cmd e.reply ≡ None → writes (history ++ e ∷ []) ≡ writes history
-no_write history e none =
-    filter_map-append (λ (x : Entry). item_of x.cmd x.reply) history (e ∷ [])
-    ∙ ap (λ o. writes history ++ cons_option o []) none
-    ∙ append-nil (writes history)
-
--- an entry that wrote adds its item
-one_write : (history : List Entry) (item : Item) → writes (history ++ record { cmd = Save item; reply = Saved } ∷ []) ≡ writes history ++ item ∷ []
-one_write history item = filter_map-append (λ (e : Entry). item_of e.cmd e.reply) history (record { cmd = Save item; reply = Saved } ∷ [])
-
--- the store is one after the longer history where an entry wrote nothing
-pub stands_unwritten : (history : List Entry) (e : Entry) (old new : Store) → item_of e.cmd e.reply ≡ None → Stands history old → ((key : List ℕ) → get_by_text new.rows key ≡ get_by_text old.rows key) → new.writes ≡ old.writes → Stands (history ++ e ∷ []) new
-stands_unwritten history e old new none stands rows counted = record {
-  rows = λ key. rows key ∙ stands.rows key ∙ ap (λ ws. row_in ws key) (sym (no_write history e none));
-  writes_are = counted ∙ stands.writes_are ∙ ap length (sym (no_write history e none));
+-- what is held after writes, by all writes so far
+pub held_in-with : (opening : Held) (course : Course) (moment : ℕ) (writes : List Write) → held_with (held_in opening course) writes ≡ held_in opening (course_with course moment (held_in opening course) writes)
+held_in-with opening course moment writes = λ i. record {
+  rows = sym (rows_after-append opening.rows opening.next course.passed writes) i;
+  next = counted i;
+  size = size_in (held_in opening course) writes;
+  limit = opening.limit;
+  size_after = opening.size_after;
+  may_fail = opening.may_fail;
 }
+  where
+    counted : (opening.next + upserts course.passed) + upserts writes ≡ opening.next + upserts (course.passed ++ writes)
+    counted = omega (arith, upserts-append course.passed writes)
 
--- and where it wrote an item
-pub stands_written : (history : List Entry) (item : Item) (old new : Store) → Stands history old → ((key : List ℕ) → get_by_text new.rows key ≡ cond (bytes_eq key item.key) (Some (record { value = item.value; version = old.writes + 1 })) (get_by_text old.rows key)) → new.writes ≡ old.writes + 1 → Stands (history ++ record { cmd = Save item; reply = Saved } ∷ []) new
-stands_written history item old new stands rows counted =
-    let number : old.writes + 1 ≡ 1 + length (writes history) = omega (arith, stands.writes_are) in
-    record {
-      rows = λ key.
-          rows key
-          ∙ ap (λ (v : ℕ). cond (bytes_eq key item.key) (Some (record { value = item.value; version = v })) (get_by_text old.rows key)) number
-          ∙ ap (λ (o : Option Row). cond (bytes_eq key item.key) (Some (record { value = item.value; version = 1 + length (writes history) })) o) (stands.rows key)
-          ∙ sym (row_in-snoc (writes history) item key)
-          ∙ ap (λ ws. row_in ws key) (sym (one_write history item));
-      writes_are = omega (arith, counted, stands.writes_are, ap length (one_write history item), length-append (writes history) (item ∷ []));
-    }
+pub course_of-more : (opening : Held) (history : List Step) (entry : Step) → course_of opening (history ++ entry ∷ []) ≡ course_after opening (course_of opening history) entry
+course_of-more opening history entry = fold-append (course_after opening) (record { latest = 0; passed = []; size = opening.size }) history (entry ∷ [])
+
+last_mark-more : (faults : ℕ) (history : List Step) (entry : Step) → last_mark faults (history ++ entry ∷ []) ≡ entry.mark
+last_mark-more faults history entry = fold-append (λ mark (e : Step). e.mark) faults history (entry ∷ [])
+
+-- what is answered for what the keeper holds is a step of the history
+pub stepped : {K : Type 0} (keeping : Ghosts K) (first : Store K keeping) (history : List Step) (old new : Store K keeping) (seat : ℕ) (cmd : Cmd) (reply : Reply) (now : ℕ)
+    → Stands keeping first history old → IsAnswered (held_by keeping old) (held_by keeping new) (keeping.faults old.keeper) (keeping.faults new.keeper) now cmd reply
+    → now ≡ max old.latest (moment_of cmd) → new.latest ≡ now → new.used ≡ old.used + 1
+    → (let entry : Step = record { seat = seat; cmd = cmd; reply = reply; mark = keeping.faults new.keeper } in
+    IsStep (held_by keeping first) (keeping.faults first.keeper) history entry × Stands keeping first (history ++ entry ∷ []) new)
+stepped keeping first history old new seat cmd reply now stands answered now_is latest used =
+    let entry : Step = record { seat = seat; cmd = cmd; reply = reply; mark = keeping.faults new.keeper } in
+    let opening = held_by keeping first in
+    let course = course_of opening history in
+    let at : now ≡ now_in course cmd = now_is ∙ ap (λ n. max n (moment_of cmd)) stands.latest in
+    let here = subst (λ h. IsAnswered h (held_by keeping new) (keeping.faults old.keeper) (keeping.faults new.keeper) now cmd reply) stands.held answered in
+    let marked = subst (λ m. IsAnswered (held_in opening course) (held_by keeping new) m (keeping.faults new.keeper) now cmd reply) stands.mark here in
+    let whole = subst (λ n. IsAnswered (held_in opening course) (held_by keeping new) (last_mark (keeping.faults first.keeper) history) (keeping.faults new.keeper) n cmd reply) at marked in (
+      record { reply = whole.reply_is; mark = whole.faults },
+      record {
+        held =
+            whole.held_is
+            ∙ held_in-with opening course (now_in course cmd) (written (held_in opening course) (now_in course cmd) cmd reply)
+            ∙ ap (held_in opening) (sym (course_of-more opening history entry));
+        mark = sym (last_mark-more (keeping.faults first.keeper) history entry);
+        latest = latest ∙ at ∙ ap (λ (c : Course). c.latest) (sym (course_of-more opening history entry));
+        used = omega (arith, used, stands.used, length-append history (entry ∷ []));
+      },
+    )

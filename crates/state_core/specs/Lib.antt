@@ -1,1 +1,11 @@
+pub mod Current
+pub mod Write
+pub mod Judged
+pub mod Reply
+pub mod Written
+pub mod History
+pub mod Pending
+pub mod Batch
+pub mod Laws
+pub mod Taken
 pub mod Store

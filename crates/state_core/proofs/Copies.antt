@@ -1,0 +1,28 @@
+-- Pending changes are copied one after the other.
+use Rattle.std.proofs.Common.{◌≡◌, ◌≤◌, ◌<◌, ◌+◌, ◌++◌, ◌∷◌, [], ℕ, List, length, take, map, get_or, append_assoc, ap, sym, ◌∙◌}
+use Rattle.std.proofs.lemmas.List.{take_more, take_all, map-append}
+use Rattle.keeper_core.specs.Rows.{Rows}
+use Rattle.keeper_core.specs.declared.changes.Change.{Change}
+use Rattle.state_core.specs.declared.batch.Pending.{Pending}
+use Rattle.state_core.specs.Pending.{change_of}
+use Rattle.state_core.specs.Write.{Write, numbered, sweep}
+use Rattle.state_core.proofs.Sweeps.{numbered-swept}
+
+pub copied_more : (first : List Change) (items : List Pending) (i : ℕ) (item : Pending) (old new : List Change) (change : Change) → old ≡ first ++ map change_of (take i items)
+    → i < length items → item ≡ get_or items i item → change ≡ change_of item → new ≡ old ++ change ∷ [] → new ≡ first ++ map change_of (take (i + 1) items)
+copied_more first items i item old new change so_far within is copied pushed =
+    pushed
+    ∙ ap (λ c. old ++ c ∷ []) copied
+    ∙ ap (λ xs. xs ++ change_of item ∷ []) so_far
+    ∙ append_assoc first (map change_of (take i items)) (change_of item ∷ [])
+    ∙ ap (λ xs. first ++ xs) (sym (map-append change_of (take i items) (item ∷ [])))
+    ∙ ap (λ p. first ++ map change_of (take i items ++ p ∷ [])) is
+    ∙ ap (λ xs. first ++ map change_of xs) (sym (take_more items i item within))
+
+pub copied_all : (rows : Rows) (moment next : ℕ) (writes : List Write) (items : List Pending) (i : ℕ) (changes : List Change) → changes ≡ numbered next (sweep rows moment) ++ map change_of (take i items)
+    → length items ≤ i → map change_of items ≡ numbered next writes → changes ≡ numbered next (sweep rows moment ++ writes)
+copied_all rows moment next writes items i changes so_far all is =
+    so_far
+    ∙ ap (λ xs. numbered next (sweep rows moment) ++ map change_of xs) (take_all i items all)
+    ∙ ap (λ xs. numbered next (sweep rows moment) ++ xs) is
+    ∙ numbered-swept rows moment next writes

@@ -1,0 +1,112 @@
+//! What keys have at a moment, as a store answers it.
+ghost use Rattle.std.specs.Prelude.{◌≡◌, ◌⊎◌, OnOk, IfOk, ℕ, ◌+◌, ◌≤◌, map, option_map};
+ghost use Rattle.keeper_core.specs.Rows.{seen};
+ghost use Rattle.state_core.specs.Current.{live_at, version_of};
+ghost use Rattle.state_core.specs.Reply.{reading, found_of, bulk_row, bulk_len, bulk_reading};
+
+use crate::{BulkRow, Found, Keys, Reply, Rows};
+use keeper_core::{Keeper, RowView};
+use side_base::{Blob, NoMemory, Text};
+use std::alloc::Global;
+
+/// The row of a key, where it is live at a moment.
+pub(crate) fn live_row<'a, K: Keeper>(keeper: &'a K, key: &str, moment: u64) -> Option<RowView<'a>>
+    ensures { seen result ≡ live_at (K.rows keeper.now) moment key.now }
+{
+    let row = keeper.find(key.as_bytes())?;
+    if row.until == 0 || moment < row.until {
+        Some(row)
+    } else {
+        None
+    }
+}
+
+/// The version of the row of a key, where it is live at a moment.
+pub(crate) fn live_version<K: Keeper>(keeper: &K, key: &str, moment: u64) -> Option<u64>
+    ensures { result ≡ version_of (live_at (K.rows keeper.now) moment key.now) }
+{
+    match live_row(keeper, key, moment) {
+        Some(row) => Some(row.version),
+        None => None,
+    }
+}
+
+/// The reply to a `Get`.
+pub(crate) fn get<K: Keeper>(alloc: Global, keeper: &K, key: &Text, moment: u64) -> Reply
+    ensures { (result ≡ reading (live_at (K.rows keeper.now) moment key.now)) ⊎ (result ≡ Reply.NoMemory) }
+{
+    match live_row(keeper, key.as_str(), moment) {
+        None => Reply::Absent,
+        Some(row) => match Blob::from_bytes(alloc, row.value) {
+            Ok(value) => Reply::Value {
+                value,
+                version: row.version,
+            },
+            Err(_) => Reply::NoMemory,
+        },
+    }
+}
+
+/// The most bytes of values that a bulk get answers.
+pub const BULK_LIMIT: u128 = 67_108_864;
+
+/// The reply to a `Bulk`. No value is copied where they are too long.
+pub(crate) fn bulk<K: Keeper>(alloc: Global, keeper: &K, keys: &Keys, moment: u64) -> Reply
+    ensures { (result ≡ bulk_reading (K.rows keeper.now) moment keys.now) ⊎ (result ≡ Reply.NoMemory) }
+{
+    let len = bulk_len(keeper, keys, moment);
+    if len > BULK_LIMIT {
+        return Reply::TooLong { len };
+    }
+    match bulk_rows(alloc, keeper, keys, moment) {
+        Ok(rows) => Reply::Rows { rows },
+        Err(_) => Reply::NoMemory,
+    }
+}
+
+/// The bytes of the values that keys have.
+fn bulk_len<K: Keeper>(keeper: &K, keys: &Keys, moment: u64) -> u128
+    ensures { result ≡ bulk_len (K.rows keeper.now) moment keys.now }
+{
+    let mut len = 0;
+    for place in 0..keys.len() {
+        if let Some(row) = live_row(keeper, keys.at(place).as_str(), moment) {
+            len += row.value.len() as u128;
+        }
+    }
+    len
+}
+
+/// What each key has, copied.
+fn bulk_rows<K: Keeper>(
+    alloc: Global,
+    keeper: &K,
+    keys: &Keys,
+    moment: u64,
+) -> Result<Rows, NoMemory>
+    ensures { IfOk result (λ rows. rows ≡ map (bulk_row (K.rows keeper.now) moment) keys.now) }
+{
+    let mut rows = Rows::new(alloc);
+    for place in 0..keys.len() {
+        let key = keys.at(place);
+        let found = match live_row(keeper, key.as_str(), moment) {
+            Some(row) => Some(copied(alloc, &row)?),
+            None => None,
+        };
+        rows.push(BulkRow {
+            key: key.copy()?,
+            found,
+        })?;
+    }
+    Ok(rows)
+}
+
+/// A value with its version, copied.
+fn copied(alloc: Global, row: &RowView<'_>) -> Result<Found, NoMemory>
+    ensures { IfOk result (λ found. option_map found_of (seen (Some row.now)) ≡ Some found) }
+{
+    Ok(Found {
+        value: Blob::from_bytes(alloc, row.value)?,
+        version: row.version,
+    })
+}
