@@ -1,0 +1,12 @@
+pub mod Allowed
+pub mod Cuts
+pub mod Decoding
+pub mod Ending
+pub mod Finds
+pub mod OneAnswer
+pub mod Paths
+pub mod Routing
+pub mod Seeks
+pub mod Serving
+pub mod Standing
+pub mod Tables

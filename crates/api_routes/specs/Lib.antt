@@ -1,0 +1,6 @@
+pub mod Methods
+pub mod Parameters
+pub mod Path
+pub mod Route
+pub mod Routers
+pub mod Table

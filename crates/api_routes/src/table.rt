@@ -1,0 +1,141 @@
+ghost use Rattle.api_routes.specs.Routers.{AreRows};
+ghost use Rattle.api_routes.specs.Table.{table};
+
+use crate::Methods;
+
+/// What a route does.
+#[derive(Clone, Copy, Debug, PartialEq, Eq)]
+pub(crate) enum Kind {
+    Save,
+    Get,
+    Delete,
+    Bulk,
+    Transact,
+    Invoke,
+    Publish,
+    Binding,
+    Health,
+    Metadata,
+    SetMetadata,
+    Shutdown,
+}
+
+/// A row of the table of routes.
+#[derive(Clone, Copy)]
+pub(crate) struct Row {
+    pub(crate) methods: Methods,
+    /// The path: between two slashes stands a literal or, in braces, a parameter of one segment. A parameter with a star
+    /// is all that is left.
+    pub(crate) path: &'static str,
+    pub(crate) kind: Kind,
+}
+
+const DELETE: Methods = Methods {
+    delete: true,
+    ..Methods::NONE
+};
+
+const GET: Methods = Methods {
+    get: true,
+    ..Methods::NONE
+};
+
+const POST: Methods = Methods {
+    post: true,
+    ..Methods::NONE
+};
+
+const PUT: Methods = Methods {
+    put: true,
+    ..Methods::NONE
+};
+
+const POST_AND_PUT: Methods = Methods {
+    post: true,
+    put: true,
+    ..Methods::NONE
+};
+
+const ALL: Methods = Methods {
+    delete: true,
+    get: true,
+    head: true,
+    options: true,
+    patch: true,
+    post: true,
+    put: true,
+};
+
+/// The path that ends the sidecar.
+pub(crate) const SHUTDOWN_PATH: &str = "/v1.0/shutdown";
+
+/// The routes of the interface.
+pub(crate) const ROUTES: [Row; 12] = [
+    Row {
+        methods: POST_AND_PUT,
+        path: "/v1.0/state/{store}",
+        kind: Kind::Save,
+    },
+    Row {
+        methods: GET,
+        path: "/v1.0/state/{store}/{key}",
+        kind: Kind::Get,
+    },
+    Row {
+        methods: DELETE,
+        path: "/v1.0/state/{store}/{key}",
+        kind: Kind::Delete,
+    },
+    Row {
+        methods: POST_AND_PUT,
+        path: "/v1.0/state/{store}/bulk",
+        kind: Kind::Bulk,
+    },
+    Row {
+        methods: POST_AND_PUT,
+        path: "/v1.0/state/{store}/transaction",
+        kind: Kind::Transact,
+    },
+    Row {
+        methods: ALL,
+        path: "/v1.0/invoke/{app}/method/{*rest}",
+        kind: Kind::Invoke,
+    },
+    Row {
+        methods: POST_AND_PUT,
+        path: "/v1.0/publish/{pubsub}/{*topic}",
+        kind: Kind::Publish,
+    },
+    Row {
+        methods: POST_AND_PUT,
+        path: "/v1.0/bindings/{name}",
+        kind: Kind::Binding,
+    },
+    Row {
+        methods: GET,
+        path: "/v1.0/healthz",
+        kind: Kind::Health,
+    },
+    Row {
+        methods: GET,
+        path: "/v1.0/metadata",
+        kind: Kind::Metadata,
+    },
+    Row {
+        methods: PUT,
+        path: "/v1.0/metadata/{name}",
+        kind: Kind::SetMetadata,
+    },
+    Row {
+        methods: POST,
+        path: SHUTDOWN_PATH,
+        kind: Kind::Shutdown,
+    },
+];
+
+/// The routes of the interface, as a slice.
+pub(crate) fn routes() -> &'static [Row]
+    ensures { AreRows result.now table }
+{
+    &ROUTES
+}
