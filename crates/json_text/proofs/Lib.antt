@@ -16,3 +16,12 @@ pub mod Spelled
 pub mod Utf8Texts
 pub mod StringTexts
 pub mod Readable
+pub mod Courses
+pub mod WrittenTexts
+pub mod Characters
+pub mod Visits
+pub mod Accepted
+pub mod NumberWords
+pub mod StringWords
+pub mod CharTexts
+pub mod Productions

@@ -32,7 +32,7 @@ not_numbered : (bytes : List ℕ) (at : ℕ) → eqb (get_or bytes at 0) 92 ≡ 
 unfolding is_numbered
 not_numbered bytes at e = rw e refl
 
-not_lone : (bytes : List ℕ) (at : ℕ) (high : Bool) → eqb (get_or bytes at 0) 92 ≡ false → is_lone high bytes at ≡ false
+pub not_lone : (bytes : List ℕ) (at : ℕ) (high : Bool) → eqb (get_or bytes at 0) 92 ≡ false → is_lone high bytes at ≡ false
 not_lone bytes at high e = let no : is_numbered bytes at ≡ false = not_numbered bytes at e in rw no refl
 
 below : (byte : ℕ) → leb 128 byte ≡ false → ltb byte 128 ≡ true

@@ -12,7 +12,7 @@ or_no : (a b : Bool) → (a || b) ≡ false → (a ≡ false) × (b ≡ false)
 or_no true b h = absurd (let bad : ⊥ = cc in bad)
 or_no false b h = (refl, h)
 
-plain_byte : (x : ℕ) → is_special x ≡ false → spelled_byte x ≡ x ∷ []
+pub plain_byte : (x : ℕ) → is_special x ≡ false → spelled_byte x ≡ x ∷ []
 unfolding spelled_byte
 plain_byte x h =
     let outer = or_no (ltb x 32 || eqb x 34) (eqb x 92) h in

@@ -15,7 +15,7 @@ use Rattle.json_text.specs.Lexeme.{least, greatest, within, leads, after_tail, a
 use Rattle.json_text.specs.Unescape.{short_value, character, character_bytes, unit_with, after_unit, unit_bytes, after_byte, completed, unescaped_from}
 use Rattle.json_text.proofs.Tables.{none_some, and_yes, or_yes, is_it}
 use Rattle.json_text.proofs.Pieces.{unescaped_cons, unescaped_nil}
-use Rattle.json_text.proofs.Utf8Texts.{Begun, is_lead, high_scalar}
+use Rattle.json_text.proofs.Utf8Texts.{IsOneChar, Begun, begun_utf8, is_lead, high_scalar}
 
 -- how the state of a word and what is open for its text fit together, after the first bytes of a character
 abbrev pub Fits : Lexeme → Pending → List ℕ → Type 0
@@ -121,13 +121,13 @@ tail_inside second zero i byte s j t after waiting begun true ea e h further =
     let low = leb-true (least second) byte range.0 in
     let bytes = between_bytes waiting byte (not_backslash byte (omega (arith, low, least_high second))) in
     inside_more i byte s j t (between waiting) (between 0) begun [] (byte ∷ []) (further_as after (plain false) (suc i) s j t (same_word after (plain false) e) further (between 0) [] (0, refl, refl)) bytes.0 bytes.1
-    (λ text u. h.whole (byte ∷ []) text (low, leb-true byte (greatest second) range.1) u)
+    (λ text u. begun_utf8 begun second 0 h (byte ∷ []) text (low, leb-true byte (greatest second) range.1) u)
 tail_inside second (suc count) i byte s j t after waiting begun true ea e h further =
     let range = and_yes (leb (least second) byte) (leb byte (greatest second)) ea in
     let low = leb-true (least second) byte range.0 in
     let high = leb-true byte (greatest second) range.1 in
     let bytes = between_bytes waiting byte (not_backslash byte (omega (arith, low, least_high second))) in
-    let longer : Begun (begun ++ byte ∷ []) any count = record { whole = λ ys rest c u. subst IsUtf8 (sym (append_assoc begun (byte ∷ []) (ys ++ rest))) (h.whole (byte ∷ ys) rest (low, high, c) u) } in
+    let longer : Begun (begun ++ byte ∷ []) any count = record { char = λ ys c. subst IsOneChar (sym (append_assoc begun (byte ∷ []) ys)) (h.char (byte ∷ ys) (low, high, c)) } in
     inside_more i byte s j t (between waiting) (between 0) begun (begun ++ byte ∷ []) (byte ∷ []) (further_as after (tail any count) (suc i) s j t (same_word after (tail any count) e) further (between 0) (begun ++ byte ∷ []) (0, refl, longer)) bytes.0 bytes.1
     (λ text u. subst IsUtf8 (append_assoc begun (byte ∷ []) text) u)
 

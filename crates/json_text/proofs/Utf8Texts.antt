@@ -1,5 +1,5 @@
 -- The text that a string spells is UTF-8.
-use Rattle.std.proofs.Common.{◌≡◌, ◌≢◌, ◌⊎◌, inl, inr, ℕ, zero, suc, ◌+◌, ◌-◌, ◌*◌, ◌/◌, ◌<◌, ◌≤◌, Bool, true, false, cond, eqb, ltb, lt-ltb, le-ltb, le-leb, List, [], ◌∷◌, ◌++◌, Some, None, refl, ◌∙◌, arith}
+use Rattle.std.proofs.Common.{append_assoc, subst, ◌≡◌, ◌≢◌, ◌⊎◌, inl, inr, ℕ, zero, suc, ◌+◌, ◌-◌, ◌*◌, ◌/◌, ◌<◌, ◌≤◌, Bool, true, false, cond, eqb, ltb, lt-ltb, le-ltb, le-leb, List, [], ◌∷◌, ◌++◌, Some, None, refl, ◌∙◌, arith}
 use Rattle.std.proofs.lemmas.Bool.{cases_lt, ltb-true, ltb-false, eqb-false}
 use Rattle.std.specs.Str.{IsUtf8}
 use lib.Utf8.{scalar, encode, next as next_byte, low_scalar}
@@ -10,15 +10,15 @@ use Rattle.json_text.specs.declared.lexeme.Lexeme.TheVariants.{Tail as tail}
 use Rattle.json_text.specs.Lexeme.{least, greatest, leads}
 use Rattle.json_text.proofs.Tables.{none_some, is_it}
 
-two : (c : ℕ) → 128 ≤ c → c < 2048 → encode c ≡ (192 + c / 64) ∷ next_byte c ∷ []
+pub two : (c : ℕ) → 128 ≤ c → c < 2048 → encode c ≡ (192 + c / 64) ∷ next_byte c ∷ []
 unfolding encode
 two c l h = rw (le-ltb c 128 l, lt-ltb c 2048 h) refl
 
-three : (c : ℕ) → 2048 ≤ c → c < 65536 → encode c ≡ (224 + c / 4096) ∷ next_byte (c / 64) ∷ next_byte c ∷ []
+pub three : (c : ℕ) → 2048 ≤ c → c < 65536 → encode c ≡ (224 + c / 4096) ∷ next_byte (c / 64) ∷ next_byte c ∷ []
 unfolding encode
 three c l h = rw (le-ltb c 128 (omega arith), le-ltb c 2048 l, lt-ltb c 65536 h) refl
 
-four : (c : ℕ) → 65536 ≤ c → encode c ≡ (240 + c / 262144) ∷ next_byte (c / 4096) ∷ next_byte (c / 64) ∷ next_byte c ∷ []
+pub four : (c : ℕ) → 65536 ≤ c → encode c ≡ (240 + c / 262144) ∷ next_byte (c / 4096) ∷ next_byte (c / 64) ∷ next_byte c ∷ []
 unfolding encode
 four c l = rw (le-ltb c 128 (omega arith), le-ltb c 2048 (omega arith), le-ltb c 65536 l) refl
 
@@ -28,35 +28,39 @@ high_scalar c l h = rw (le-ltb c 55296 (omega arith), le-leb 57344 c l, lt-ltb c
 front : (c : ℕ) (bytes rest : List ℕ) → scalar c ≡ true → encode c ≡ bytes → IsUtf8 rest → IsUtf8 (bytes ++ rest)
 front c bytes rest ok e u = (c ∷ u.0, (rw ok u.1.0, λ i. e i ++ u.1.1 i))
 
-IsNext : ℕ → Type 0
-IsNext y = (128 ≤ y) × (y < 192)
+-- the bytes are one character above ASCII
+pub record IsOneChar (bytes : List ℕ) : Type 0 where
+  pub c : ℕ
+  pub ok : scalar c ≡ true
+  pub high : 128 ≤ c
+  pub is : encode c ≡ bytes
 
-front_two : (x y : ℕ) (rest : List ℕ) → 0xc2 ≤ x → x < 0xe0 → 128 ≤ y → y < 192 → IsUtf8 rest → IsUtf8 (x ∷ y ∷ rest)
-front_two x y rest l h a b =
+char_two : (x y : ℕ) → 0xc2 ≤ x → x < 0xe0 → 128 ≤ y → y < 192 → IsOneChar (x ∷ y ∷ [])
+char_two x y l h a b =
     let c = (x - 192) * 64 + (y - 128) in
     let p : 192 + c / 64 ≡ x = omega arith in
     let q : next_byte c ≡ y = omega arith in
-    front c (x ∷ y ∷ []) rest (low_scalar c (omega arith)) (two c (omega arith) (omega arith) ∙ (λ k. p k ∷ q k ∷ []))
+    record { c = c; ok = low_scalar c (omega arith); high = omega arith; is = two c (omega arith) (omega arith) ∙ (λ k. p k ∷ q k ∷ []) }
 
 -- the number of three bytes lies between these, and is no surrogate
-front_three : (x y z : ℕ) (rest : List ℕ) → 224 ≤ x → x < 240 → 128 ≤ y → y < 192 → 128 ≤ z → z < 192 → 2048 ≤ (x - 224) * 4096 + (y - 128) * 64 + (z - 128) → ((x - 224) * 4096 + (y - 128) * 64 + (z - 128) < 55296) ⊎ (57344 ≤ (x - 224) * 4096 + (y - 128) * 64 + (z - 128)) → IsUtf8 rest → IsUtf8 (x ∷ y ∷ z ∷ rest)
-front_three x y z rest l h a b d e low gap =
+char_three : (x y z : ℕ) → 224 ≤ x → x < 240 → 128 ≤ y → y < 192 → 128 ≤ z → z < 192 → 2048 ≤ (x - 224) * 4096 + (y - 128) * 64 + (z - 128) → ((x - 224) * 4096 + (y - 128) * 64 + (z - 128) < 55296) ⊎ (57344 ≤ (x - 224) * 4096 + (y - 128) * 64 + (z - 128)) → IsOneChar (x ∷ y ∷ z ∷ [])
+char_three x y z l h a b d e low gap =
     let c = (x - 224) * 4096 + (y - 128) * 64 + (z - 128) in
     let p : 224 + c / 4096 ≡ x = omega arith in
     let q : next_byte (c / 64) ≡ y = omega arith in
     let r : next_byte c ≡ z = omega arith in
     let ok : scalar c ≡ true = elim gap [ inl s ↦ low_scalar c s | inr s ↦ high_scalar c s (omega arith) ] in
-    front c (x ∷ y ∷ z ∷ []) rest ok (three c low (omega arith) ∙ (λ k. p k ∷ q k ∷ r k ∷ []))
+    record { c = c; ok = ok; high = omega (arith, low); is = three c low (omega arith) ∙ (λ k. p k ∷ q k ∷ r k ∷ []) }
 
-front_four : (x y z w : ℕ) (rest : List ℕ) → 240 ≤ x → x < 245 → 128 ≤ y → y < 192 → 128 ≤ z → z < 192 → 128 ≤ w → w < 192 → 65536 ≤ (x - 240) * 262144 + (y - 128) * 4096 + (z - 128) * 64 + (w - 128) → (x - 240) * 262144 + (y - 128) * 4096 + (z - 128) * 64 + (w - 128) < 1114112 → IsUtf8 rest → IsUtf8 (x ∷ y ∷ z ∷ w ∷ rest)
-front_four x y z w rest l h a b d e f g low high =
+char_four : (x y z w : ℕ) → 240 ≤ x → x < 245 → 128 ≤ y → y < 192 → 128 ≤ z → z < 192 → 128 ≤ w → w < 192 → 65536 ≤ (x - 240) * 262144 + (y - 128) * 4096 + (z - 128) * 64 + (w - 128) → (x - 240) * 262144 + (y - 128) * 4096 + (z - 128) * 64 + (w - 128) < 1114112 → IsOneChar (x ∷ y ∷ z ∷ w ∷ [])
+char_four x y z w l h a b d e f g low high =
     let c = (x - 240) * 262144 + (y - 128) * 4096 + (z - 128) * 64 + (w - 128) in
     let k4 : c / 64 ≡ (x - 240) * 4096 + (y - 128) * 64 + (z - 128) = omega arith in
     let p : 240 + c / 262144 ≡ x = omega arith in
     let q : next_byte (c / 4096) ≡ y = omega arith in
     let r : next_byte (c / 64) ≡ z = rw k4 (omega arith) in
     let t : next_byte c ≡ w = omega arith in
-    front c (x ∷ y ∷ z ∷ w ∷ []) rest (high_scalar c (omega arith) high) (four c low ∙ (λ k. p k ∷ q k ∷ r k ∷ t k ∷ []))
+    record { c = c; ok = high_scalar c (omega arith) high; high = omega (arith, low); is = four c low ∙ (λ k. p k ∷ q k ∷ r k ∷ t k ∷ []) }
 
 -- the bytes that end a character of several bytes
 abbrev pub Continues : Second → ℕ → List ℕ → Type 0
@@ -67,42 +71,47 @@ Continues second (suc more) (y ∷ ys) = (least second ≤ y) × (y ≤ greatest
 
 -- with such bytes these make a character
 pub record Begun (bytes : List ℕ) (second : Second) (more : ℕ) : Type 0 where
-  pub whole : (ys rest : List ℕ) → Continues second more ys → IsUtf8 rest → IsUtf8 (bytes ++ (ys ++ rest))
+  pub char : (ys : List ℕ) → Continues second more ys → IsOneChar (bytes ++ ys)
+
+pub begun_utf8 : (bytes : List ℕ) (second : Second) (more : ℕ) → Begun bytes second more → (ys rest : List ℕ) → Continues second more ys → IsUtf8 rest → IsUtf8 (bytes ++ (ys ++ rest))
+begun_utf8 bytes second more h ys rest c u =
+    let one = h.char ys c in
+    subst IsUtf8 (append_assoc bytes ys rest) (front one.c (bytes ++ ys) rest one.ok one.is u)
 
 begun_two : (x : ℕ) → 0xc2 ≤ x → x < 0xe0 → Begun (x ∷ []) any 0
-begun_two x l h = record { whole = whole }
+begun_two x l h = record { char = char }
   where
-    whole : (ys rest : List ℕ) → Continues any 0 ys → IsUtf8 rest → IsUtf8 (x ∷ (ys ++ rest))
-    whole [] rest c u = absurd c
-    whole (y ∷ []) rest c u = front_two x y rest l h (omega (arith, c.0)) (omega (arith, c.1)) u
-    whole (y ∷ z ∷ ys) rest c u = absurd c
+    char : (ys : List ℕ) → Continues any 0 ys → IsOneChar (x ∷ ys)
+    char [] c = absurd c
+    char (y ∷ []) c = char_two x y l h (omega (arith, c.0)) (omega (arith, c.1))
+    char (y ∷ z ∷ ys) c = absurd c
 
 begun_three : (x : ℕ) (second : Second) → 224 ≤ x → x < 240 → ((y : ℕ) → least second ≤ y → y ≤ greatest second → (128 ≤ y) × (y < 192) × (2048 ≤ (x - 224) * 4096 + (y - 128) * 64) × (((x - 224) * 4096 + (y - 128) * 64 + 63 < 55296) ⊎ (57344 ≤ (x - 224) * 4096 + (y - 128) * 64))) → Begun (x ∷ []) second 1
-begun_three x second l h f = record { whole = whole }
+begun_three x second l h f = record { char = char }
   where
     gap : (y z : ℕ) → z < 192 → (((x - 224) * 4096 + (y - 128) * 64 + 63 < 55296) ⊎ (57344 ≤ (x - 224) * 4096 + (y - 128) * 64)) → ((x - 224) * 4096 + (y - 128) * 64 + (z - 128) < 55296) ⊎ (57344 ≤ (x - 224) * 4096 + (y - 128) * 64 + (z - 128))
     gap y z lt (inl s) = inl (omega (arith, s, lt))
     gap y z lt (inr s) = inr (omega (arith, s))
 
-    whole : (ys rest : List ℕ) → Continues second 1 ys → IsUtf8 rest → IsUtf8 (x ∷ (ys ++ rest))
-    whole [] rest c u = absurd c
-    whole (y ∷ []) rest c u = absurd c.2
-    whole (y ∷ z ∷ []) rest c u =
+    char : (ys : List ℕ) → Continues second 1 ys → IsOneChar (x ∷ ys)
+    char [] c = absurd c
+    char (y ∷ []) c = absurd c.2
+    char (y ∷ z ∷ []) c =
         let g = f y c.0 c.1 in
-        front_three x y z rest l h g.0 g.1 (omega (arith, c.2.0)) (omega (arith, c.2.1)) (omega (arith, g.2)) (gap y z (omega (arith, c.2.1)) g.3) u
-    whole (y ∷ z ∷ w ∷ ys) rest c u = absurd c.2
+        char_three x y z l h g.0 g.1 (omega (arith, c.2.0)) (omega (arith, c.2.1)) (omega (arith, g.2)) (gap y z (omega (arith, c.2.1)) g.3)
+    char (y ∷ z ∷ w ∷ ys) c = absurd c.2
 
 begun_four : (x : ℕ) (second : Second) → 240 ≤ x → x < 245 → ((y : ℕ) → least second ≤ y → y ≤ greatest second → (128 ≤ y) × (y < 192) × (65536 ≤ (x - 240) * 262144 + (y - 128) * 4096) × ((x - 240) * 262144 + (y - 128) * 4096 + 4095 < 1114112)) → Begun (x ∷ []) second 2
-begun_four x second l h f = record { whole = whole }
+begun_four x second l h f = record { char = char }
   where
-    whole : (ys rest : List ℕ) → Continues second 2 ys → IsUtf8 rest → IsUtf8 (x ∷ (ys ++ rest))
-    whole [] rest c u = absurd c
-    whole (y ∷ []) rest c u = absurd c.2
-    whole (y ∷ z ∷ []) rest c u = absurd c.2.2
-    whole (y ∷ z ∷ w ∷ []) rest c u =
+    char : (ys : List ℕ) → Continues second 2 ys → IsOneChar (x ∷ ys)
+    char [] c = absurd c
+    char (y ∷ []) c = absurd c.2
+    char (y ∷ z ∷ []) c = absurd c.2.2
+    char (y ∷ z ∷ w ∷ []) c =
         let g = f y c.0 c.1 in
-        front_four x y z w rest l h g.0 g.1 (omega (arith, c.2.0)) (omega (arith, c.2.1)) (omega (arith, c.2.2.0)) (omega (arith, c.2.2.1)) (omega (arith, g.2)) (omega (arith, g.3, c.2.1, c.2.2.1)) u
-    whole (y ∷ z ∷ w ∷ v ∷ ys) rest c u = absurd c.2.2
+        char_four x y z w l h g.0 g.1 (omega (arith, c.2.0)) (omega (arith, c.2.1)) (omega (arith, c.2.2.0)) (omega (arith, c.2.2.1)) (omega (arith, g.2)) (omega (arith, g.3, c.2.1, c.2.2.1))
+    char (y ∷ z ∷ w ∷ v ∷ ys) c = absurd c.2.2
 
 -- what a first byte begins
 pub record IsLead (x : ℕ) (word : Lexeme) : Type 0 where

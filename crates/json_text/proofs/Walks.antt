@@ -15,7 +15,7 @@ head_at [] (suc n) x ys h e = absurd (omega (arith, ap length h))
 head_at (y ∷ xs) zero x ys h e = cc
 head_at (y ∷ xs) (suc n) x ys h e = head_at xs n x ys h e
 
-inside_at : (xs : List Entry) (n : ℕ) (x : Entry) (ys : List Entry) → drop n xs ≡ x ∷ ys → n < length xs
+pub inside_at : (xs : List Entry) (n : ℕ) (x : Entry) (ys : List Entry) → drop n xs ≡ x ∷ ys → n < length xs
 inside_at [] zero x ys h = absurd (omega (arith, ap length h))
 inside_at [] (suc n) x ys h = absurd (omega (arith, ap length h))
 inside_at (y ∷ xs) zero x ys h = omega arith
@@ -33,15 +33,15 @@ drop_on xs ys zs n m h e = ap (λ k. drop k xs) e ∙ sym (drop-drop (length ys)
     drop_front [] zs = refl
     drop_front (y ∷ ys) zs = drop_front ys zs
 
-first_entry : (depth : ℕ) (s : Spot) (c l : Forest) → entries depth (grows s c l) ≡ record { spot = s; depth = depth; size = 1 + count c } ∷ (entries (suc depth) c ++ entries depth l)
+pub first_entry : (depth : ℕ) (s : Spot) (c l : Forest) → entries depth (grows s c l) ≡ record { spot = s; depth = depth; size = 1 + count c } ∷ (entries (suc depth) c ++ entries depth l)
 unfolding entries
 first_entry depth s c l = refl
 
-no_entries : (depth : ℕ) → entries depth empty ≡ []
+pub no_entries : (depth : ℕ) → entries depth empty ≡ []
 unfolding entries
 no_entries depth = refl
 
-grows_some : (s : Spot) (c l : Forest) → grows s c l ≢ empty
+pub grows_some : (s : Spot) (c l : Forest) → grows s c l ≢ empty
 grows_some s c l e = let bad : ⊥ = cc in bad
 
 module _ (doc : Doc) (n : ℕ) (s : Spot) (c l : Forest) (h : StandAt doc n (grows s c l)) where
@@ -52,7 +52,7 @@ module _ (doc : Doc) (n : ℕ) (s : Spot) (c l : Forest) (h : StandAt doc n (gro
   own_entry e = head_at (values_kept doc) n (record { spot = s; depth = h.depth; size = 1 + count c }) ((entries (suc h.depth) c ++ entries h.depth l) ++ h.others) whole e
 
   -- the values that it holds, and all that come after
-  behind : drop (n + 1) (values_kept doc) ≡ entries (suc h.depth) c ++ (entries h.depth l ++ h.others)
+  pub behind : drop (n + 1) (values_kept doc) ≡ entries (suc h.depth) c ++ (entries h.depth l ++ h.others)
   behind = drop_on (values_kept doc) (record { spot = s; depth = h.depth; size = 1 + count c } ∷ []) ((entries (suc h.depth) c ++ entries h.depth l) ++ h.others) n (n + 1) whole (omega arith) ∙ append_assoc (entries (suc h.depth) c) (entries h.depth l) h.others
 
   -- the values after it
@@ -70,7 +70,7 @@ row_depth doc m depth d (grows s c l) others e shallow is =
     let at : d ≡ depth = is.is entry ∙ ap (λ x. x.depth) (head_at (values_kept doc) m entry ((entries (suc depth) c ++ entries depth l) ++ others) (e ∙ ap (λ x. x ++ others) (first_entry depth s c l)) entry) in
     omega (arith, at)
 
-row_below : (depth deeper : ℕ) (l : Forest) (others : List Entry) → depth < deeper → Shallower depth others → Shallower deeper (entries depth l ++ others)
+pub row_below : (depth deeper : ℕ) (l : Forest) (others : List Entry) → depth < deeper → Shallower depth others → Shallower deeper (entries depth l ++ others)
 unfolding entries
 row_below depth deeper empty [] lt shallow = tt
 row_below depth deeper empty (o ∷ others) lt shallow = omega (arith, lt, shallow)

@@ -13,3 +13,7 @@ pub mod Doc
 pub mod Piece
 pub mod Causes
 pub mod Spelling
+pub mod Written
+pub mod Visits
+pub mod Productions
+pub mod Words

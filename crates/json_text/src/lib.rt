@@ -4,6 +4,7 @@
 mod doc;
 mod error;
 mod kind;
+pub mod laws;
 mod lexeme;
 mod parse;
 mod part;

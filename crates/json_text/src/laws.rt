@@ -1,0 +1,35 @@
+//! What holds of the definitions that the contracts cite, as functions whose contract is the law.
+ghost use Rattle.std.specs.Prelude.{◌≡◌, ℕ, ◌<◌, List, ◌↔◌};
+ghost use Rattle.std.specs.List.{AllByRecursion};
+ghost use Rattle.std.specs.Str.{IsUtf8};
+ghost use Rattle.json_text.specs.declared.doc.Doc.{Doc};
+ghost use Rattle.json_text.specs.declared.doc.Node.{Node};
+ghost use Rattle.json_text.specs.declared.spot.Spot.{Spot};
+ghost use Rattle.json_text.specs.Forest.{Forest, grows, count};
+ghost use Rattle.json_text.specs.Doc.{StandsAt, Shows};
+ghost use Rattle.json_text.specs.Visits.{IsVisited, HasValue};
+ghost use Rattle.json_text.specs.declared.kind.Kind.{Kind};
+ghost use Rattle.json_text.specs.Productions.{Char, IsChar, inside_of, text_of};
+ghost use Rattle.json_text.specs.Unescape.{unescaped};
+ghost use Rattle.json_text.specs.Words.{HasWord, HasProduced};
+ghost use Rattle.json_text.specs.Written.{ReadsBack};
+
+/// What `push_string` writes of a text is a JSON text of one string in which nothing is wrong, so that `read` takes it
+/// unless memory runs out; and the text of that string, as `Doc::text_of` tells it, is the text that was written.
+pub fn a_written_text_reads_back()
+    ensures { (text : List ℕ) → IsUtf8 text → ReadsBack text }
+{}
+
+/// At each node of a document, `Doc::first` and then `Doc::next` until there is none visit all items of the list, or the
+/// values of all members of the map, each once and in order. Each value of a text that was read has such a node.
+pub fn a_walk_visits_all_items()
+    ensures visits { (doc : Doc) (node : Node) (spot : Spot) (children later : Forest) → StandsAt doc node (grows spot children later) → IsVisited doc node children }
+    ensures stands { (doc : Doc) (bytes : List ℕ) (node : Node) (shows : Shows doc bytes) → node.number < count shows.values → HasValue doc node }
+{}
+
+/// The words of the grammar are those of the productions of RFC 8259, and the text of a string is the one that its
+/// characters spell.
+pub fn words_are_those_of_the_productions()
+    ensures words { (kind : Kind) (i j : ℕ) (s t : List ℕ) → HasWord kind i s j t ↔ HasProduced kind i s j t }
+    ensures texts { (chars : List Char) → AllByRecursion IsChar chars → unescaped (inside_of chars) ≡ text_of chars }
+{}
