@@ -1,0 +1,20 @@
+use Rattle.std.proofs.Common.{◌≡◌, ◌+◌, ◌++◌, ◌∷◌, ◌<◌, [], ℕ, List, drop, length, sym, ap, subst, ◌∙◌, arith}
+use Rattle.std.specs.Borrow.{Bor}
+use Rattle.yaml_subset.specs.Texts.{texts}
+use Rattle.yaml_subset.proofs.Blocks.{last_blank, last_other, none_left}
+use Rattle.yaml_subset.proofs.block.without_blank_lines.Goals as goal
+
+abbrev no_line : Bor (List ℕ)
+no_line = record { ref_ptr = (0, 0); now = [] }
+
+pub returns-then-not-is_blank : goal.returns-then-not-is_blank
+returns-then-not-is_blank c = last_other c.loop-count.count c.args.block.now no_line c.loop-count-test.true c.loop-count.invariant.inside (sym c.is_blank.ensures ∙ c.if-not-is_blank.true) ∙ c.loop-count.invariant.same
+
+pub loop-count-preserved : goal.loop-count-preserved
+loop-count-preserved c = record {
+  inside = omega (arith, c.loop-count.invariant.inside);
+  same = last_blank c.loop-count.count c.args.block.now no_line c.loop-count-test.true c.loop-count.invariant.inside (sym c.is_blank.ensures ∙ c.if-not-is_blank.false) ∙ c.loop-count.invariant.same;
+}
+
+pub returns : goal.returns
+returns c = sym (none_left c.loop-count.count c.args.block.now c.loop-count-test.false) ∙ c.loop-count.invariant.same

@@ -1,0 +1,33 @@
+use Rattle.std.proofs.Common.{◌≡◌, ◌∷◌, ◌++◌, [], ℕ, List, length, refl, sym, ap, ◌∙◌, arith}
+use Rattle.std.specs.Prelude.{map}
+use Rattle.yaml_subset.specs.declared.open.Open.{Open}
+use Rattle.yaml_subset.specs.declared.kind.PartKind.TheVariants as kinds
+use Rattle.yaml_subset.specs.Tree.{Entry, rows, holder_kind}
+use Rattle.yaml_subset.specs.Held.{node_shown, last_with, entries_open, openings}
+use Rattle.yaml_subset.proofs.Opens.{openings_length}
+use Rattle.yaml_subset.proofs.Growth.{shown_append, shown_length, set_rows, begun, opened_more}
+use Rattle.yaml_subset.proofs.reader.Reader.begin.Goals as goal
+
+pub returns : goal.returns
+returns c front stands waits =
+    let h = c.args.row.holder in
+    let k = c.args.row.column in
+    let frames = front.frames in
+    let depth : c.len-2.result ≡ length frames = omega (arith, c.len-2.ensures, ap length stands.openings_are, openings_length frames) in
+    let set : map node_shown c.set_last.new.nodes.items ≡ entries_open frames (rows h k) =
+    c.in_ok-set_last.ensures ∙ ap (λ x. last_with x c.new.result.items (map node_shown c.args.self.now.nodes.items)) c.kind_of_holder.ensures
+    ∙ ap (λ x. last_with (holder_kind h) x (map node_shown c.args.self.now.nodes.items)) c.new.ensures.items
+    ∙ ap (last_with (holder_kind h) []) (stands.nodes ∙ ap (entries_open frames) waits) ∙ set_rows h k frames in
+    let first : c.len.result ≡ length (entries_open frames (rows h k)) = omega (arith, c.len.ensures, shown_length c.set_last.new.nodes.items, ap length set) in
+    record {
+      nodes = ap (map node_shown) c.in_ok-push-2.ensures.items
+          ∙ shown_append c.set_last.new.nodes.items (c.node_of-node.result ∷ [])
+          ∙ ap (λ l. l ++ (node_shown c.node_of-node.result ∷ [])) set
+          ∙ ap (λ (e : Entry). entries_open frames (rows h k) ++ (e ∷ [])) (c.node_of-node.ensures ∙ ap (λ n. record { depth = n; line = c.args.row.line; kind = kinds.Empty; name = c.args.row.name.items; text = [] }) depth)
+          ∙ begun h k c.args.row.line c.args.row.name.items frames;
+      openings_are = c.in_ok-push.ensures.items
+          ∙ ap (λ l. l ++ (record { holder = h; column = k; first = c.len.result } ∷ [])) stands.openings_are
+          ∙ ap (λ n. openings frames ++ (record { holder = h; column = k; first = n } ∷ [])) first
+          ∙ opened_more h k c.args.row.line c.args.row.name.items frames;
+      tip = refl;
+    }

@@ -1,0 +1,6 @@
+-- Lines that are lent.
+use Rattle.std.specs.Prelude.{ℕ, List, map}
+use Rattle.std.specs.Borrow.{Bor}
+
+abbrev pub texts : List (Bor (List ℕ)) → List (List ℕ)
+texts lines = map (λ line. line.now) lines

@@ -1,0 +1,280 @@
+// What a line adds to what has been read.
+ghost use Rattle.std.specs.Prelude.{◌≡◌, ◌==◌, ◌&&◌, ◌++◌, ◌∷◌, [], ℕ, List, Some, Ok, true, false, IfOk, OnOk, bytes_eq, map, take, drop, length, if◌then◌else◌};
+ghost use Rattle.std.specs.List.{list_any};
+ghost use Rattle.yaml_subset.specs.Front.{Frame, Front};
+ghost use Rattle.yaml_subset.specs.Held.{Stands, node_shown, is_row_named, last_with, Led, Placed, Turned};
+ghost use Rattle.yaml_subset.specs.Kept.{kept_count};
+ghost use Rattle.yaml_subset.specs.LineShown.{value_shown};
+ghost use Rattle.yaml_subset.specs.Refusal.{is_holder, is_absent, may_begin, is_deep, turned, may_have, misplaced, misplaced_in, at_line, with_lead, with_value, counts_as_level, leaf_said, with_leaf};
+ghost use Rattle.yaml_subset.specs.Shown.{leaf_shown, spelled_shown, item_shown};
+ghost use Rattle.yaml_subset.specs.Tree.{absent, leaf, empty, holder_kind, item_entries};
+
+use crate::error::YamlErr;
+use crate::kind::PartKind;
+use crate::line::Value;
+use crate::node::Node;
+use crate::open::{Holder, Open, Tip};
+use crate::reader::Reader;
+use crate::value::{Item, Leaf, Spelled};
+use std::alloc::{AllocError, Global};
+
+/// A row that begins: what holds it, its column, its line and its name.
+#[derive(Drop)]
+pub struct Row {
+    pub holder: Holder,
+    pub column: usize,
+    pub line: usize,
+    pub name: Vec<u8>,
+}
+
+fn kind_of_holder(holder: Holder) -> PartKind
+    ensures { result ≡ holder_kind holder }
+{
+    match holder {
+        Holder::File => PartKind::Sequence,
+        Holder::Mapping => PartKind::Mapping,
+        Holder::Sequence => PartKind::Sequence,
+    }
+}
+
+fn node_of(alloc: Global, depth: usize, line: usize, name: Vec<u8>) -> Node
+    ensures { node_shown result ≡ record { depth = depth; line = line; kind = PartKind.Empty; name = name.items; text = [] } }
+{
+    Node {
+        depth,
+        line,
+        kind: PartKind::Empty,
+        name,
+        text: Vec::new(alloc),
+    }
+}
+
+fn is_node_named(node: &Node, depth: usize, name: &[u8]) -> bool
+    ensures { result ≡ is_row_named depth name.now (node_shown node.now) }
+{
+    node.depth == depth && name == node.name.as_slice()
+}
+
+// Whether a row this deep has that name, from the first one on.
+fn is_named(nodes: &[Node], first: usize, depth: usize, name: &[u8]) -> bool
+    ensures { result ≡ list_any (λ node. is_row_named depth name.now (node_shown node)) (drop first nodes.now) }
+{
+    nodes
+        .iter()
+        .skip(first)
+        .any(|node| is_node_named(node, depth, name))
+}
+
+// Whether an earlier member of the innermost mapping has that name.
+fn is_taken(nodes: &[Node], opened: &[Open], depth: usize, name: &[u8]) -> bool
+    ensures { (outer : List Open) (last : Open) → opened.now ≡ outer ++ last ∷ [] → result ≡ (is_holder last.holder Holder.Mapping && list_any (λ node. is_row_named depth name.now (node_shown node)) (drop last.first nodes.now)) }
+{
+    match opened.split_last() {
+        Some((part, _)) => match part.holder {
+            Holder::Mapping => is_named(nodes, part.first, depth, name),
+            Holder::File => false,
+            Holder::Sequence => false,
+        },
+        None => false,
+    }
+}
+
+// The same of lists that the caller names.
+fn is_name_taken(nodes: &[Node], opened: &[Open], depth: usize, name: &[u8]) -> bool
+    ensures { (outer : List Open) (last : Open) (all : List Node) (text : List ℕ) → opened.now ≡ outer ++ last ∷ [] → nodes.now ≡ all → name.now ≡ text → result ≡ (is_holder last.holder Holder.Mapping && list_any (λ node. is_row_named depth text (node_shown node)) (drop last.first all)) }
+{
+    is_taken(nodes, opened, depth, name)
+}
+
+fn tip_for(plain: bool) -> Tip
+    ensures { result ≡ (if plain then Tip.Plain else Tip.Other) }
+{
+    if plain { Tip::Plain } else { Tip::Other }
+}
+
+// Gives the last node a kind and a text.
+fn set_last(nodes: &mut Vec<Node>, kind: PartKind, text: Vec<u8>) -> Result<(), AllocError>
+    ensures { OnOk result (map node_shown nodes.new.items ≡ last_with kind text.items (map node_shown nodes.old.items)) }
+{
+    match nodes.pop() {
+        Some(mut node) => {
+            node.kind = kind;
+            node.text = text;
+            nodes.push(node)?;
+            Ok(())
+        }
+        None => Ok(()),
+    }
+}
+
+fn push_items(
+    alloc: Global,
+    nodes: &mut Vec<Node>,
+    depth: usize,
+    line: usize,
+    items: Vec<Item>,
+) -> Result<(), AllocError>
+    ensures { OnOk result (map node_shown nodes.new.items ≡ map node_shown nodes.old.items ++ item_entries depth line (map item_shown items.items)) }
+{
+    for item in items {
+        nodes.push(Node {
+            depth,
+            line,
+            kind: item.kind,
+            name: Vec::new(alloc),
+            text: item.text,
+        })?;
+    }
+    Ok(())
+}
+
+fn nests_deeper(leaf: &Spelled<Leaf>) -> bool
+    ensures { result ≡ counts_as_level (spelled_shown leaf_shown leaf.now) }
+{
+    match leaf {
+        Spelled::Good(leaf) => match leaf.kind {
+            PartKind::Scalar => false,
+            PartKind::Empty => false,
+            PartKind::Sequence => true,
+            PartKind::Mapping => true,
+        },
+        Spelled::LeftOut(_) => false,
+        Spelled::Wrong(counts) => *counts,
+    }
+}
+
+impl Reader {
+    // Rows begin in what the last row has.
+    fn begin(&mut self, alloc: Global, row: Row) -> Result<(), AllocError>
+        ensures { OnOk result ((front : Front) → Stands self.old front → front.tip ≡ absent → Stands self.new (record { frames = record { holder = row.holder; column = row.column; before = empty; line = row.line; name = row.name.items } ∷ front.frames; tip = absent })) }
+    {
+        set_last(&mut self.nodes, kind_of_holder(row.holder), Vec::new(alloc))?;
+        let part = Open {
+            holder: row.holder,
+            column: row.column,
+            first: self.nodes.len(),
+        };
+        let node = node_of(alloc, self.opened.len(), row.line, row.name);
+        self.opened.push(part)?;
+        self.nodes.push(node)?;
+        self.tip = Tip::Absent;
+        Ok(())
+    }
+
+    // The rows of which so many parts are kept take one more. Tells whether its name is taken.
+    fn turn(&mut self, alloc: Global, count: usize, row: Row) -> Result<bool, AllocError>
+        ensures { IfOk result (λ repeated. (front : Front) → Stands self.old front → kept_count row.holder row.column front.frames ≡ Some count → Turned self.new repeated (turned row.holder row.column row.line row.name.items front.frames front.tip empty)) }
+    {
+        self.opened.truncate(count);
+        let depth = count.saturating_sub(1);
+        let repeated = is_name_taken(&self.nodes, &self.opened, depth, &row.name);
+        self.nodes.push(node_of(alloc, depth, row.line, row.name))?;
+        self.tip = Tip::Absent;
+        Ok(repeated)
+    }
+
+    // Rows begin with the lead of one.
+    fn lead_in(&mut self, alloc: Global, row: Row) -> Result<bool, YamlErr>
+        ensures { (front : Front) (first : ℕ) → Stands self.old front → (is_absent front.tip && may_begin front.frames row.holder row.column) ≡ true → is_deep front.frames ≡ false → Led self.new result (at_line row.line first (with_lead row.holder row.column row.line row.name.items front)) }
+    {
+        match self.begin(alloc, row) {
+            Ok(()) => Ok(false),
+            Err(_) => Err(YamlErr::NoMemory),
+        }
+    }
+
+    // Rows that are open go on with the lead of one.
+    fn lead_on(&mut self, alloc: Global, row: Row) -> Result<bool, YamlErr>
+        ensures { (front : Front) (first : ℕ) → Stands self.old front → (is_absent front.tip && may_begin front.frames row.holder row.column) ≡ false → Led self.new result (at_line row.line first (with_lead row.holder row.column row.line row.name.items front)) }
+    {
+        match self.kept(row.holder, row.column) {
+            Some(count) => match self.turn(alloc, count, row) {
+                Ok(repeated) => Ok(repeated),
+                Err(_) => Err(YamlErr::NoMemory),
+            },
+            None => Err(misplaced_error(row.line, self.has_column_at(row.column))),
+        }
+    }
+
+    /// Takes the lead of a row, which `first` begins. Tells whether its name is taken.
+    pub(crate) fn lead(&mut self, alloc: Global, row: Row, first: u8) -> Result<bool, YamlErr>
+        ensures { (front : Front) → Stands self.old front → Led self.new result (at_line row.line first (with_lead row.holder row.column row.line row.name.items front)) }
+    {
+        if self.begins_at(row.holder, row.column) {
+            if self.is_full() {
+                return Err(YamlErr::LeftOut {
+                    line: row.line,
+                    what: first,
+                });
+            }
+            return self.lead_in(alloc, row);
+        }
+        self.lead_on(alloc, row)
+    }
+
+    // The last row has this value.
+    fn set(&mut self, alloc: Global, line: usize, value: Leaf) -> Result<(), AllocError>
+        ensures { OnOk result ((front : Front) (column : ℕ) → Stands self.old front → front.tip ≡ absent → may_have front.frames column ≡ true → Stands self.new (record { frames = front.frames; tip = leaf line column (leaf_shown value) })) }
+    {
+        set_last(&mut self.nodes, value.kind, value.text)?;
+        push_items(alloc, &mut self.nodes, self.opened.len(), line, value.items)?;
+        self.tip = tip_for(value.plain);
+        Ok(())
+    }
+
+    // The last row has what this spells, where it spells something.
+    fn set_spelled(
+        &mut self,
+        alloc: Global,
+        line: usize,
+        leaf: Spelled<Leaf>,
+    ) -> Result<(), YamlErr>
+        ensures { (front : Front) (column : ℕ) → Stands self.old front → front.tip ≡ absent → may_have front.frames column ≡ true → Placed self.new result (Ok (record { frames = front.frames; tip = leaf_said line column (spelled_shown leaf_shown leaf) })) }
+    {
+        match leaf {
+            Spelled::Good(leaf) => match self.set(alloc, line, leaf) {
+                Ok(()) => Ok(()),
+                Err(_) => Err(YamlErr::NoMemory),
+            },
+            Spelled::LeftOut(_) => Ok(()),
+            Spelled::Wrong(_) => Ok(()),
+        }
+    }
+
+    // Whether what this spells would be one level too deep.
+    fn is_too_deep(&self, leaf: &Spelled<Leaf>) -> bool
+        ensures { (front : Front) → Stands self.now front → result ≡ (counts_as_level (spelled_shown leaf_shown leaf.now) && is_deep front.frames) }
+    {
+        let nests = nests_deeper(leaf);
+        let full = self.is_full();
+        nests && full
+    }
+
+    /// Takes a value.
+    pub(crate) fn value(&mut self, alloc: Global, line: usize, value: Value) -> Result<(), YamlErr>
+        ensures { (front : Front) → Stands self.old front → Placed self.new result (with_leaf line (Some (value_shown value)) front) }
+    {
+        let column = value.column;
+        if !self.has_at(column) {
+            return Err(misplaced_error(line, self.has_column_at(column)));
+        }
+        if self.is_too_deep(&value.leaf) {
+            return Err(YamlErr::LeftOut {
+                line,
+                what: value.first,
+            });
+        }
+        self.set_spelled(alloc, line, value.leaf)
+    }
+}
+
+// Something stands in a column of an open part, but is of another kind, or stands in no such column.
+fn misplaced_error(line: usize, has_column: bool) -> YamlErr
+    ensures { result ≡ misplaced line 0 (misplaced_in has_column) }
+{
+    if has_column {
+        YamlErr::Scalar { line }
+    } else {
+        YamlErr::Indent { line }
+    }
+}

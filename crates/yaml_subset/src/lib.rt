@@ -1,0 +1,36 @@
+//! The subset of YAML 1.2 in which resource files are written, read exactly.
+#![tactic(auto)]
+
+mod blank;
+mod block;
+mod docs;
+mod error;
+mod flow;
+mod found;
+mod grow;
+mod kind;
+mod left;
+mod line;
+mod node;
+mod nodes;
+mod open;
+mod parts;
+mod piece;
+mod place;
+mod plain;
+mod quoted;
+mod read;
+mod reader;
+mod scalar;
+mod shallow;
+mod source;
+mod take;
+#[cfg(test)]
+mod tests;
+mod value;
+mod walk;
+
+pub use docs::{Docs, Part};
+pub use error::YamlErr;
+pub use kind::PartKind;
+pub use read::read_docs;

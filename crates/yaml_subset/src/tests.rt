@@ -1,0 +1,3 @@
+mod files;
+mod refusals;
+mod walks;
