@@ -1,4 +1,4 @@
-ghost use Rattle.std.specs.Prelude.{◌≡◌, ◌≤◌, ◌+◌, ℕ, max, Option, Some, List, length, take, drop, IfOk, OnOk, OnErr};
+ghost use Rattle.std.specs.Prelude.{◌≡◌, ◌≤◌, ◌+◌, ℕ, max, Option, Some, None, List, length, take, drop, IfOk, OnOk, OnErr};
 ghost use Rattle.side_world.specs.Faults.{Rose};
 ghost use Rattle.side_world.specs.Disk.{overwritten, Torn, Becomes, ComesOf, NoNew, LeavesOnly, GoesOn};
 
@@ -9,7 +9,7 @@ use crate::Failed;
 /// A crash may come at each moment, inside a call too. Between two syncs each range that was written, and what lies past the
 /// old end, may then hold any bytes; other bytes stay. After a `sync` that succeeds a crash leaves what a read gives.
 ///
-/// What is said of contents and of crashes is said of a disk that tells them, as one in memory does; a real disk tells none.
+/// What is said of contents and of crashes is said of a disk that tells them, as one in memory does; a real disk tells none, ever.
 pub trait Disk: Drop {
     // What a read gives, where the disk tells it.
     ghost contents: { Self → Option (List ℕ) };
@@ -58,6 +58,7 @@ pub trait Disk: Drop {
         requires { at ≤ size self.old }
         ensures written { OnOk result (Becomes (contents self.old) (contents self.new) (λ old new. new ≡ overwritten at piece.now old)) }
         ensures torn { OnErr result (Becomes (contents self.old) (contents self.new) (Torn at (length piece.now))) }
+        ensures untold { contents self.old ≡ None → contents self.new ≡ None }
         ensures size { OnOk result (size self.new ≡ max (size self.old) (at + length piece.now)) }
         ensures no_shorter { size self.old ≤ size self.new }
         ensures no_longer { size self.new ≤ max (size self.old) (at + length piece.now) }
