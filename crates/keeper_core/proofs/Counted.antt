@@ -13,7 +13,7 @@ use Rattle.keeper_core.specs.declared.changes.Change.{Change}
 use Rattle.keeper_core.specs.declared.changes.Change.TheVariants.{Put, Remove}
 use Rattle.keeper_core.proofs.Sorted.{Key, total}
 use Rattle.keeper_core.proofs.Sizes.{entries-remove}
-use Rattle.keeper_core.proofs.Table.{entries-rows_of, rows_of-empty}
+use Rattle.keeper_core.proofs.Table.{entries-sorted_rows, sorted_rows-empty}
 
 -- each version is below this number
 abbrev Below : ℕ → Entry → Type 0
@@ -65,7 +65,7 @@ counted-after_changes next later rows changes counted grows most below =
     }
 
 entries-empty : entries {X = Row} {R = byte_order} empty ≡ []
-entries-empty = ap entries (sym rows_of-empty) ∙ entries-rows_of [] refl
+entries-empty = ap entries (sym sorted_rows-empty) ∙ entries-sorted_rows [] refl
 
 pub counted-empty : (rows : Rows) → rows ≡ empty → IsCounted rows 1
 counted-empty rows is = record {

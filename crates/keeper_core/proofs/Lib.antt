@@ -1,5 +1,7 @@
 pub mod Counted
+pub mod Ends
 pub mod Found
+pub mod Hashed
 pub mod Lapsed
 pub mod Least
 pub mod Overlay

@@ -9,10 +9,10 @@ use Rattle.std.proofs.lemmas.Bool.{and_parts}
 use Rattle.std.proofs.lemmas.List.Sums.{sum_by-cons}
 use Rattle.keeper_core.specs.Rows.{Row, Rows, Entry, byte_order, entry_bytes, bytes_in}
 use Rattle.keeper_core.specs.Growth.{found_bytes, bytes_at}
-use Rattle.keeper_core.specs.Tree.{rows_of, without}
+use Rattle.keeper_core.specs.Tree.{without}
 use Rattle.keeper_core.proofs.Sorted.{Key, total, antisymmetric, below_each, under_each, tied_each}
 use Rattle.keeper_core.proofs.Found.{find_under}
-use Rattle.keeper_core.proofs.Table.{shown, entries-rows_of, rows_of-without, sorted_without}
+use Rattle.keeper_core.proofs.Table.{sorted_rows, shown, entries-sorted_rows, sorted_rows-without, sorted_without}
 
 -- what entries take, counted from the front
 abbrev bytes_of : List Entry → ℕ
@@ -50,8 +50,8 @@ in_order rows = shown _ (entries_sorted rows)
 
 pub entries-remove : (rows : Rows) (k : Key) → entries (remove rows k) ≡ without k (entries rows)
 entries-remove rows k =
-    let same : rows_of (entries rows) ≡ rows = same_entries_map _ _ (entries-rows_of _ (in_order rows)) in
-    ap (λ m. entries (remove m k)) (sym same) ∙ ap entries (sym (rows_of-without (entries rows) k (in_order rows))) ∙ entries-rows_of _ (sorted_without _ k (in_order rows))
+    let same : sorted_rows (entries rows) ≡ rows = same_entries_map _ _ (entries-sorted_rows _ (in_order rows)) in
+    ap (λ m. entries (remove m k)) (sym same) ∙ ap entries (sym (sorted_rows-without (entries rows) k (in_order rows))) ∙ entries-sorted_rows _ (sorted_without _ k (in_order rows))
 
 pub bytes_in-insert : (rows : Rows) (k : Key) (row : Row) → bytes_in (insert rows k row) + bytes_at rows k ≡ bytes_in rows + entry_bytes (k, row)
 bytes_in-insert rows k row =

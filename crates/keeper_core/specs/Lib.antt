@@ -1,7 +1,9 @@
 pub mod Changes
+pub mod Ends
 pub mod Growth
 pub mod MemoryKeeper
 pub mod Prepared
 pub mod Faults
 pub mod Rows
+pub mod Table
 pub mod Tree

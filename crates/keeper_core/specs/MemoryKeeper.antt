@@ -6,7 +6,7 @@ use Rattle.keeper_core.specs.declared.keeper.KeepErr.TheVariants.{NoMemory}
 use Rattle.keeper_core.specs.declared.memory_keeper.MemoryKeeper.{MemoryKeeper}
 
 abbrev pub rows_in : MemoryKeeper → Rows
-rows_in keeper = keeper.table
+rows_in keeper = keeper.table.rows
 
 abbrev pub next_of : MemoryKeeper → ℕ
 next_of keeper = keeper.next

@@ -1,14 +1,26 @@
 -- What prepared changes stand for.
-use Rattle.std.specs.Prelude.{List, map}
+use Rattle.std.specs.Prelude.{◌≡◌, ◌≢◌, ℕ, List, Box, Option, Some, None, map}
+use Rattle.std.specs.declared.alloc.Global.{Global}
 use Rattle.keeper_core.specs.declared.changes.Change.{Change}
 use Rattle.keeper_core.specs.declared.changes.Change.TheVariants.{Put, Remove}
 use Rattle.keeper_core.specs.declared.prepared.Step.{Step}
 use Rattle.keeper_core.specs.declared.prepared.Step.TheVariants.{Place, TakeOut}
+use Rattle.keeper_core.specs.declared.tree.Node.{Node}
 
 -- the change that a step makes
 abbrev pub change_of : Step → Change
-change_of (Place node) = Put node.value.key node.value.row.value node.value.row.version node.value.row.until
-change_of (TakeOut key) = Remove key
+change_of (Place key row end) = Put key.items row.value row.version row.until
+change_of (TakeOut key) = Remove key.items
 
 abbrev pub changes_of : List Step → List Change
 changes_of steps = map change_of steps
+
+-- the node of a key whose row has this end; none, where it is live for ever
+abbrev pub IsEndOf : List ℕ → ℕ → Option (Box Node Global) → Type 0
+IsEndOf key until None = until ≡ 0
+IsEndOf key until (Some node) = (until ≢ 0) × (node.value.key.items ≡ key) × (node.value.until ≡ until)
+
+-- a step has the node that its row needs
+abbrev pub IsReady : Step → Type 0
+IsReady (Place key row end) = IsEndOf key.items row.until end
+IsReady (TakeOut key) = Unit {0}

@@ -1,19 +1,15 @@
--- What a tree of rows holds, and what it tells of that.
+-- What a tree of ends holds, and what it tells of that.
 use Rattle.std.specs.Prelude.{ℕ, ◌-◌, min, ◌==◌, if◌then◌else◌, ◌^◌, List, [], ◌∷◌, ◌++◌, Option, Some, None, Box, not}
 use Rattle.std.specs.List.{filter}
 use Rattle.std.specs.Ordering.{eq_by_cmp}
-use Rattle.std.specs.FinMap.{from_sorted}
+use Rattle.std.specs.FinMap.{put}
 use Rattle.std.specs.declared.alloc.Global.{Global}
-use Rattle.keeper_core.specs.Rows.{Row, Rows, Entry, byte_order}
+use Rattle.keeper_core.specs.Rows.{Entry, byte_order}
+use Rattle.keeper_core.specs.Ends.{end_alone}
 use Rattle.keeper_core.specs.declared.tree.Node.{Node}
-use Rattle.keeper_core.specs.declared.tree.StoredRow.{StoredRow}
-
--- the row that a node keeps
-abbrev pub row_of : StoredRow → Row
-row_of stored = record { value = stored.value; version = stored.version; until = stored.until }
 
 abbrev pub entry_of : Node → Entry
-entry_of node = (node.key, row_of node.row)
+entry_of node = (node.key.items, end_alone node.until)
 
 -- the entries of a node and of what is below it, in order
 abbrev pub listed : Node → List Entry
@@ -27,6 +23,10 @@ listed_in (Some box) = listed box.value
 abbrev pub without : List ℕ → List Entry → List Entry
 without key entries = filter (λ entry. not (eq_by_cmp byte_order key entry.0)) entries
 
+-- the entries with this end of a key, whatever it had; 0 is none
+abbrev pub with_end : List ℕ → ℕ → List Entry → List Entry
+with_end key until entries = if until == 0 then without key entries else put byte_order key (end_alone until) entries
+
 -- the last moment at which a row with this `until` is live
 abbrev pub last_moment : ℕ → ℕ
 last_moment until = if until == 0 then 2 ^ 64 - 1 else until - 1
@@ -35,7 +35,3 @@ last_moment until = if until == 0 then 2 ^ 64 - 1 else until - 1
 abbrev pub least_of : List Entry → ℕ
 least_of [] = 2 ^ 64 - 1
 least_of (entry ∷ entries) = min (last_moment entry.1.until) (least_of entries)
-
--- the rows of a list of entries that is in order
-abbrev pub rows_of : List Entry → Rows
-rows_of entries = from_sorted {R = byte_order} entries

@@ -18,8 +18,8 @@ pub(crate) fn size_after(
     size: u64,
     changes: &[Change],
 ) -> Result<u128, NoMemory>
-    requires { size ≡ bytes_in table.now }
-    ensures { IfOk result (λ len. len ≡ bytes_in (after_changes table.now changes.now)) }
+    requires { size ≡ bytes_in table.now.rows }
+    ensures { IfOk result (λ len. len ≡ bytes_in (after_changes table.now.rows changes.now)) }
 {
     let mut len = u128::from(size);
     // What each key takes that was changed so far.
@@ -36,7 +36,7 @@ pub(crate) fn size_after(
 
 /// What was noted, or else what a key takes among the rows of a table.
 fn noted_or_kept(noted: Option<u128>, table: &RowTable, key: &[u8]) -> u128
-    ensures { result ≡ unwrap_or noted (bytes_at table.now key.now) }
+    ensures { result ≡ unwrap_or noted (bytes_at table.now.rows key.now) }
 {
     match noted {
         Some(noted) => noted,
@@ -46,7 +46,7 @@ fn noted_or_kept(noted: Option<u128>, table: &RowTable, key: &[u8]) -> u128
 
 /// What a key takes among the rows of a table.
 fn bytes_at(table: &RowTable, key: &[u8]) -> u128
-    ensures { result ≡ bytes_at table.now key.now }
+    ensures { result ≡ bytes_at table.now.rows key.now }
 {
     match table.find(key) {
         Some(row) => row_bytes(key, row.value),

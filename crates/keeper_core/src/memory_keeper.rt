@@ -3,7 +3,7 @@ ghost use Rattle.keeper_core.specs.Rows.{bytes_in, IsCounted};
 
 use crate::failing::FailingCommits;
 use crate::growth::size_after;
-use crate::{Changes, KeepErr, Keeper, Prepared, RowTable, RowView};
+use crate::{Changes, KeepErr, Keeper, RowTable, RowView};
 use side_base::{Places, Sequence};
 use std::alloc::Global;
 
@@ -16,8 +16,8 @@ pub struct MemoryKeeper {
     size: u64,
     limit: u64,
     failing: FailingCommits,
-    ghost sized: { size ≡ bytes_in table },
-    ghost counted: { IsCounted table next },
+    ghost sized: { size ≡ bytes_in table.rows },
+    ghost counted: { IsCounted table.rows next },
 }
 
 impl MemoryKeeper {
@@ -37,7 +37,7 @@ impl MemoryKeeper {
     {
         MemoryKeeper {
             alloc,
-            table: RowTable::new(),
+            table: RowTable::new(alloc),
             next: 1,
             size: 0,
             limit,
@@ -110,7 +110,7 @@ impl Keeper for MemoryKeeper {
         let Ok(len) = size_after(self.alloc, &self.table, self.size, &list) else {
             return Err(KeepErr::NoMemory);
         };
-        let Ok(prepared) = Prepared::new(self.alloc, Sequence::from_vec(list)) else {
+        let Ok(prepared) = self.table.prepare(self.alloc, Sequence::from_vec(list)) else {
             return Err(KeepErr::NoMemory);
         };
         self.failing.pass();

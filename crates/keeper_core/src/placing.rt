@@ -1,22 +1,22 @@
 ghost use Rattle.std.specs.Prelude.{◌≡◌, [], ◌∷◌, ◌++◌, IsTrue};
 ghost use Rattle.std.specs.FinMap.{put, is_sorted};
 ghost use Rattle.keeper_core.specs.Rows.{byte_order};
-ghost use Rattle.keeper_core.specs.Tree.{entry_of, row_of, listed, without};
+ghost use Rattle.keeper_core.specs.Ends.{end_alone};
+ghost use Rattle.keeper_core.specs.Tree.{entry_of, listed, without};
 
 use crate::balance::{balanced, with_left, with_right};
 use crate::tree::{Node, Tree};
 use std::cmp::Ordering;
-use std::mem;
 
 /// Gives the node's key the node's row, whatever it had.
-pub(crate) fn put(tree: Tree, mut node: Box<Node>) -> Tree
+pub(crate) fn put(tree: Tree, node: Box<Node>) -> Tree
     requires { IsTrue (is_sorted byte_order tree) }
-    ensures { result ≡ put byte_order node.value.key (row_of node.value.row) tree }
+    ensures { result ≡ put byte_order node.value.key.items (end_alone node.value.until) tree }
 {
     let Some(mut at) = tree.root else {
         return alone(node);
     };
-    match node.key.bytes().cmp(at.key.bytes()) {
+    match node.key.as_slice().cmp(at.key.as_slice()) {
         Ordering::Less => {
             let left = at.take_left();
             with_left(at, put(left, node))
@@ -26,7 +26,7 @@ pub(crate) fn put(tree: Tree, mut node: Box<Node>) -> Tree
             with_right(at, put(right, node))
         }
         Ordering::Equal => {
-            mem::swap(&mut at.row, &mut node.row);
+            at.until = node.until;
             Tree::of(at)
         }
     }
@@ -40,7 +40,7 @@ pub(crate) fn remove(tree: Tree, key: &[u8]) -> Tree
     let Some(mut at) = tree.root else {
         return Tree::new();
     };
-    match key.cmp(at.key.bytes()) {
+    match key.cmp(at.key.as_slice()) {
         Ordering::Less => {
             let left = at.take_left();
             with_left(at, remove(left, key))

@@ -1,26 +1,35 @@
-ghost use Rattle.std.specs.Prelude.{◌≡◌, IsTrue, IfOk};
-ghost use Rattle.std.specs.FinMap.{is_sorted};
-ghost use Rattle.keeper_core.specs.Rows.{byte_order};
-ghost use Rattle.keeper_core.specs.Tree.{rows_of};
-ghost use Rattle.keeper_core.specs.Changes.{after_change, after_changes};
-ghost use Rattle.keeper_core.specs.Prepared.{change_of, changes_of};
+ghost use Rattle.std.specs.Prelude.{◌≡◌, IfOk};
+ghost use Rattle.keeper_core.specs.Prepared.{change_of, IsEndOf, IsReady};
 
-use crate::placing::{put, remove};
-use crate::tree::{Node, StoredRow, Tree};
+use crate::tree::{Node, Tree};
 use crate::{Change, ChangeList};
 use side_base::{Blob, NoMemory, Sequence};
 use std::alloc::Global;
 use std::marker::Model;
 
-/// A change with the memory that it takes.
+/// What a table keeps for a key.
 #[derive(Drop)]
-pub(crate) enum Step {
-    /// A node for the key and its row.
-    Place(Box<Node>),
-    TakeOut(Blob),
+pub(crate) struct StoredRow {
+    pub(crate) value: Blob,
+    pub(crate) version: u64,
+    /// In milliseconds since 1970; 0 is never.
+    pub(crate) until: u64,
 }
 
-/// Changes with all the memory that they take, so that a `RowTable` makes them without fail. Contracts see them as the changes.
+/// A change with the memory that it takes, but for a place in the table.
+#[derive(Drop)]
+pub(crate) enum Step {
+    /// The row of a key, with a node where the row has an end.
+    Place {
+        key: Vec<u8>,
+        row: StoredRow,
+        end: Option<Box<Node>>,
+    },
+    TakeOut(Vec<u8>),
+}
+
+/// Changes with all the memory that they take, so that the `RowTable` that prepared them makes them without fail. Contracts see
+/// them as the changes.
 #[derive(Drop)]
 pub struct Prepared {
     pub(crate) steps: Sequence<Step>,
@@ -28,18 +37,21 @@ pub struct Prepared {
 
 impl Model for Prepared {
     ghost use Rattle.std.specs.Prelude.{List};
+    ghost use Rattle.std.specs.List.{All};
     ghost use Rattle.keeper_core.specs.declared.changes.Change.{Change};
 
     ghost Value = { List Change };
 
-    ghost use Rattle.keeper_core.specs.Prepared.{changes_of};
+    ghost use Rattle.keeper_core.specs.Prepared.{changes_of, IsReady};
 
     ghost view = { λ a. changes_of a.steps };
+
+    ghost invariant = { λ a. All IsReady a.steps };
 }
 
 impl Prepared {
     /// Takes the memory for these changes; keys and values are moved.
-    pub fn new(alloc: Global, mut list: ChangeList) -> Result<Self, NoMemory>
+    pub(crate) fn new(alloc: Global, mut list: ChangeList) -> Result<Self, NoMemory>
         ensures { IfOk result (λ prepared. prepared ≡ list) }
     {
         let mut steps = Sequence::new(alloc);
@@ -51,7 +63,8 @@ impl Prepared {
 }
 
 fn step_of(alloc: Global, change: Change) -> Result<Step, NoMemory>
-    ensures { IfOk result (λ step. change_of step ≡ change) }
+    ensures change { IfOk result (λ step. change_of step ≡ change) }
+    ensures ready { IfOk result IsReady }
 {
     match change {
         Change::Put {
@@ -60,42 +73,34 @@ fn step_of(alloc: Global, change: Change) -> Result<Step, NoMemory>
             version,
             until,
         } => {
+            let end = end_of(alloc, key.bytes(), until)?;
             let row = StoredRow {
                 value,
                 version,
                 until,
             };
-            let node = Node {
-                key,
-                left: Tree::new(),
-                right: Tree::new(),
+            Ok(Step::Place {
+                key: key.into_vec(),
                 row,
-            };
-            Ok(Step::Place(Box::new(alloc, node)?))
+                end,
+            })
         }
-        Change::Remove { key } => Ok(Step::TakeOut(key)),
+        Change::Remove { key } => Ok(Step::TakeOut(key.into_vec())),
     }
 }
 
-/// The rows after these steps, one after the other.
-pub(crate) fn after_steps(mut rows: Tree, mut steps: Sequence<Step>) -> Tree
-    requires { IsTrue (is_sorted byte_order rows) }
-    ensures sorted { IsTrue (is_sorted byte_order result) }
-    ensures changed { rows_of result ≡ after_changes (rows_of rows) (changes_of steps) }
+/// A node for a key, where its row has an end.
+fn end_of(alloc: Global, key: &[u8], until: u64) -> Result<Option<Box<Node>>, NoMemory>
+    ensures { IfOk result (IsEndOf key.now until) }
 {
-    while let Some(step) = steps.take_first() {
-        rows = after_step(rows, step);
+    if until == 0 {
+        return Ok(None);
     }
-    rows
-}
-
-fn after_step(rows: Tree, step: Step) -> Tree
-    requires { IsTrue (is_sorted byte_order rows) }
-    ensures sorted { IsTrue (is_sorted byte_order result) }
-    ensures changed { rows_of result ≡ after_change (rows_of rows) (change_of step) }
-{
-    match step {
-        Step::Place(node) => put(rows, node),
-        Step::TakeOut(key) => remove(rows, key.bytes()),
-    }
+    let node = Node {
+        key: key.to_vec(alloc)?,
+        left: Tree::new(),
+        right: Tree::new(),
+        until,
+    };
+    Ok(Some(Box::new(alloc, node)?))
 }

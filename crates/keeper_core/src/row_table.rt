@@ -1,76 +1,183 @@
-ghost use Rattle.std.specs.Prelude.{◌≡◌, option_map};
-ghost use Rattle.std.specs.FinMap.{empty};
-ghost use Rattle.keeper_core.specs.Rows.{row_at, next_lapsed, seen};
-ghost use Rattle.keeper_core.specs.Changes.{after_changes};
+ghost use Rattle.std.specs.Prelude.{◌≡◌, ◌≤◌, ◌<◌, ◌+◌, ◌^◌, ℕ, length, option_map, is_some, IfOk, IsTrue};
+ghost use Rattle.std.specs.FinMap.{empty, find, insert, remove, is_sorted};
+ghost use Rattle.keeper_core.specs.Rows.{row_at, next_lapsed, seen, byte_order, IsCounted};
+ghost use Rattle.keeper_core.specs.Changes.{after_change, after_changes, VersionsAreBelow};
+ghost use Rattle.keeper_core.specs.Prepared.{change_of, IsReady, IsEndOf};
+ghost use Rattle.keeper_core.specs.Ends.{end_of};
+ghost use Rattle.keeper_core.specs.Table.{row_of, rows_of};
+ghost use Rattle.keeper_core.specs.Tree.{with_end, without};
 
-use crate::prepared::after_steps;
-use crate::search::{find, first_lapsed, next_lapsed};
-use crate::tree::Tree;
-use crate::{Prepared, RowView};
+use crate::placing::{put, remove};
+use crate::prepared::{Step, StoredRow};
+use crate::search::{first_lapsed, next_lapsed};
+use crate::tree::{Node, Tree};
+use crate::{ChangeList, Prepared, RowView};
+use side_base::NoMemory;
+use std::alloc::Global;
+use std::collections::HashMap;
 use std::marker::Model;
 use std::mem;
 
-/// Rows by their keys, which contracts see as a finite map.
+/// Rows by their keys, and the room for further keys. Contracts see the rows as a finite map.
 ///
-/// Each call costs a logarithm of the rows, whatever the rows expire at.
+/// A look-up costs the same among few rows and among many. A change of a row that has an end, or that gets one, and the look for a
+/// lapsed row cost a logarithm of the rows that have an end.
 #[derive(Drop)]
 pub struct RowTable {
-    rows: Tree,
+    rows: HashMap<Vec<u8>, StoredRow>,
+    /// The ends of those rows that have one.
+    ends: Tree,
 }
 
 impl Model for RowTable {
-    ghost use Rattle.std.specs.Prelude.{IsTrue};
-    ghost use Rattle.std.specs.Coded.{coded_ℕ, coded_list};
-    ghost use Rattle.std.specs.FinMap.{code, is_sorted};
-    ghost use Rattle.keeper_core.specs.Rows.{Rows, row_code, byte_order};
+    ghost use Rattle.keeper_core.specs.Table.{Table, table_code};
 
-    ghost Value = { Rows };
+    ghost Value = { Table };
 
-    ghost coded = { code (coded_list coded_ℕ) row_code };
+    ghost coded = { table_code };
 
-    ghost use Rattle.keeper_core.specs.Tree.{rows_of};
+    ghost use Rattle.std.specs.HashMap.{spare};
+    ghost use Rattle.keeper_core.specs.Table.{rows_of, Keeps};
 
-    ghost view = { λ a. rows_of a.rows };
+    ghost view = { λ a. record { rows = rows_of a.rows.entries; room = spare a.rows } };
 
-    ghost invariant = { λ a. IsTrue (is_sorted byte_order a.rows) };
+    ghost invariant = { λ a. Keeps (rows_of a.rows.entries) a.ends };
 }
 
 impl RowTable {
     /// No rows; takes no memory.
-    pub fn new() -> RowTable
-        ensures { result ≡ empty }
+    pub fn new(alloc: Global) -> RowTable
+        ensures rows { result.rows ≡ empty }
+        ensures counted { IsCounted result.rows 1 }
     {
-        RowTable { rows: Tree::new() }
+        RowTable {
+            rows: HashMap::new(alloc),
+            ends: Tree::new(),
+        }
     }
 
     /// What a key has; takes no memory.
     pub fn find(&self, key: &[u8]) -> Option<RowView<'_>>
-        ensures { seen result ≡ row_at self.now key.now }
+        ensures { seen result ≡ row_at self.now.rows key.now }
     {
-        find(&self.rows, key)
+        match self.rows.get(key) {
+            Some(row) => Some(RowView {
+                value: row.value.bytes(),
+                version: row.version,
+                until: row.until,
+            }),
+            None => None,
+        }
     }
 
     /// The first key in byte order, of those behind `after` where it is given, whose row is not live at `moment`, in
     /// milliseconds since 1970. Takes no memory.
     pub fn next_lapsed(&self, after: Option<&[u8]>, moment: u64) -> Option<&[u8]>
-        ensures { option_map (λ key. key.now) result ≡ next_lapsed self.now (option_map (λ key. key.now) after.entry) moment }
+        ensures { option_map (λ key. key.now) result ≡ next_lapsed self.now.rows (option_map (λ key. key.now) after.entry) moment }
     {
         match after {
-            Some(after) => next_lapsed(&self.rows, after, moment),
-            None => first_lapsed(&self.rows, moment),
+            Some(after) => next_lapsed(&self.ends, after, moment),
+            None => first_lapsed(&self.ends, moment),
         }
+    }
+
+    /// Takes the memory for changes; keys and values are moved.
+    pub fn prepare(&mut self, alloc: Global, list: ChangeList) -> Result<Prepared, NoMemory>
+        ensures rows { self.new.rows ≡ self.old.rows }
+        ensures prepared { IfOk result (λ prepared. prepared ≡ list) }
+        ensures room { IfOk result (λ prepared. length prepared ≤ self.new.room) }
+    {
+        self.rows.reserve(list.len())?;
+        Prepared::new(alloc, list)
     }
 
     /// Makes prepared changes, in order; takes no memory.
     pub fn apply(&mut self, prepared: Prepared)
-        ensures { self.new ≡ after_changes self.old prepared }
+        requires { length prepared ≤ self.old.room }
+        ensures rows { self.new.rows ≡ after_changes self.old.rows prepared }
+
+        // Where the versions put are below a later next version, all are.
+        ensures counted { (next later : ℕ) → IsCounted self.old.rows next → next ≤ later → later ≤ 2 ^ 62 → VersionsAreBelow later prepared → IsCounted self.new.rows later }
     {
-        let rows = mem::replace(&mut self.rows, Tree::new());
-        self.rows = after_steps(rows, prepared.steps);
+        let mut steps = prepared.steps;
+        while let Some(step) = steps.take_first() {
+            self.make(step);
+        }
+    }
+
+    /// Makes a change.
+    fn make(&mut self, step: Step)
+        requires room { 0 < self.old.room }
+        requires ready { IsReady step }
+        ensures rows { self.new.rows ≡ after_change self.old.rows (change_of step) }
+        ensures room { self.old.room ≤ self.new.room + 1 }
+    {
+        match step {
+            Step::Place { key, row, end } => self.place(key, row, end),
+            Step::TakeOut(key) => self.take_out(&key),
+        }
+    }
+
+    /// Gives a key a row, whatever it had.
+    fn place(&mut self, key: Vec<u8>, row: StoredRow, end: Option<Box<Node>>)
+        requires room { 0 < self.old.room }
+        requires ready { IsEndOf key.items row.until end }
+        ensures rows { self.new.rows ≡ insert self.old.rows key.items (row_of row) }
+        ensures room { self.old.room ≤ self.new.room + 1 }
+    {
+        let ended = has_end(&self.rows, &key);
+        let ends = mem::replace(&mut self.ends, Tree::new());
+        self.ends = with_end(ends, ended, &key, end);
+        match self.rows.insert(key, row) {
+            Ok(_) => {}
+            Err(_) => unreachable!(),
+        }
+    }
+
+    /// Takes a key and its row out, where it has one.
+    fn take_out(&mut self, key: &[u8])
+        ensures rows { self.new.rows ≡ remove self.old.rows key.now }
+        ensures room { self.old.room ≤ self.new.room }
+    {
+        let ended = has_end(&self.rows, key);
+        let ends = mem::replace(&mut self.ends, Tree::new());
+        self.ends = without(ends, ended, key);
+        let _ = self.rows.remove(key);
     }
 
     #[cfg(test)]
     pub(crate) fn height(&self) -> u8 {
-        self.rows.height()
+        self.ends.height()
     }
+}
+
+/// Whether a key's row has an end.
+fn has_end(rows: &HashMap<Vec<u8>, StoredRow>, key: &[u8]) -> bool
+    ensures { result ≡ is_some (end_of (row_at (rows_of rows.now.entries) key.now)) }
+{
+    match rows.get(key) {
+        Some(row) => row.until != 0,
+        None => false,
+    }
+}
+
+/// The ends with this end of a key, whatever it had; `ended` tells whether it had one.
+fn with_end(ends: Tree, ended: bool, key: &[u8], end: Option<Box<Node>>) -> Tree
+    requires sorted { IsTrue (is_sorted byte_order ends) }
+    requires ended { ended ≡ is_some (find byte_order key.now ends) }
+    ensures { (until : ℕ) → IsEndOf key.now until end → result ≡ with_end key.now until ends }
+{
+    match end {
+        Some(node) => put(ends, node),
+        None => without(ends, ended, key),
+    }
+}
+
+/// The ends of the other keys; `ended` tells whether this one has an end.
+fn without(ends: Tree, ended: bool, key: &[u8]) -> Tree
+    requires sorted { IsTrue (is_sorted byte_order ends) }
+    requires ended { ended ≡ is_some (find byte_order key.now ends) }
+    ensures { result ≡ without key.now ends }
+{
+    if ended { remove(ends, key) } else { ends }
 }

@@ -2,28 +2,8 @@ ghost use Rattle.std.specs.Prelude.{◌≡◌, Some, option_map, IsTrue, filter,
 ghost use Rattle.std.specs.FinMap.{find, is_sorted};
 ghost use Rattle.keeper_core.specs.Rows.{byte_order, lapsed_in, is_behind, seen};
 
-use crate::RowView;
 use crate::tree::{Tree, last_moment};
 use std::cmp::Ordering;
-
-/// What a key has.
-pub(crate) fn find<'a>(tree: &'a Tree, key: &[u8]) -> Option<RowView<'a>>
-    requires { IsTrue (is_sorted byte_order tree.now) }
-    ensures { seen result ≡ find byte_order key.now tree.now }
-{
-    let Some(node) = &tree.root else {
-        return None;
-    };
-    match key.cmp(node.key.bytes()) {
-        Ordering::Less => find(&node.left, key),
-        Ordering::Greater => find(&node.right, key),
-        Ordering::Equal => Some(RowView {
-            value: node.row.value.bytes(),
-            version: node.row.version,
-            until: node.row.until,
-        }),
-    }
-}
 
 /// The first key whose row is not live at `moment`.
 pub(crate) fn first_lapsed(tree: &Tree, moment: u64) -> Option<&[u8]>
@@ -38,8 +18,8 @@ pub(crate) fn first_lapsed(tree: &Tree, moment: u64) -> Option<&[u8]>
     if let Some(key) = first_lapsed(&node.left, moment) {
         return Some(key);
     }
-    if last_moment(node.row.until) < moment {
-        return Some(node.key.bytes());
+    if last_moment(node.until) < moment {
+        return Some(node.key.as_slice());
     }
     first_lapsed(&node.right, moment)
 }
@@ -55,14 +35,14 @@ pub(crate) fn next_lapsed<'a>(tree: &'a Tree, after: &[u8], moment: u64) -> Opti
     let Some(node) = &tree.root else {
         return None;
     };
-    let Ordering::Less = after.cmp(node.key.bytes()) else {
+    let Ordering::Less = after.cmp(node.key.as_slice()) else {
         return next_lapsed(&node.right, after, moment);
     };
     if let Some(key) = next_lapsed(&node.left, after, moment) {
         return Some(key);
     }
-    if last_moment(node.row.until) < moment {
-        return Some(node.key.bytes());
+    if last_moment(node.until) < moment {
+        return Some(node.key.as_slice());
     }
     first_lapsed(&node.right, moment)
 }

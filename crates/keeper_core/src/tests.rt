@@ -2,7 +2,7 @@ ghost use Rattle.std.specs.Prelude.{IsTrue};
 ghost use Rattle.keeper_core.specs.Changes.{IsBelow, VersionsAreBelow};
 
 use crate::tests::Told::{Put, Remove};
-use crate::{Change, ChangeList, Changes, KeepErr, Keeper, MemoryKeeper, Prepared, RowTable};
+use crate::{Change, ChangeList, Changes, KeepErr, Keeper, MemoryKeeper, RowTable};
 use side_base::{Blob, NoMemory, Places, Sequence};
 use std::alloc::Global;
 use std::process::Abort;
@@ -433,6 +433,11 @@ fn lapsed_rows_are_found(rt: HostRuntime) -> Result<(), Fail> {
     assert!(rt; answers(&rt, alloc, &mut keeper, again)?);
     assert!(rt; finds(&keeper, (None, 5, Some(b"d"))));
     assert!(rt; finds(&keeper, (None, 6, Some(b"b"))));
+    // One that was put again for ever is live.
+    let lasting: Step = (&[Put(b"d", b"", 8, 0)], 9, Ok(()));
+    assert!(rt; answers(&rt, alloc, &mut keeper, lasting)?);
+    assert!(rt; finds(&keeper, (None, 5, Some(b"e"))));
+    assert!(rt; finds(&keeper, (Some(b"b"), GREATEST, Some(b"e"))));
     Ok(())
 }
 
@@ -444,7 +449,8 @@ fn numbered(alloc: Global, number: u32) -> Result<Blob, NoMemory> {
 fn make(alloc: Global, table: &mut RowTable, change: Change) -> Result<(), NoMemory> {
     let mut list = Sequence::new(alloc);
     list.push(change)?;
-    table.apply(Prepared::new(alloc, list)?);
+    let prepared = table.prepare(alloc, list)?;
+    table.apply(prepared);
     Ok(())
 }
 
@@ -453,7 +459,7 @@ fn put(alloc: Global, table: &mut RowTable, number: u32) -> Result<(), NoMemory>
         key: numbered(alloc, number)?,
         value: Blob::new(alloc),
         version: 1,
-        until: 0,
+        until: 1,
     };
     make(alloc, table, change)
 }
@@ -482,11 +488,11 @@ fn thin(alloc: Global, table: &mut RowTable, count: u32) -> Result<(), NoMemory>
     Ok(())
 }
 
-// A tree whose subtrees differ in height by at most one has at least 28,656 rows at a height of 21, and 232 at a height of 11.
+// Each row has an end, and so stands in the tree. One whose subtrees differ in height by at most one has at least 28,656 rows at a height of 21, and 232 at a height of 11.
 #[test]
-fn a_table_stays_balanced(rt: HostRuntime) -> Result<(), Fail> {
+fn the_tree_of_ends_stays_balanced(rt: HostRuntime) -> Result<(), Fail> {
     let alloc = rt.alloc();
-    let mut table = RowTable::new();
+    let mut table = RowTable::new(alloc);
     put_up_to(alloc, &mut table, 20_000)?;
     assert!(rt; table.height() <= 20);
     thin(alloc, &mut table, 20_000)?;

@@ -1,31 +1,22 @@
 ghost use Rattle.std.specs.Prelude.{◌≡◌, []};
 ghost use Rattle.keeper_core.specs.Tree.{listed, least_of, last_moment};
 
-use side_base::Blob;
 use std::marker::Model;
 use std::mem;
 
-/// What a node keeps for its key.
-#[derive(Drop)]
-pub(crate) struct StoredRow {
-    pub(crate) value: Blob,
-    pub(crate) version: u64,
-    /// In milliseconds since 1970; 0 is never.
-    pub(crate) until: u64,
-}
-
-/// A row, between the rows of lower and of higher keys.
+/// A key whose row ends, between those of lower and of higher keys.
 #[cycle(tree)]
 #[derive(Drop)]
 pub(crate) struct Node {
-    // What a search reads stands together.
-    pub(crate) key: Blob,
+    pub(crate) key: Vec<u8>,
     pub(crate) left: Tree,
     pub(crate) right: Tree,
-    pub(crate) row: StoredRow,
+    /// The moment from which on the row is no longer live, in milliseconds since 1970; 0 is never.
+    pub(crate) until: u64,
 }
 
-/// Rows by their keys: a search tree, whose subtrees differ in height by at most one. Contracts see it as its entries in order.
+/// Keys with the moments at which their rows end: a search tree, whose subtrees differ in height by at most one. Contracts see it
+/// as its entries in order.
 ///
 /// It tells its height and its least moment without a look at its root.
 #[cycle(tree)]
@@ -76,7 +67,7 @@ impl Node {
 }
 
 impl Tree {
-    /// No rows.
+    /// No keys.
     pub(crate) fn new() -> Tree
         ensures { result ≡ [] }
     {
@@ -92,7 +83,7 @@ impl Tree {
     pub(crate) fn of(node: Box<Node>) -> Tree
         ensures { result ≡ listed node.value }
     {
-        let least = last_moment(node.row.until)
+        let least = last_moment(node.until)
             .min(node.left.least())
             .min(node.right.least());
         let height = node

@@ -1,7 +1,8 @@
 use Rattle.std.proofs.Common.{◌≡◌, sym, ap, ◌∙◌, arith}
 use Rattle.std.specs.declared.cmp.Ordering.TheVariants.{Less, Equal, Greater}
 use Rattle.keeper_core.specs.Rows.{byte_order}
-use Rattle.keeper_core.specs.Tree.{entry_of, row_of, listed, listed_in}
+use Rattle.keeper_core.specs.Ends.{end_alone}
+use Rattle.keeper_core.specs.Tree.{entry_of, listed, listed_in}
 use Rattle.keeper_core.proofs.Found.{left_sorted, right_sorted, left_shorter, right_shorter}
 use Rattle.keeper_core.proofs.Placed.{put_left, put_right, put_here}
 use Rattle.keeper_core.proofs.placing.+put.Goals as goal
@@ -23,24 +24,24 @@ put-requires-in-Greater t c =
 pub returns-in-Less : goal.returns-in-Less
 returns-in-Less t c =
     let is : c.args.tree ≡ listed c.in-Some.at.value = sym c.tree.view_is ∙ ap listed_in c.in-Some.is in
-    let order : byte_order c.args.node.value.key c.in-Some.at.value.key ≡ Less = cc in
+    let order : byte_order c.args.node.value.key.items c.in-Some.at.value.key.items ≡ Less = cc in
     let left : c.take_left-left.result ≡ c.in-Some.at.value.left = c.take_left-left.ensures.taken ∙ ap (λ node. node.left) (c.deref_mut.ensures.value ∙ ap (λ at. at.value) c.in-Some.at-is) in
     let entry : entry_of c.take_left-left.new.self ≡ entry_of c.in-Some.at.value = ap entry_of c.take_left-left.ensures.rest ∙ ap entry_of (c.deref_mut.ensures.value ∙ ap (λ at. at.value) c.in-Some.at-is) in
     let right : c.take_left-left.new.self.right ≡ c.in-Some.at.value.right = ap (λ node. node.right) c.take_left-left.ensures.rest ∙ ap (λ node. node.right) (c.deref_mut.ensures.value ∙ ap (λ at. at.value) c.in-Some.at-is) in
-    rw (c.with_left.ensures, c.put.ensures, left, entry, right) (sym (put_left _ _ _ _ _ (row_of c.args.node.value.row) is order))
+    rw (c.with_left.ensures, c.put.ensures, left, entry, right) (sym (put_left _ _ _ _ _ (end_alone c.args.node.value.until) is order))
 
 pub returns-in-Greater : goal.returns-in-Greater
 returns-in-Greater t c =
     let is : c.args.tree ≡ listed c.in-Some.at.value = sym c.tree.view_is ∙ ap listed_in c.in-Some.is in
-    let order : byte_order c.args.node.value.key c.in-Some.at.value.key ≡ Greater = cc in
+    let order : byte_order c.args.node.value.key.items c.in-Some.at.value.key.items ≡ Greater = cc in
     let right : c.take_right-right.result ≡ c.in-Some.at.value.right = c.take_right-right.ensures.taken ∙ ap (λ node. node.right) (c.deref_mut-in-Greater.ensures.value ∙ ap (λ at. at.value) c.in-Some.at-is) in
     let entry : entry_of c.take_right-right.new.self ≡ entry_of c.in-Some.at.value = ap entry_of c.take_right-right.ensures.rest ∙ ap entry_of (c.deref_mut-in-Greater.ensures.value ∙ ap (λ at. at.value) c.in-Some.at-is) in
     let left : c.take_right-right.new.self.left ≡ c.in-Some.at.value.left = ap (λ node. node.left) c.take_right-right.ensures.rest ∙ ap (λ node. node.left) (c.deref_mut-in-Greater.ensures.value ∙ ap (λ at. at.value) c.in-Some.at-is) in
-    rw (c.with_right.ensures, c.put-in-Greater.ensures, left, entry, right) (sym (put_right _ _ _ _ _ (row_of c.args.node.value.row) is c.requires order))
+    rw (c.with_right.ensures, c.put-in-Greater.ensures, left, entry, right) (sym (put_right _ _ _ _ _ (end_alone c.args.node.value.until) is c.requires order))
 
 pub returns-in-Equal : goal.returns-in-Equal
 returns-in-Equal t c =
     let is : c.args.tree ≡ listed c.in-Some.at.value = sym c.tree.view_is ∙ ap listed_in c.in-Some.is in
-    let order : byte_order c.args.node.value.key c.in-Some.at.value.key ≡ Equal = cc in
-    let placed = put_here _ _ _ _ _ (row_of c.args.node.value.row) is c.requires order in
+    let order : byte_order c.args.node.value.key.items c.in-Some.at.value.key.items ≡ Equal = cc in
+    let placed = put_here _ _ _ _ _ (end_alone c.args.node.value.until) is c.requires order in
     cc

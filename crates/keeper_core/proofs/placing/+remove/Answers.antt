@@ -23,7 +23,7 @@ remove-requires-in-Greater t c =
 pub returns-in-Less : goal.returns-in-Less
 returns-in-Less t c =
     let is : c.args.tree ≡ listed c.in-Some.at.value = sym c.tree.view_is ∙ ap listed_in c.in-Some.is in
-    let order : byte_order c.args.key.now c.in-Some.at.value.key ≡ Less = cc in
+    let order : byte_order c.args.key.now c.in-Some.at.value.key.items ≡ Less = cc in
     let left : c.take_left-left.result ≡ c.in-Some.at.value.left = c.take_left-left.ensures.taken ∙ ap (λ node. node.left) (c.deref_mut.ensures.value ∙ ap (λ at. at.value) c.in-Some.at-is) in
     let entry : entry_of c.take_left-left.new.self ≡ entry_of c.in-Some.at.value = ap entry_of c.take_left-left.ensures.rest ∙ ap entry_of (c.deref_mut.ensures.value ∙ ap (λ at. at.value) c.in-Some.at-is) in
     let right : c.take_left-left.new.self.right ≡ c.in-Some.at.value.right = ap (λ node. node.right) c.take_left-left.ensures.rest ∙ ap (λ node. node.right) (c.deref_mut.ensures.value ∙ ap (λ at. at.value) c.in-Some.at-is) in
@@ -32,7 +32,7 @@ returns-in-Less t c =
 pub returns-in-Greater : goal.returns-in-Greater
 returns-in-Greater t c =
     let is : c.args.tree ≡ listed c.in-Some.at.value = sym c.tree.view_is ∙ ap listed_in c.in-Some.is in
-    let order : byte_order c.args.key.now c.in-Some.at.value.key ≡ Greater = cc in
+    let order : byte_order c.args.key.now c.in-Some.at.value.key.items ≡ Greater = cc in
     let right : c.take_right-right.result ≡ c.in-Some.at.value.right = c.take_right-right.ensures.taken ∙ ap (λ node. node.right) (c.deref_mut-in-Greater.ensures.value ∙ ap (λ at. at.value) c.in-Some.at-is) in
     let entry : entry_of c.take_right-right.new.self ≡ entry_of c.in-Some.at.value = ap entry_of c.take_right-right.ensures.rest ∙ ap entry_of (c.deref_mut-in-Greater.ensures.value ∙ ap (λ at. at.value) c.in-Some.at-is) in
     let left : c.take_right-right.new.self.left ≡ c.in-Some.at.value.left = ap (λ node. node.left) c.take_right-right.ensures.rest ∙ ap (λ node. node.left) (c.deref_mut-in-Greater.ensures.value ∙ ap (λ at. at.value) c.in-Some.at-is) in
@@ -41,7 +41,7 @@ returns-in-Greater t c =
 pub returns-in-Equal : goal.returns-in-Equal
 returns-in-Equal t c =
     let is : c.args.tree ≡ listed c.in-Some.at.value = sym c.tree.view_is ∙ ap listed_in c.in-Some.is in
-    let order : byte_order c.args.key.now c.in-Some.at.value.key ≡ Equal = cc in
+    let order : byte_order c.args.key.now c.in-Some.at.value.key.items ≡ Equal = cc in
     let value = c.deref_mut-in-Equal.ensures.value ∙ ap (λ at. at.value) c.in-Some.at-is in
     let left : c.take_left-left-in-Equal.result ≡ c.in-Some.at.value.left = c.take_left-left-in-Equal.ensures.taken ∙ ap (λ node. node.left) value in
     let right : c.take_right-right-in-Equal.result ≡ c.in-Some.at.value.right = c.take_right-right-in-Equal.ensures.taken ∙ ap (λ node. node.right) c.deref_mut-in-Equal-2.ensures.value ∙ ap (λ node. node.right) c.take_left-left-in-Equal.ensures.rest ∙ ap (λ node. node.right) value in

@@ -61,6 +61,22 @@ loop-request-preserved-else-close-2 c =
     rw c.in_ok-push_response.ensures.ok
     (goes_on c.args.app.now c.args.requests _ c.take_first.new.self c.in-Some.request c.loop-request.store c.apply.new.self c.loop-request.out _ c.in_ok-response.response c.closes-close.result so_far c.in-Some.ensures.first c.in_ok-cmd.ensures made.0 c.in_ok-response.ensures c.closes-close.ensures c.if-close.false made.1 c.apply.ensures.used)
 
+pub loop-request-preserved-else-close-3 : goal.loop-request-preserved-else-close-3
+loop-request-preserved-else-close-3 c =
+    let so_far = c.loop-request.invariant in
+    let taken = taken_as c.args.app.now c.in-Some.request c.in_ok-cmd.cmd c.in_ok-cmd.ensures in
+    let made = c.apply.ensures.step so_far.first so_far.history 0 so_far.stands taken in
+    rw c.in_ok-push_response.ensures.ok
+    (goes_on c.args.app.now c.args.requests _ c.take_first.new.self c.in-Some.request c.loop-request.store c.apply.new.self c.loop-request.out _ c.in_ok-response.response c.closes-close.result so_far c.in-Some.ensures.first c.in_ok-cmd.ensures made.0 c.in_ok-response.ensures c.closes-close.ensures c.if-close.false made.1 c.apply.ensures.used)
+
+pub loop-request-preserved-else-close-4 : goal.loop-request-preserved-else-close-4
+loop-request-preserved-else-close-4 c =
+    let so_far = c.loop-request.invariant in
+    let taken = taken_as c.args.app.now c.in-Some.request c.in_ok-cmd.cmd c.in_ok-cmd.ensures in
+    let made = c.apply.ensures.step so_far.first so_far.history 0 so_far.stands taken in
+    rw c.in_ok-push_response.ensures.ok
+    (goes_on c.args.app.now c.args.requests _ c.take_first.new.self c.in-Some.request c.loop-request.store c.apply.new.self c.loop-request.out _ c.in_ok-response.response c.closes-close.result so_far c.in-Some.ensures.first c.in_ok-cmd.ensures made.0 c.in_ok-response.ensures c.closes-close.ensures c.if-close.false made.1 c.apply.ensures.used)
+
 pub returns : goal.returns
 returns c =
     let so_far = c.loop-request.invariant in

@@ -6,9 +6,10 @@ use Rattle.keeper_core.proofs.memory_keeper.MemoryKeeperKeeper.commit.Goals as g
 
 pub invariant_of-self-2 : goal.invariant_of-self-2
 invariant_of-self-2 c =
-    let list : c.in-Ok-new.prepared ≡ c.args.changes.list = c.in-Ok-new.ensures ∙ c.from_vec.ensures ∙ c.into_vec-list.ensures in
-    let table : c.apply.new.self ≡ after_changes c.args.self.now.table c.args.changes.list = c.apply.ensures ∙ ap (after_changes c.args.self.now.table) list in
+    let list : c.in-Ok-prepare.prepared ≡ c.args.changes.list = c.in-Ok-prepare.ensures.prepared ∙ c.from_vec.ensures ∙ c.into_vec-list.ensures in
+    let table : c.apply.new.self.rows ≡ after_changes c.args.self.now.table.rows c.args.changes.list =
+    c.apply.ensures.rows ∙ ap (λ rows. after_changes rows c.in-Ok-prepare.prepared) c.prepare.ensures.rows ∙ ap (after_changes c.args.self.now.table.rows) list in
     record {
-      sized = c.in-Ok.ensures ∙ ap (λ changes. bytes_in (after_changes c.args.self.now.table changes)) (c.deref.ensures.value ∙ c.into_vec-list.ensures) ∙ ap bytes_in (sym table);
-      counted = subst (λ rows. IsCounted rows c.args.changes.next) (sym table) (counted-after_changes _ _ c.args.self.now.table c.args.changes.list c.args.self.now.counted c.requires.grows c.requires.most c.requires.below);
+      sized = c.in-Ok.ensures ∙ ap (λ changes. bytes_in (after_changes c.args.self.now.table.rows changes)) (c.deref.ensures.value ∙ c.into_vec-list.ensures) ∙ ap bytes_in (sym table);
+      counted = subst (λ rows. IsCounted rows c.args.changes.next) (sym table) (counted-after_changes _ _ c.args.self.now.table.rows c.args.changes.list c.args.self.now.counted c.requires.grows c.requires.most c.requires.below);
     }

@@ -1,0 +1,22 @@
+use Rattle.std.proofs.Common.{◌≡◌, length, refl, sym, ap, ◌∙◌, subst, arith}
+use Rattle.std.proofs.lemmas.List.Elements.{All-rest}
+use Rattle.keeper_core.specs.Rows.{IsCounted}
+use Rattle.keeper_core.specs.Changes.{after_changes}
+use Rattle.keeper_core.specs.Prepared.{changes_of, IsReady}
+use Rattle.keeper_core.proofs.Counted.{counted-after_changes}
+use Rattle.keeper_core.proofs.row_table.RowTable.apply.Goals as goal
+
+pub loop-step-preserved : goal.loop-step-preserved
+loop-step-preserved c = record {
+  rows = ap (λ rows. after_changes rows (changes_of c.take_first.new.self)) c.make.ensures.rows
+      ∙ ap (λ steps. after_changes c.loop-step.self.rows (changes_of steps)) (sym c.in-Some.ensures.first)
+      ∙ c.loop-step.invariant.rows;
+  ready = All-rest IsReady _ _ _ c.in-Some.ensures.first c.loop-step.invariant.ready;
+  room = omega (arith, c.loop-step.invariant.room, c.make.ensures.room, ap length c.in-Some.ensures.first);
+}
+
+pub returns-clause-counted : goal.returns-clause-counted
+returns-clause-counted c = λ next later counted grows most below.
+    let changed : c.loop-step.self.rows ≡ after_changes c.args.self.now.rows c.args.prepared =
+    ap (λ steps. after_changes c.loop-step.self.rows (changes_of steps)) (sym (c.in_default.ensures.none.0 refl)) ∙ c.loop-step.invariant.rows in
+    subst (λ rows. IsCounted rows later) (sym changed) (counted-after_changes next later c.args.self.now.rows c.args.prepared counted grows most below)
