@@ -1,0 +1,15 @@
+pub mod Appends
+pub mod Calls
+pub mod Crashes
+pub mod Formatted
+pub mod Found
+pub mod Gates
+pub mod Headers
+pub mod Images
+pub mod OnResult
+pub mod Parsed
+pub mod Read
+pub mod Runs
+pub mod Staged
+pub mod Unique
+pub mod Writes

@@ -1,0 +1,18 @@
+use Rattle.std.proofs.Common.{◌≡◌, inr, IfOk, subst}
+use Rattle.disk_journal.specs.Image.{IsImage}
+use Rattle.disk_journal.specs.Refusal.{IsNoJournal, IsCutShort}
+use Rattle.disk_journal.proofs.Headers.{other_header, behind_header}
+use Rattle.disk_journal.proofs.parsing.bodies_of.Goals as goal
+
+pub returns-in-Some-clause-refused : goal.returns-in-Some-clause-refused
+returns-in-Some-clause-refused c at same =
+    let e = c.in-Some.ensures in
+    let here = other_header c.args.bytes.now c.in-Some.at c.if-bytes-lt16.false e.within e.same e.differs in
+    let place : c.in-Some.at ≡ at = cc same in
+    subst (IsNoJournal c.args.bytes.now) place here
+
+pub returns-clause-image : goal.returns-clause-image
+returns-clause-image c = subst (λ z. IfOk c.records_of.result (λ read. IsImage z read.0)) (behind_header c.args.bytes.now c.in_default.ensures.equal) c.records_of.ensures.image
+
+pub returns-clause-refused : goal.returns-clause-refused
+returns-clause-refused c at same = inr (inr (subst (λ z. IsCutShort z at) (behind_header c.args.bytes.now c.in_default.ensures.equal) (c.records_of.ensures.refused at same)))

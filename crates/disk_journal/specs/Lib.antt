@@ -1,0 +1,7 @@
+pub mod Image
+pub mod Journal
+pub mod Moments
+pub mod Parsing
+pub mod Refusal
+pub mod Run
+pub mod Staging

@@ -1,0 +1,167 @@
+ghost use Rattle.std.specs.Prelude.{◌+◌, ◌<◌, ◌≤◌, ◌^◌};
+
+use crate::loading::read_all;
+use crate::parsing::bodies_of;
+use crate::writing::{set_gate, stage};
+use crate::{Bodies, JournalErr};
+use side_world::Disk;
+use std::alloc::Global;
+
+/// A list of byte strings, the bodies, in the file of a disk. An append is acknowledged once its body is on the disk.
+///
+/// The file has a header of 16 bytes, and then a record for each body: a gate byte, the length of the body in eight bytes, the
+/// lowest first, and the body. A gate is open exactly where it is 1. A closed gate stands behind the last record, and what stands
+/// behind that says nothing.
+#[derive(Drop)]
+pub struct Journal<D: Disk> {
+    disk: D,
+    /// The place of the closed gate.
+    end: u64,
+    limit: u64,
+    /// Whether that gate may be open: an append failed there, and no repair has succeeded since.
+    torn: bool,
+    ghost within: { end + 1 ≤ D.size disk },
+    ghost counted: { end + 1 < 2 ^ 64 },
+}
+
+impl<D: Disk> Journal<D> {
+    ghost use Rattle.std.specs.Prelude.{◌≡◌, ◌⊎◌, ◌↔◌, ◌<◌, ◌+◌, ◌≤◌, true, false, ℕ, List, [], ◌∷◌, ◌++◌, length, Some, None, Err, IfOk, IfErr, IsOk, OnOk, OnErr};
+    ghost use Rattle.side_world.specs.Faults.{Rose};
+    ghost use Rattle.disk_journal.specs.Image.{IsImage, IsWithOrWithout, end_of};
+    ghost use Rattle.disk_journal.specs.Journal.{disk_of, len_of, limit_of, torn_of, Holds};
+    ghost use Rattle.disk_journal.specs.Moments.{Reads, AtEachMoment, ChangesNothing};
+    ghost use Rattle.disk_journal.specs.Refusal.{IsNoJournal};
+    ghost use Rattle.disk_journal.specs.declared.error.JournalErr.TheVariants.{Failed, NotAJournal, Full};
+
+    /// Opens the journal of a disk, and gives its bodies; has all that was written reach the disk first. `limit` is the greatest length
+    /// of the file, in bytes, that an append may lead to.
+    ///
+    /// Refuses with `NotAJournal` at the first byte of the header that differs, at the length of a file with no room for the header, at
+    /// the gate of an open record that runs past the end, or at the end where a gate should stand; the disk is given back.
+    pub fn load(
+        alloc: Global,
+        mut disk: D,
+        limit: u64,
+    ) -> Result<(Journal<D>, Bodies), (D, JournalErr)>
+        // Where the disk tells what a read gives, these are its bodies, and no others are.
+        ensures image { IfOk result (λ opened. Reads D.Disk disk (λ bytes. IsImage bytes opened.1)) }
+        ensures only { IfOk result (λ opened. Reads D.Disk disk (λ bytes. (others : List (List ℕ)) → IsImage bytes others → others ≡ opened.1)) }
+        ensures refused { IfErr result (λ e. (at : ℕ) → e.1 ≡ NotAJournal at → Reads D.Disk disk (λ bytes. IsNoJournal bytes at)) }
+        ensures refused_only { IfErr result (λ e. (at : ℕ) → e.1 ≡ NotAJournal at → Reads D.Disk disk (λ bytes. (bodies : List (List ℕ)) → IsImage bytes bodies → ⊥)) }
+
+        ensures holds { IfOk result (λ opened. Holds D.Disk opened.0 opened.1 None) }
+        ensures limit { IfOk result (λ opened. limit_of opened.0 ≡ limit) }
+
+        // A crash inside it leaves what one before it might have left.
+        ensures opened { IfOk result (λ opened. ChangesNothing D.Disk disk (disk_of opened.0)) }
+        ensures given_back { IfErr result (λ e. ChangesNothing D.Disk disk e.0) }
+
+        ensures failed { IfErr result (λ e. e.1 ≡ Failed → Rose (D.faults disk) (D.faults e.0)) }
+        ensures not_full { IfErr result (λ e. (len : ℕ) → e.1 ≡ Full len → ⊥) }
+        ensures no_fewer { IfOk result (λ opened. D.faults disk ≤ D.faults (disk_of opened.0)) }
+        ensures no_fewer_given_back { IfErr result (λ e. D.faults disk ≤ D.faults e.0) }
+    {
+        let bytes = match read_all(alloc, &mut disk) {
+            Ok(bytes) => bytes,
+            Err(e) => return Err((disk, e)),
+        };
+        match bodies_of(alloc, &bytes) {
+            Ok((bodies, end)) => {
+                let journal = Journal {
+                    disk,
+                    end,
+                    limit,
+                    torn: false,
+                };
+                Ok((journal, bodies))
+            }
+            Err(e) => Err((disk, e)),
+        }
+    }
+
+    /// Adds a body. After `Ok` each crash leaves it, whatever is called next. Takes no memory.
+    ///
+    /// After `Failed` the journal holds the bodies from before, or it is torn: a crash may then leave them with this one or without.
+    /// `Full` changes nothing.
+    pub fn append(&mut self, body: &[u8]) -> Result<(), JournalErr>
+        requires { torn_of self.old ≡ false }
+        ensures appended { (bodies : List (List ℕ)) → Holds D.Disk self.old bodies None → OnOk result (Holds D.Disk self.new (bodies ++ body.now ∷ []) None) }
+        ensures undone { (bodies : List (List ℕ)) → Holds D.Disk self.old bodies None → result ≡ Err JournalErr.Failed → Holds D.Disk self.new bodies None ⊎ Holds D.Disk self.new bodies (Some body.now) }
+
+        // A crash at any moment of the call leaves the bodies from before it, with the new one or without.
+        ensures any_moment { (bodies : List (List ℕ)) → Holds D.Disk self.old bodies None → AtEachMoment D.Disk (disk_of self.old) (disk_of self.new) (IsWithOrWithout bodies body.now) }
+
+        ensures full { (len : ℕ) → (result ≡ Err (Full len)) ↔ ((len ≡ len_of self.old + 9 + length body.now) × (limit_of self.old < len)) }
+        ensures unchanged { (len : ℕ) → result ≡ Err (Full len) → self.new ≡ self.old }
+        ensures failed { result ≡ Err JournalErr.Failed → Rose (D.faults (disk_of self.old)) (D.faults (disk_of self.new)) }
+        ensures causes { OnErr result ((result ≡ Err JournalErr.Failed) ⊎ ((len : ℕ) × (result ≡ Err (Full len)))) }
+
+        ensures ok { OnOk result ((torn_of self.new ≡ false) × (len_of self.new ≡ len_of self.old + 9 + length body.now)) }
+        ensures err { OnErr result (len_of self.new ≡ len_of self.old) }
+        ensures limit { limit_of self.new ≡ limit_of self.old }
+        ensures no_fewer { D.faults (disk_of self.old) ≤ D.faults (disk_of self.new) }
+    {
+        let len = u128::from(self.end) + 10 + body.len() as u128;
+        if len > u128::from(self.limit) {
+            return Err(JournalErr::Full { len });
+        }
+        stage(&mut self.disk, self.end, body)?;
+        self.torn = true;
+        set_gate(&mut self.disk, self.end, 1)?;
+        self.torn = false;
+        self.end += 9 + body.len() as u64;
+        Ok(())
+    }
+
+    /// Closes the gate at which an append failed, so that a crash leaves the bodies without that one. Takes no memory.
+    ///
+    /// Where the journal is not torn it makes no device call, since a write over a closed gate may leave it open.
+    pub fn repair(&mut self) -> Result<(), JournalErr>
+        ensures repaired { (bodies : List (List ℕ)) (doubt : List ℕ) → Holds D.Disk self.old bodies (Some doubt) → OnOk result (Holds D.Disk self.new bodies None) }
+        ensures undone { (bodies : List (List ℕ)) (doubt : List ℕ) → Holds D.Disk self.old bodies (Some doubt) → OnErr result (Holds D.Disk self.new bodies (Some doubt)) }
+        ensures any_moment { (bodies : List (List ℕ)) (doubt : List ℕ) → Holds D.Disk self.old bodies (Some doubt) → AtEachMoment D.Disk (disk_of self.old) (disk_of self.new) (IsWithOrWithout bodies doubt) }
+
+        ensures whole { torn_of self.old ≡ false → IsOk result × (self.new ≡ self.old) }
+        ensures ok { OnOk result (torn_of self.new ≡ false) }
+        ensures err { OnErr result (torn_of self.new ≡ true) }
+        ensures failed { OnErr result ((result ≡ Err JournalErr.Failed) × Rose (D.faults (disk_of self.old)) (D.faults (disk_of self.new))) }
+        ensures len { len_of self.new ≡ len_of self.old }
+        ensures limit { limit_of self.new ≡ limit_of self.old }
+        ensures no_fewer { D.faults (disk_of self.old) ≤ D.faults (disk_of self.new) }
+    {
+        if !self.torn {
+            return Ok(());
+        }
+        set_gate(&mut self.disk, self.end, 0)?;
+        self.torn = false;
+        Ok(())
+    }
+
+    /// Whether a crash may leave the body of an append that failed: from its failure at the gate until a repair succeeds.
+    pub fn is_torn(&self) -> bool
+        ensures { result ≡ torn_of self.now }
+    {
+        self.torn
+    }
+
+    /// The file's length behind its last record, in bytes: what stands past it says nothing.
+    pub fn len(&self) -> u64
+        ensures { result ≡ len_of self.now }
+    {
+        self.end + 1
+    }
+
+    /// The greatest such length that an append may lead to, in bytes.
+    pub fn limit(&self) -> u64
+        ensures { result ≡ limit_of self.now }
+    {
+        self.limit
+    }
+
+    /// The disk, as the last call left it. Takes no memory.
+    pub fn into_disk(self) -> D
+        ensures { result ≡ disk_of self }
+    {
+        self.disk
+    }
+}

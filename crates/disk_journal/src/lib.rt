@@ -1,0 +1,18 @@
+//! A list of byte strings in a file, each on the disk before it is acknowledged, so that it is found after a crash at any moment.
+#![tactic(auto)]
+
+mod error;
+mod formatting;
+mod journal;
+pub mod laws;
+mod loading;
+mod parsing;
+mod writing;
+
+pub use error::JournalErr;
+pub use formatting::format;
+pub use journal::Journal;
+pub use parsing::Bodies;
+
+#[cfg(test)]
+mod tests;
