@@ -1,0 +1,19 @@
+-- What a body does to the rows and the next version so far.
+use Rattle.std.specs.Prelude.{◌≡◌, ℕ, List}
+use Rattle.keeper_core.specs.Changes.{after_changes}
+use Rattle.keeper_core.specs.declared.changes.Changes.{Changes}
+use Rattle.keeper_journal.specs.Body.{IsBodyOf}
+use Rattle.keeper_journal.specs.History.{MayFollow}
+use Rattle.keeper_journal.specs.declared.following.Replay.{Replay}
+
+-- the body says a commit that may follow, and that was made
+pub record Follows (body : List ℕ) (old new : Replay) : Type 0 where
+  pub commit : Changes
+  pub says : IsBodyOf body commit
+  pub may : MayFollow old.next commit
+  pub rows : new.table.rows ≡ after_changes old.table.rows commit.list
+  pub next : new.next ≡ commit.next
+
+-- a body says no commit that may follow where the next version is this one
+abbrev pub SaysNoneAfter : ℕ → List ℕ → Type 0
+SaysNoneAfter next body = (commit : Changes) → IsBodyOf body commit → MayFollow next commit → ⊥

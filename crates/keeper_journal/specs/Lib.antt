@@ -1,0 +1,9 @@
+pub mod AnyKeeper
+pub mod Body
+pub mod Following
+pub mod History
+pub mod JournalKeeper
+pub mod Kept
+pub mod Reading
+pub mod Run
+pub mod Storing

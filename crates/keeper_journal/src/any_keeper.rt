@@ -1,0 +1,60 @@
+use crate::JournalKeeper;
+use keeper_core::{Changes, KeepErr, Keeper, MemoryKeeper, RowView};
+use side_world::Disk;
+
+/// A keeper of either kind.
+#[derive(Drop)]
+pub enum AnyKeeper<D: Disk> {
+    /// Its rows are gone with the process.
+    Memory(MemoryKeeper),
+    /// Its rows are found again after a crash.
+    Journal(JournalKeeper<D>),
+}
+
+impl<D: Disk> Keeper for AnyKeeper<D> {
+    ghost use Rattle.keeper_journal.specs.AnyKeeper.{any_rows, any_next, any_size, any_limit, any_faults, any_may_fail, any_size_after, any_counted};
+
+    ghost rows = { any_rows };
+
+    ghost next = { any_next };
+
+    ghost size = { any_size };
+
+    ghost limit = { any_limit };
+
+    ghost faults = { any_faults };
+
+    ghost may_fail = { any_may_fail };
+
+    ghost size_after = { any_size_after };
+
+    fn find(&self, key: &[u8]) -> Option<RowView<'_>> {
+        match self {
+            AnyKeeper::Memory(keeper) => keeper.find(key),
+            AnyKeeper::Journal(keeper) => keeper.find(key),
+        }
+    }
+
+    fn next_lapsed(&self, after: Option<&[u8]>, moment: u64) -> Option<&[u8]> {
+        match self {
+            AnyKeeper::Memory(keeper) => keeper.next_lapsed(after, moment),
+            AnyKeeper::Journal(keeper) => keeper.next_lapsed(after, moment),
+        }
+    }
+
+    fn next_version(&self) -> u64 {
+        match self {
+            AnyKeeper::Memory(keeper) => keeper.next_version(),
+            AnyKeeper::Journal(keeper) => keeper.next_version(),
+        }
+    }
+
+    fn commit(&mut self, changes: Changes) -> Result<(), KeepErr> {
+        match self {
+            AnyKeeper::Memory(keeper) => keeper.commit(changes),
+            AnyKeeper::Journal(keeper) => keeper.commit(changes),
+        }
+    }
+
+    ghost counted = { any_counted };
+}

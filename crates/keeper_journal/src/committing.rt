@@ -1,0 +1,99 @@
+use crate::JournalKeeper;
+use crate::encoding::{body_len, encode};
+use crate::storing::store;
+use keeper_core::{Changes, KeepErr, Keeper, RowView};
+use side_base::Sequence;
+use side_world::Disk;
+
+/// What a record has beside its body.
+const RECORD_BYTES: u128 = 9;
+
+impl<D: Disk> Keeper for JournalKeeper<D> {
+    ghost use Rattle.std.specs.Prelude.{◌≡◌, ◌⊎◌, ◌≤◌, ◌<◌, ◌^◌, ◌↔◌, ℕ, true, List, [], ◌∷◌, ◌++◌, Option, Some, None, Err, OnOk, OnErr};
+    ghost use Rattle.side_world.specs.Faults.{Rose};
+    ghost use Rattle.keeper_core.specs.Faults.{Rises};
+    ghost use Rattle.keeper_core.specs.Changes.{after_changes, VersionsAreBelow};
+    ghost use Rattle.keeper_core.specs.declared.changes.Changes.{Changes};
+    ghost use Rattle.disk_journal.specs.Moments.{AtEachMoment};
+    ghost use Rattle.keeper_journal.specs.History.{IsWithOneAtMost};
+    ghost use Rattle.keeper_journal.specs.JournalKeeper.{rows_in, next_in, journal_in, disk_in, size_in, limit_in, size_with};
+    ghost use Rattle.keeper_journal.specs.Kept.{Kept};
+
+    ghost rows = { rows_in };
+
+    ghost next = { next_in };
+
+    ghost size = { size_in };
+
+    ghost limit = { limit_in };
+
+    ghost faults = { λ keeper. D.faults (disk_in keeper) };
+
+    ghost may_fail = { λ keeper. true };
+
+    ghost size_after = { λ keeper rows size changes. size_with size changes };
+
+    fn find(&self, key: &[u8]) -> Option<RowView<'_>> {
+        self.table.find(key)
+    }
+
+    fn next_lapsed(&self, after: Option<&[u8]>, moment: u64) -> Option<&[u8]> {
+        self.table.next_lapsed(after, moment)
+    }
+
+    fn next_version(&self) -> u64 {
+        self.next
+    }
+
+    // Repairs the journal first, where it is torn. All memory is taken before the first device call.
+    fn commit(&mut self, changes: Changes) -> Result<(), KeepErr>
+        requires grows { next_in self.old ≤ changes.next }
+        requires most { changes.next ≤ 2 ^ 62 }
+        requires below { VersionsAreBelow changes.next changes.list }
+        ensures rows { OnOk result (rows_in self.new ≡ after_changes (rows_in self.old) changes.list) }
+        ensures next { OnOk result (next_in self.new ≡ changes.next) }
+        ensures size { OnOk result (size_in self.new ≡ size_with (size_in self.old) changes.list) }
+        ensures fits { OnOk result (size_with (size_in self.old) changes.list ≤ limit_in self.old) }
+
+        // What it kept is kept, and with this commit only after `Ok`. One that failed at its gate is in doubt until the next commit.
+        ensures kept { (commits : List Changes) (doubt : Option Changes) → Kept D.Disk self.old commits doubt → OnOk result (Kept D.Disk self.new (commits ++ changes ∷ []) None) }
+        ensures undone { (commits : List Changes) (doubt : Option Changes) → Kept D.Disk self.old commits doubt → OnErr result (Kept D.Disk self.new commits doubt ⊎ Kept D.Disk self.new commits None ⊎ Kept D.Disk self.new commits (Some changes)) }
+
+        // A crash at any moment of the call leaves what was kept, with this commit or without it, or with the one in doubt.
+        ensures any_moment { (commits : List Changes) (doubt : Option Changes) → Kept D.Disk self.old commits doubt → AtEachMoment D.Disk (disk_in self.old) (disk_in self.new) (IsWithOneAtMost commits doubt changes) }
+
+        // A commit that is too long is refused, and no other is. What is refused so, or finds no memory, makes no device call.
+        ensures full { (len : ℕ) → result ≡ Err (KeepErr.Full len) → (len ≡ size_with (size_in self.old) changes.list) × (limit_in self.old < len) }
+        ensures too_long { limit_in self.old < size_with (size_in self.old) changes.list → result ≡ Err (KeepErr.Full (size_with (size_in self.old) changes.list)) }
+        ensures refused { (len : ℕ) → result ≡ Err (KeepErr.Full len) → self.new ≡ self.old }
+        ensures without_memory { result ≡ Err KeepErr.NoMemory → journal_in self.new ≡ journal_in self.old }
+
+        ensures failed { result ≡ Err KeepErr.Failed → Rose (D.faults (disk_in self.old)) (D.faults (disk_in self.new)) }
+        ensures unchanged { OnErr result ((rows_in self.new ≡ rows_in self.old) × (next_in self.new ≡ next_in self.old) × (size_in self.new ≡ size_in self.old)) }
+        ensures stays { limit_in self.new ≡ limit_in self.old }
+        ensures rises { Rises true (D.faults (disk_in self.old)) (D.faults (disk_in self.new)) }
+    {
+        let Changes { list, next } = changes;
+        let list = list.into_vec();
+        let len = u128::from(self.journal.len()) + RECORD_BYTES + body_len(&list);
+        if len > u128::from(self.journal.limit()) {
+            return Err(KeepErr::Full { len });
+        }
+        let Ok(body) = encode(self.alloc, &list, next) else {
+            return Err(KeepErr::NoMemory);
+        };
+        let Ok(prepared) = self.table.prepare(self.alloc, Sequence::from_vec(list)) else {
+            return Err(KeepErr::NoMemory);
+        };
+        match store(&mut self.journal, body.bytes()) {
+            Ok(()) => {
+                self.table.apply(prepared);
+                self.next = next;
+                Ok(())
+            }
+            Err(error) => Err(error),
+        }
+    }
+
+    ghost counted = { λ keeper. keeper.counted };
+}
