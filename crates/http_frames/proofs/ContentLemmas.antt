@@ -20,15 +20,15 @@ chunk_same c d x y is also e =
     (λ i. record { line = lines.0 i; bytes = rest.0 i }, append_cancel_left (13 ∷ 10 ∷ []) x y rest.1)
 
 -- a chunk is no end
-chunk_no_end : (c : Chunk) (e : Ending) (x y : List ℕ) → IsChunk c → IsEnding e → print_chunk c ++ x ≡ print_ending e ++ y → ⊥
+pub chunk_no_end : (c : Chunk) (e : Ending) (x y : List ℕ) → IsChunk c → IsEnding e → print_chunk c ++ x ≡ print_ending e ++ y → ⊥
 chunk_no_end c e x y is ends same =
     let lines = line_same c.line e.line _ _ is.line ends.line (sym (chunk_parts c x) ∙ same ∙ ending_parts e y) in
     omega (arith, ap chunk_size lines.0, is.size, is.some, ends.size)
 
-abbrev cells : List Chunk → List ℕ
+abbrev pub cells : List Chunk → List ℕ
 cells chunks = flat_map print_chunk chunks
 
-uncons : (c : Chunk) (cs : List Chunk) (x : List ℕ) → cells (c ∷ cs) ++ x ≡ print_chunk c ++ (cells cs ++ x)
+pub uncons : (c : Chunk) (cs : List Chunk) (x : List ℕ) → cells (c ∷ cs) ++ x ≡ print_chunk c ++ (cells cs ++ x)
 uncons c cs x = append_assoc (print_chunk c) (cells cs) x
 
 -- nothing in the text is too long
@@ -117,7 +117,7 @@ may_content (c ∷ cs) r each may =
     regroup : (a b r x : List ℕ) → ((a ++ b) ++ r) ++ x ≡ a ++ ((b ++ r) ++ x)
     regroup a b r x = simp append_assoc
 
-line_may_end : (l : ChunkLine) → IsLine l → MayEnd (print_chunk_line l)
+pub line_may_end : (l : ChunkLine) → IsLine l → MayEnd (print_chunk_line l)
 line_may_end l is = let ends = line_ends l (chunk_size l) is refl in
     record { more = ends.more; chunks = ends.chunks; ending = ends.ending; reads = ends.reads }
 

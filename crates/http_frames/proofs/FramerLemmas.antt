@@ -13,18 +13,20 @@ use Rattle.http_frames.specs.declared.turn.Turn.TheVariants as turn
 use Rattle.http_frames.specs.declared.progress.Content.{Content}
 use Rattle.http_frames.specs.Framing.{State, waiting, ended, IsRequestStep, IsNeedStep, IsRefusal, IsNext}
 use Rattle.http_frames.specs.Framer.{state_at, IsStage}
+use Rattle.http_frames.specs.Lines.{beginning}
 use Rattle.http_frames.specs.Progress.{HoldsContent}
 use Rattle.http_frames.specs.Turns.{IsOpen, IsRequestTo, TakesTurn}
 use Rattle.http_frames.proofs.ProgressLemmas.{head_within}
+use Rattle.http_frames.proofs.PlaceLemmas.{place_more}
 use Rattle.http_frames.proofs.TurnLemmas.{grown_content}
 
 open_state : (pending : List ℕ) (continued : Bool) (next : Stage) → IsOpen next → state_at pending continued next ≡ waiting pending continued
-open_state pending continued stage.Head open_ = refl
+open_state pending continued (stage.Head place) open_ = refl
 open_state pending continued (stage.Content content) open_ = refl
 open_state pending continued (stage.Refused error) open_ = absurd open_
 
 request_step : (pending : List ℕ) (continued : Bool) (request : Request) (end : ℕ) (next : Stage) → IsRequestTo pending continued request end
-    → next ≡ stage.Head → IsRequestStep (waiting pending continued) request (state_at (drop end pending) false next)
+    → next ≡ stage.Head beginning → IsRequestStep (waiting pending continued) request (state_at (drop end pending) false next)
 request_step pending continued request end next is head = record {
   waits = refl;
   head = is.head;
@@ -39,7 +41,7 @@ request_step pending continued request end next is head = record {
 pub gives_request : (pending : List ℕ) (continued : Bool) (old next : Stage) (request : Request) (end : ℕ)
     → TakesTurn pending continued old (next, Ok (turn.Request request end))
     → IsRequestStep (state_at pending continued old) request (state_at (drop end pending) false next)
-gives_request pending continued stage.Head next request end is = request_step pending continued request end next is.0 is.1
+gives_request pending continued (stage.Head place) next request end is = request_step pending continued request end next is.0 is.1
 gives_request pending continued (stage.Content content) next request end is = request_step pending continued request end next is.0 is.1
 gives_request pending continued (stage.Refused error) next request end is =
     let same = ap (λ (x : Stage × Result Turn AllocError). x.1) is in
@@ -47,7 +49,7 @@ gives_request pending continued (stage.Refused error) next request end is =
 
 pub gives_need : (pending : List ℕ) (continued : Bool) (old next : Stage) → TakesTurn pending continued old (next, Ok turn.Need)
     → IsNeedStep (state_at pending continued old) (state_at pending continued next)
-gives_need pending continued stage.Head next is = record {
+gives_need pending continued (stage.Head place) next is = record {
   waits = refl;
   none = is.0;
   accepted = is.1;
@@ -82,7 +84,7 @@ gives_error BadChunk old new is was = (is, was)
 
 pub gives_refusal : (pending others : List ℕ) (continued flag : Bool) (old next : Stage) (e : FrameErr)
     → TakesTurn pending continued old (next, Ok (turn.Refused e)) → IsNext (state_at pending continued old) (Err e) (state_at others flag next)
-gives_refusal pending others continued flag stage.Head next e is =
+gives_refusal pending others continued flag (stage.Head place) next e is =
     gives_error e _ _ (ap (λ (s : Stage). state_at others flag s) is.0) (inr (record { waits = refl; refused = is.1; quiet = is.2 }))
 gives_refusal pending others continued flag (stage.Content content) next e is =
     gives_error e _ _ (ap (λ (s : Stage). state_at others flag s) is.0) (inr (record { waits = refl; refused = is.1; quiet = is.2 }))
@@ -93,7 +95,7 @@ gives_refusal pending others continued flag (stage.Refused error) next e is =
 
 -- the stage is held as the bytes go on
 pub grown_stage : (pending more : List ℕ) (continued : Bool) (old : Stage) → IsStage pending continued old → IsStage (pending ++ more) continued old
-grown_stage pending more continued stage.Head is = is
+grown_stage pending more continued (stage.Head place) is = (is.0, place_more pending more place is.1)
 grown_stage pending more continued (stage.Content content) is = grown_content pending more content (head_within pending content is) is
 grown_stage pending more continued (stage.Refused error) is = is
 

@@ -87,3 +87,6 @@ no_head_none text none k after there =
       ]
       | inr (m, shorter, rest) ↦ none k m (there.reads.0, shorter)
     ]
+
+pub judged_may : (text : List ℕ) → length text < HEAD_LIMIT → MayBecomeRequest (take HEAD_LIMIT text) → MayBecomeRequest text
+judged_may text short may = subst MayBecomeRequest (take_all HEAD_LIMIT text (omega arith)) may

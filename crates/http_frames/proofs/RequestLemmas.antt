@@ -15,13 +15,13 @@ use Rattle.http_frames.proofs.SplitLemmas.{split_append}
 use Rattle.http_frames.proofs.RowLemmas.{row_of, long_head, bad_head, refused_head, long_chunks, bad_chunks, head_before, whole_front, none_is_some}
 
 -- the rows that a front of a request with an accepted head can meet
-record ChunkRow (h : RequestHead) (e : FrameErr) (after back : List ℕ) : Type 0 where
-  chunked : IsTrue (is_chunked (fields_of h))
-  content : List ℕ
-  cut : after ≡ content ++ back
-  row : ((e ≡ TooLong) × Overflows content) ⊎ ((e ≡ BadChunk) × NeverChunked content)
+pub record ChunkRow (h : RequestHead) (e : FrameErr) (after back : List ℕ) : Type 0 where
+  pub chunked : IsTrue (is_chunked (fields_of h))
+  pub content : List ℕ
+  pub cut : after ≡ content ++ back
+  pub row : ((e ≡ TooLong) × Overflows content) ⊎ ((e ≡ BadChunk) × NeverChunked content)
 
-only_chunk_rows : (text : List ℕ) (h : RequestHead) (after front back : List ℕ) (e : FrameErr) → ReadsHead text h after
+pub only_chunk_rows : (text : List ℕ) (h : RequestHead) (after front back : List ℕ) (e : FrameErr) → ReadsHead text h after
     → text ≡ front ++ back → Meets e front → ChunkRow h e after back
 only_chunk_rows text h after front back e head whole meets = elim (row_of e front meets) [
   | long_head is long none may ↦ elim (split_append front back (print_request h) after (sym whole ∙ head.reads.1)) [

@@ -43,7 +43,7 @@ chosen : (P : FrameErr → Type 0) (b : Bool) (x e : FrameErr) (others : Option 
 chosen P true x e others here more is = let same : x ≡ e = cc in subst P same here
 chosen P false x e others here more is = more is
 
-some_same : {A : Type 0} {x y : A} → Some x ≡ Some y → x ≡ y
+pub some_same : {A : Type 0} {x y : A} → Some x ≡ Some y → x ≡ y
 some_same e = cc
 
 pub none_is_some : {A : Type 0} (x : A) → None ≡ Some x → ⊥
@@ -101,7 +101,7 @@ regroup : (a b r : List ℕ) → (a ++ b ++ 32 ∷ []) ++ r ≡ a ++ (b ++ 32 �
 regroup a b r = simp append_assoc
 
 -- inside a target, or before it, the bytes may still begin a head
-may_front : (front back : List ℕ) → MayBecomeRequest (front ++ back) → NeverHasRequest front → ¬ (EndsInTarget front) → ⊥
+pub may_front : (front back : List ℕ) → MayBecomeRequest (front ++ back) → NeverHasRequest front → ¬ (EndsInTarget front) → ⊥
 may_front front back (inl (more, h, reads)) never outside =
     let P : List ℕ → Type 0 = λ t. ReadsRequest t h [] in
     never (back ++ more) h [] (subst P (append_assoc front back more) reads)

@@ -9,10 +9,12 @@ pub mod Front
 pub mod HeadReading
 pub mod HeadRules
 pub mod InTarget
+pub mod Lines
 pub mod Plain
 pub mod PlainReading
 pub mod Progress
 pub mod Requests
+pub mod Streams
 pub mod Turns
 pub mod ValueTest
 pub mod Written

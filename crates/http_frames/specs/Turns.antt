@@ -7,6 +7,7 @@ use Rattle.http_frames.specs.HeadRules.{fields_of, asks_to_continue, request_of}
 use Rattle.http_frames.specs.Requests.{ReadsHead, ReadsWhole, HasNoWhole, IsRefused, IsAccepted}
 use Rattle.http_frames.specs.Framing.{IsQuiet}
 use Rattle.http_frames.specs.Framer.{IsStage}
+use Rattle.http_frames.specs.Lines.{beginning}
 use Rattle.http_frames.specs.declared.framer.Stage.{Stage}
 use Rattle.http_frames.specs.declared.framer.Stage.TheVariants as stage
 use Rattle.http_frames.specs.declared.turn.Turn.{Turn}
@@ -30,7 +31,7 @@ pub record IsAsking (pending : List ℕ) : Type 0 where
 
 -- the stream is not refused
 abbrev pub IsOpen : Stage → Type 0
-IsOpen stage.Head = Unit {0}
+IsOpen (stage.Head place) = Unit {0}
 IsOpen (stage.Content content) = Unit {0}
 IsOpen (stage.Refused error) = ⊥
 
@@ -39,7 +40,7 @@ abbrev pub Holds : List ℕ → Bool → Stage → Type 0
 Holds pending continued next = IsOpen next × IsStage pending continued next
 
 abbrev pub IsTurn : List ℕ → Bool → Stage × Result Turn AllocError → Type 0
-IsTurn pending continued (next, Ok (turn.Request request end)) = IsRequestTo pending continued request end × (next ≡ stage.Head)
+IsTurn pending continued (next, Ok (turn.Request request end)) = IsRequestTo pending continued request end × (next ≡ stage.Head beginning)
 IsTurn pending continued (next, Ok turn.Continue) = IsAsking pending × (continued ≡ false) × Holds pending true next
 IsTurn pending continued (next, Ok turn.Need) =
     HasNoWhole pending × IsAccepted pending × IsQuiet pending continued × Holds pending continued next
@@ -49,6 +50,6 @@ IsTurn pending continued (next, Err error) = Holds pending continued next
 
 -- a refused stream is refused again
 abbrev pub TakesTurn : List ℕ → Bool → Stage → Stage × Result Turn AllocError → Type 0
-TakesTurn pending continued stage.Head result = IsTurn pending continued result
+TakesTurn pending continued (stage.Head place) result = IsTurn pending continued result
 TakesTurn pending continued (stage.Content content) result = IsTurn pending continued result
 TakesTurn pending continued (stage.Refused error) result = result ≡ (stage.Refused error, Ok (turn.Refused error))

@@ -1,6 +1,7 @@
 ghost use Rattle.std.specs.Prelude.{◌≡◌, ◌≤◌, [], false, IsTrue, ◌↔◌, OnOk, OnErr, length, drop};
 ghost use Rattle.http_frames.specs.Framing.{waiting, fed, IsNext};
 
+use crate::lines::{Place, start};
 use crate::progress::Content;
 use crate::turn::{Turn, take_turn};
 use crate::{FrameErr, Step};
@@ -12,8 +13,8 @@ use std::mem;
 /// Where the stream stands.
 #[derive(Debug, Drop)]
 pub(crate) enum Stage {
-    /// The head of the next request is not whole.
-    Head,
+    /// The head of the next request is not whole; it was read so far.
+    Head(Place),
     /// The head of a request was taken.
     Content(Content),
     /// The stream is refused.
@@ -56,7 +57,7 @@ impl Framer {
             bytes: Vec::new(alloc),
             start: 0,
             continued: false,
-            stage: Stage::Head,
+            stage: Stage::Head(start()),
         }
     }
 
@@ -80,7 +81,7 @@ impl Framer {
     pub fn next(&mut self) -> Result<Step, FrameErr>
         ensures { IsNext self.old result self.new }
     {
-        let stage = mem::replace(&mut self.stage, Stage::Head);
+        let stage = mem::replace(&mut self.stage, Stage::Head(start()));
         let pending = &self.bytes[self.start..];
         let (stage, turn) = take_turn(self.alloc, pending, self.continued, stage);
         self.stage = stage;
@@ -108,7 +109,7 @@ impl Framer {
         ensures { IsTrue result ↔ (self.now ≡ waiting [] false) }
     {
         match self.stage {
-            Stage::Head => self.start == self.bytes.len(),
+            Stage::Head(_) => self.start == self.bytes.len(),
             Stage::Content(_) => false,
             Stage::Refused(_) => false,
         }

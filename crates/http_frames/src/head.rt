@@ -2,9 +2,11 @@ ghost use Rattle.std.specs.Prelude.{◌≡◌, ℕ, ◌≤◌, List, length, tak
 ghost use Rattle.httparse.specs.Grammar.{RequestHead, HasNoRequest, NeverHasRequest, ReadsRequest};
 ghost use Rattle.httparse.specs.Spans.{span_bytes, IsWithin, IsHeaderWithin, IsRequestOf, IsRequestWithin, RequestExceeds};
 ghost use Rattle.http_frames.specs.HeadRules.{HEAD_LIMIT, method_of, fields_of};
+ghost use Rattle.http_frames.specs.Lines.{IsPlace};
 ghost use Rattle.http_frames.specs.HeadReading.{IsHeadRead, IsHeadStep, IsReadOf, head_of, header_field};
 
 use crate::FrameErr;
+use crate::lines::{Place, place_after, read_behind};
 use crate::rules::fields_refusal;
 use crate::target::ends_in_target;
 use httparse::spans::{EMPTY_HEADER_SPAN, HeaderSpan, RequestSpans, parse_request};
@@ -145,7 +147,7 @@ fn read_within(
 }
 
 /// What stands at the front of a text that begins no head.
-fn unless_in_target(text: &[u8]) -> HeadRead
+pub(crate) fn unless_in_target(text: &[u8]) -> HeadRead
     requires { NeverHasRequest text.now }
     ensures { IsHeadRead text.now result }
 {
@@ -187,29 +189,31 @@ pub(crate) enum HeadStep {
     Taken(Head),
     /// A refusal.
     Refused(FrameErr),
-    /// More bytes are needed.
-    Need,
+    /// More bytes are needed; the head was read so far.
+    Need(Place),
 }
 
-/// Takes the head at the front of the bytes.
-pub(crate) fn take_head(alloc: Global, pending: &[u8]) -> Result<HeadStep, NoMemory>
+/// Takes the head at the front of the bytes, which was read so far before.
+pub(crate) fn take_head(alloc: Global, pending: &[u8], place: Place) -> Result<HeadStep, NoMemory>
+    requires { IsPlace pending.now place }
     ensures { IfOk result (λ step. IsHeadStep pending.now step) }
 {
     let text = &pending[..HEAD_LIMIT.min(pending.len())];
-    let read = read_head(alloc, text)?;
-    Ok(judged(pending, read))
+    let read = read_behind(alloc, text, place)?;
+    Ok(judged(pending, place, read))
 }
 
 /// What was read at the front of the bytes, or of their first 16,384, leads to.
-fn judged(pending: &[u8], read: HeadRead) -> HeadStep
-    requires { IsHeadRead (take HEAD_LIMIT pending.now) read }
+fn judged(pending: &[u8], place: Place, read: HeadRead) -> HeadStep
+    requires place { IsPlace pending.now place }
+    requires read { IsHeadRead (take HEAD_LIMIT pending.now) read }
     ensures { IsHeadStep pending.now result }
 {
     match read {
         HeadRead::Whole(head) => judged_head(pending, head),
         HeadRead::Partial => {
             if pending.len() < HEAD_LIMIT {
-                HeadStep::Need
+                HeadStep::Need(place_after(pending, place))
             } else {
                 HeadStep::Refused(FrameErr::HeadTooLong)
             }

@@ -1,9 +1,16 @@
 //! Requests and responses of HTTP/1.1 as bytes (RFC 9112).
 //!
-//! - `plain` reads requests of the two forms that are understood so far.
+//! - `framer` takes requests out of a stream of bytes, in whatever pieces they come; `step` and `refusal` are its answers.
+//!   - `turn` takes the next step of a stream: a head, its `100 Continue`, its content.
+//!   - `head` reads the head at the front of the bytes, `lines` only what follows its whole lines, `rules` refuses what it may not say, and `target` tells where the
+//!     bytes end inside a request target.
+//!   - `progress` reads the content that came, by its length or in chunks. `content` joins chunks, of which `chunks` reads
+//!     one, `chunk_line` its line, and `trailers` what follows the last.
 //! - `connection` tells whether the connection ends after a request.
 //! - `response` writes a response.
-//! - `laws` has what holds of all bytes.
+//! - `plain` reads requests of two plain forms, as the first path takes them.
+//! - `laws` has what holds of all bytes: that they are one stream in one way, and that the answers of a framer are that
+//!   stream however the bytes were cut.
 #![tactic(auto)]
 
 mod chunk_line;
@@ -14,6 +21,7 @@ mod framer;
 mod front;
 mod head;
 pub mod laws;
+mod lines;
 mod plain;
 mod progress;
 mod refusal;

@@ -1,4 +1,9 @@
+mod chunks;
 mod connection;
-mod framer;
+mod cuts;
+mod heads;
+mod limits;
+mod pairs;
 mod plain;
 mod response;
+mod told;

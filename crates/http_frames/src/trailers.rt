@@ -119,7 +119,7 @@ fn read_long_section(alloc: Global, text: &[u8]) -> Result<TrailersRead, NoMemor
 }
 
 /// What stands at the front of the text; `None` where there is no room for its fields.
-fn section_within(text: &[u8], headers: &mut [HeaderSpan]) -> Option<TrailersRead>
+pub(crate) fn section_within(text: &[u8], headers: &mut [HeaderSpan]) -> Option<TrailersRead>
     ensures { IsSectionWithin text.now (length headers.old) result }
 {
     match parse_headers(text, headers) {

@@ -1,7 +1,8 @@
 ghost use Rattle.std.specs.Prelude.{◌≡◌, false, not, ◌&&◌};
 ghost use Rattle.http_frames.specs.Framer.{IsStage};
+ghost use Rattle.http_frames.specs.Lines.{IsPlace};
 ghost use Rattle.httparse.specs.Grammar.{RequestHead};
-ghost use Rattle.http_frames.specs.HeadReading.{head_of};
+ghost use Rattle.http_frames.specs.HeadReading.{head_of, IsHeadStep};
 ghost use Rattle.http_frames.specs.HeadRules.{request_of, is_bad_length, asks_to_continue};
 ghost use Rattle.http_frames.specs.Progress.{HoldsContent};
 ghost use Rattle.http_frames.specs.Turns.{IsTurn, TakesTurn};
@@ -9,6 +10,7 @@ ghost use Rattle.http_frames.specs.Turns.{IsTurn, TakesTurn};
 use crate::FrameErr;
 use crate::framer::Stage;
 use crate::head::{Head, HeadStep, take_head};
+use crate::lines::{Place, start};
 use crate::progress::{Content, Progress, take_content};
 use crate::rules::asks_to_continue;
 use side_base::{Blob, NoMemory, Request};
@@ -38,18 +40,30 @@ pub(crate) fn take_turn(
     ensures { TakesTurn pending.now continued stage result }
 {
     match stage {
-        Stage::Head => head_turn(alloc, pending),
+        Stage::Head(place) => head_turn(alloc, pending, place),
         Stage::Content(content) => content_turn(alloc, pending, continued, content),
         Stage::Refused(error) => (Stage::Refused(error), Ok(Turn::Refused(error))),
     }
 }
 
-/// What the bytes hold next, where no head was taken.
-fn head_turn(alloc: Global, pending: &[u8]) -> (Stage, Result<Turn, NoMemory>)
+/// What the bytes hold next, where no head was taken and one was read so far before.
+fn head_turn(alloc: Global, pending: &[u8], place: Place) -> (Stage, Result<Turn, NoMemory>)
+    requires { IsPlace pending.now place }
     ensures { IsTurn pending.now false result }
 {
-    match take_head(alloc, pending) {
-        Ok(HeadStep::Taken(head)) => {
+    match take_head(alloc, pending, place) {
+        Ok(step) => turn_of(alloc, pending, step),
+        Err(error) => (Stage::Head(place), Err(error)),
+    }
+}
+
+/// What the bytes hold next, from what stands at their front.
+fn turn_of(alloc: Global, pending: &[u8], step: HeadStep) -> (Stage, Result<Turn, NoMemory>)
+    requires { IsHeadStep pending.now step }
+    ensures { IsTurn pending.now false result }
+{
+    match step {
+        HeadStep::Taken(head) => {
             let content = Content {
                 at: head.len,
                 bytes: Blob::new(alloc),
@@ -57,9 +71,8 @@ fn head_turn(alloc: Global, pending: &[u8]) -> (Stage, Result<Turn, NoMemory>)
             };
             content_turn(alloc, pending, false, content)
         }
-        Ok(HeadStep::Refused(error)) => (Stage::Refused(error), Ok(Turn::Refused(error))),
-        Ok(HeadStep::Need) => (Stage::Head, Ok(Turn::Need)),
-        Err(error) => (Stage::Head, Err(error)),
+        HeadStep::Refused(error) => (Stage::Refused(error), Ok(Turn::Refused(error))),
+        HeadStep::Need(place) => (Stage::Head(place), Ok(Turn::Need)),
     }
 }
 
@@ -79,7 +92,7 @@ fn content_turn(
     match take_content(alloc, pending, &mut content) {
         Ok(Progress::Whole { end }) => {
             let request = request_of(content);
-            (Stage::Head, Ok(Turn::Request { request, end }))
+            (Stage::Head(start()), Ok(Turn::Request { request, end }))
         }
         Ok(Progress::Need) => (Stage::Content(content), Ok(Turn::Need)),
         Ok(Progress::Refused(error)) => (Stage::Refused(error), Ok(Turn::Refused(error))),

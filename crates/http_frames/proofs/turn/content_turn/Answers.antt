@@ -1,4 +1,6 @@
-use Rattle.std.proofs.Common.{sym, refl}
+use Rattle.std.proofs.Common.{sym, refl, ap}
+use Rattle.http_frames.specs.declared.lines.Place.{Place}
+use Rattle.http_frames.specs.declared.framer.Stage.TheVariants as stage
 use Rattle.http_frames.proofs.ProgressLemmas.{length_is_good}
 use Rattle.http_frames.proofs.TurnLemmas.{quiet_of, told_of, due_of, whole_turn}
 use Rattle.http_frames.proofs.turn.content_turn.Goals as goal
@@ -26,5 +28,5 @@ returns-in-Ok-Whole c =
     let step = rw c.in-Ok-Whole.field-0-is at c.in-Ok-Whole.ensures in (
       whole_turn c.args.pending.now c.args.content _ c.args.continued _ c.in-Ok-Whole.end c.requires step
           (told_of c.args.continued _ (sym c.if-is_due.ensures)) (c.request_of-request.ensures step.head step.parts),
-      refl,
+      ap (λ (p : Place). stage.Head p) c.start.ensures,
     )

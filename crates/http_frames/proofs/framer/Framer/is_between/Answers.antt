@@ -12,7 +12,7 @@ returns-in-Head c =
     let bytes = inside.bytes.items in
     let I : Stage → Type 0 = λ s. IsStage (drop inside.start bytes) inside.continued s in
     let told = subst I c.in-Head.is c.self.invariant.1 in
-    let both = between bytes inside.start inside.continued c.self.invariant.0 told in
+    let both = between bytes inside.start inside.continued c.self.invariant.0 told.0 in
     let view : waiting (drop inside.start bytes) inside.continued ≡ c.args.self.now =
     sym (ap (λ (s : Stage). state_at (drop inside.start bytes) inside.continued s) c.in-Head.is) ∙ c.self.view_is in (
       λ all. sym view ∙ both.0 (omega (arith, eqb-true inside.start c.len.result all, c.len.ensures, inside.bytes.ok.0)),

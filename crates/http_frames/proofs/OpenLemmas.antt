@@ -1,0 +1,412 @@
+-- The whole lines of a head, and what stands behind them.
+use Rattle.std.proofs.Common.{◌≡◌, ℕ, ◌+◌, ◌-◌, ◌<◌, ◌≤◌, Bool, true, false, not, ◌==◌, List, [], ◌∷◌, ◌++◌, length, take, drop, ◌⊎◌, inl, inr, refl, sym, ap, ◌∙◌, subst, arith, append_assoc, append-nil, get_or, get_or-drop, length-append, length-take, length-drop, take-append-drop}
+use Rattle.std.specs.List.{All, flat_map, list_all}
+use Rattle.std.proofs.lemmas.Bool.{false≢true, eqb-true}
+use Rattle.std.proofs.lemmas.List.{append_cancel_right, take-append-le, take_more, drop_more, take_rest}
+use Rattle.std.proofs.lemmas.List.Elements.{All-nil, All-cons, All-head, All-tail, All-append}
+use Rattle.std.proofs.lemmas.List.Sums.{AllPass-from_list_all}
+use Rattle.httparse.specs.Grammar.{RequestHead, IsRequestHead, ReadsRequest, HasNoRequest, NeverHasRequest, MayBecomeRequest, Field, IsField, print_field, print_section, ReadsSection, HasNoSection, NeverHasSection, MayBecomeSection, LineEnd, crlf, lf, print_end, print_blank, print_version, is_token_byte, is_uri_byte, is_value_byte}
+use Rattle.httparse.specs.Pieces.{RequestStart, is_newline}
+use Rattle.httparse.proofs.GrammarLemmas.{request_tree, request_pieces, request_from_pieces, print_request-append, cons-append}
+use Rattle.httparse.proofs.PieceLemmas.{RequestStart_deterministic, Section_skip, Stops_token}
+use Rattle.http_frames.specs.HeadRules.{HEAD_LIMIT}
+use Rattle.http_frames.specs.Lines.{OpensHead, AreLines}
+
+-- a start line, and what follows it
+abbrev start_on : RequestHead → List ℕ → List ℕ
+start_on h rest =
+    print_blank h.blank ++ (h.method ++ 32 ∷ (h.target ++ 32 ∷ (print_version h.minor ++ (print_end h.line_end ++ rest))))
+
+start_splits : (h : RequestHead) (rest : List ℕ) → start_on h rest ≡ start_on h [] ++ rest
+start_splits h rest = regroup (print_blank h.blank) h.method h.target (print_version h.minor) (print_end h.line_end) rest
+  where
+    regroup : (a b c d e r : List ℕ) → a ++ (b ++ 32 ∷ (c ++ 32 ∷ (d ++ (e ++ r)))) ≡ (a ++ (b ++ 32 ∷ (c ++ 32 ∷ (d ++ (e ++ []))))) ++ r
+    regroup a b c d e r = simp append_assoc
+
+start_reads : (h : RequestHead) → IsRequestHead h → (rest : List ℕ) → RequestStart (request_tree h).0 (start_on h rest) rest
+start_reads h is rest = (
+  _,
+  (refl, Stops_token h.method _ is.method.0 is.method.1),
+  (
+    _,
+    (is.method.0, is.method.1, refl),
+    (_, ((is.target.0, is.target.1, refl), is.target_text), (_, (is.minor, refl), refl)),
+  ),
+)
+
+abbrev pub lines_of : List Field → List ℕ
+lines_of fields = flat_map print_field fields
+
+-- whole lines are a start line and fields
+open_is : (front : List ℕ) (is : OpensHead front) → front ≡ start_on is.head [] ++ lines_of is.head.fields
+open_is front is =
+    let h = is.head in
+    append_cancel_right front (start_on h [] ++ lines_of h.fields) (10 ∷ [])
+    (is.reads.1 ∙ print_request-append h [] ∙ start_splits h (print_section h.fields h.last ++ [])
+    ∙ ap (λ (e : LineEnd). start_on h [] ++ (print_section h.fields e ++ [])) is.last
+    ∙ regroup (start_on h []) (lines_of h.fields) (10 ∷ []))
+  where
+    regroup : (a b c : List ℕ) → a ++ ((b ++ c) ++ []) ≡ (a ++ b) ++ c
+    regroup a b c = simp (append_assoc, append-nil)
+
+open_on : (front : List ℕ) (is : OpensHead front) (rest : List ℕ) → front ++ rest ≡ start_on is.head (lines_of is.head.fields ++ rest)
+open_on front is rest =
+    let h = is.head in
+    ap (λ (t : List ℕ). t ++ rest) (open_is front is) ∙ append_assoc (start_on h []) (lines_of h.fields) rest
+    ∙ sym (start_splits h (lines_of h.fields ++ rest))
+
+open_start : (front : List ℕ) (is : OpensHead front) (rest : List ℕ)
+    → RequestStart (request_tree is.head).0 (front ++ rest) (lines_of is.head.fields ++ rest)
+open_start front is rest =
+    let P : List ℕ → Type 0 = λ t. RequestStart (request_tree is.head).0 t (lines_of is.head.fields ++ rest) in
+    subst P (sym (open_on front is rest)) (start_reads is.head is.reads.0 (lines_of is.head.fields ++ rest))
+
+-- a head that begins with whole lines has a section behind them, and a section behind them makes a head
+section_behind : (front : List ℕ) (is : OpensHead front) (text : List ℕ) (k : RequestHead) (rest : List ℕ) → ReadsRequest (front ++ text) k rest
+    → (fields : List Field) × ReadsSection text fields k.last rest
+section_behind front is text k rest reads =
+    let pieces = request_pieces (front ++ text) k rest reads in
+    let same = RequestStart_deterministic.unique (request_tree is.head).0 (request_tree k).0 (front ++ text) (lines_of is.head.fields ++ text) pieces.0
+    (open_start front is text) pieces.1 in
+    let skipped = Section_skip is.head.fields k.fields k.last pieces.0 text rest (is.reads.0.fields, sym same.1) pieces.2 in
+    (skipped.0, skipped.2)
+
+head_of_section : (front : List ℕ) (is : OpensHead front) (text : List ℕ) (fields : List Field) (last : LineEnd) (rest : List ℕ)
+    → ReadsSection text fields last rest → (h : RequestHead) × ReadsRequest (front ++ text) h rest
+head_of_section front is text fields last rest reads = (
+  _,
+  request_from_pieces (front ++ text) ((request_tree is.head).0, (is.head.fields ++ fields, last)) rest (
+    lines_of is.head.fields ++ text,
+    open_start front is text,
+    (
+      All-append IsField is.head.fields fields is.reads.0.fields reads.0,
+      ap (λ (t : List ℕ). lines_of is.head.fields ++ t) reads.1 ∙ joined is.head.fields fields (print_end last) rest,
+    ),
+  ),
+)
+  where
+    joined : (fs gs : List Field) (e r : List ℕ) → lines_of fs ++ ((lines_of gs ++ e) ++ r) ≡ (lines_of (fs ++ gs) ++ e) ++ r
+    joined [] gs e r = refl
+    joined (f ∷ fs) gs e r =
+        append_assoc (print_field f) (lines_of fs) ((lines_of gs ++ e) ++ r) ∙ ap (λ (t : List ℕ). print_field f ++ t) (joined fs gs e r)
+        ∙ regroup (print_field f) (lines_of (fs ++ gs)) e r
+      where
+        regroup : (a b e r : List ℕ) → a ++ ((b ++ e) ++ r) ≡ ((a ++ b) ++ e) ++ r
+        regroup a b e r = simp append_assoc
+
+pub none_behind : (front text : List ℕ) → OpensHead front → HasNoSection text → HasNoRequest (front ++ text)
+none_behind front text is none k rest reads =
+    let section = section_behind front is text k rest reads in none section.0 k.last rest section.1
+
+pub may_behind : (front text : List ℕ) → OpensHead front → MayBecomeSection text → MayBecomeRequest (front ++ text)
+may_behind front text is may =
+    let head = head_of_section front is (text ++ may.0) may.1 may.2 [] may.3 in
+    let P : List ℕ → Type 0 = λ t. ReadsRequest t head.0 [] in
+    inl (may.0, head.0, subst P (sym (append_assoc front text may.0)) head.1)
+
+pub never_behind : (front text : List ℕ) → OpensHead front → NeverHasSection text → NeverHasRequest (front ++ text)
+never_behind front text is never more k rest reads =
+    let P : List ℕ → Type 0 = λ t. ReadsRequest t k rest in
+    let section = section_behind front is (text ++ more) k rest (subst P (append_assoc front text more) reads) in
+    never more section.0 k.last rest section.1
+
+-- ---- where lines end
+
+abbrev pub NoFeed : List ℕ → Type 0
+NoFeed bytes = All (λ (b : ℕ). b ≡ 10 → ⊥) bytes
+
+no_feed_of : (test : ℕ → Bool) → test 10 ≡ false → (bytes : List ℕ) → All (λ b. test b ≡ true) bytes → NoFeed bytes
+no_feed_of test stop [] all = All-nil (λ (b : ℕ). b ≡ 10 → ⊥)
+no_feed_of test stop (b ∷ bytes) all =
+    let here : test b ≡ true = All-head (λ v. test v ≡ true) b bytes all in
+    All-cons (λ (x : ℕ). x ≡ 10 → ⊥) b bytes (λ e. false≢true (sym stop ∙ ap test (sym e) ∙ here))
+    (no_feed_of test stop bytes (All-tail (λ v. test v ≡ true) b bytes all))
+
+no_feed_append : (a b : List ℕ) → NoFeed a → NoFeed b → NoFeed (a ++ b)
+no_feed_append a b x y = All-append (λ (v : ℕ). v ≡ 10 → ⊥) a b x y
+
+no_feed_cons : (b : ℕ) (bytes : List ℕ) → (b ≡ 10 → ⊥) → NoFeed bytes → NoFeed (b ∷ bytes)
+no_feed_cons b bytes here rest = All-cons (λ (v : ℕ). v ≡ 10 → ⊥) b bytes here rest
+
+pub no_feed_none : (body l m : List ℕ) → NoFeed body → body ≡ l ++ 10 ∷ m → ⊥
+no_feed_none [] [] m none e = cc
+no_feed_none [] (y ∷ l) m none e = cc
+no_feed_none (b ∷ body) [] m none e = All-head (λ (v : ℕ). v ≡ 10 → ⊥) b body none (cc)
+no_feed_none (b ∷ body) (y ∷ l) m none e = no_feed_none body l m (All-tail (λ (v : ℕ). v ≡ 10 → ⊥) b body none) (cc)
+
+-- a line feed stands at the end of the first line or behind it
+abbrev Cut : List ℕ → List ℕ → List ℕ → List ℕ → Type 0
+Cut body rest l m = ((l ≡ body) × (rest ≡ m)) ⊎ ((k : List ℕ) × (l ≡ body ++ 10 ∷ k) × (rest ≡ k ++ 10 ∷ m))
+
+cut_line : (body rest l m : List ℕ) → NoFeed body → body ++ 10 ∷ rest ≡ l ++ 10 ∷ m → Cut body rest l m
+cut_line [] rest [] m none e = inl (refl, cc)
+cut_line [] rest (y ∷ l) m none e = inr (l, cc, cc)
+cut_line (b ∷ body) rest [] m none e = absurd (All-head (λ (v : ℕ). v ≡ 10 → ⊥) b body none (cc))
+cut_line (b ∷ body) rest (y ∷ l) m none e =
+    let same : b ≡ y = cc in
+    elim (cut_line body rest l m (All-tail (λ (v : ℕ). v ≡ 10 → ⊥) b body none) (cc)) [
+      | inl (is, at) ↦ inl (λ i. sym same i ∷ is i, at)
+      | inr (k, is, at) ↦ inr (k, λ i. sym same i ∷ is i, at)
+    ]
+
+-- a line end is a line feed, which a carriage return may stand before
+abbrev pub before_feed : LineEnd → List ℕ
+before_feed crlf = 13 ∷ []
+before_feed lf = []
+
+before_no_feed : (end : LineEnd) → NoFeed (before_feed end)
+before_no_feed crlf = no_feed_cons 13 [] (λ e. omega (arith, e)) (All-nil (λ (v : ℕ). v ≡ 10 → ⊥))
+before_no_feed lf = All-nil (λ (v : ℕ). v ≡ 10 → ⊥)
+
+pub end_is : (body : List ℕ) (end : LineEnd) (rest : List ℕ) → body ++ (print_end end ++ rest) ≡ (body ++ before_feed end) ++ 10 ∷ rest
+end_is body crlf rest = sym (append_assoc body (13 ∷ []) (10 ∷ rest))
+end_is body lf rest = ap (λ (t : List ℕ). t ++ 10 ∷ rest) (sym (append-nil body))
+
+line_no_feed : (body : List ℕ) (end : LineEnd) → NoFeed body → NoFeed (body ++ before_feed end)
+line_no_feed body end none = no_feed_append body (before_feed end) none (before_no_feed end)
+
+-- the empty lines in front are line ends alone
+cut_blank : (ends : List LineEnd) (rest l m : List ℕ) → print_blank ends ++ rest ≡ l ++ 10 ∷ m → list_all is_newline l ≡ false
+    → (k : List ℕ) × (l ≡ print_blank ends ++ k) × (rest ≡ k ++ 10 ∷ m)
+cut_blank [] rest l m e some = (l, refl, e)
+cut_blank (lf ∷ ends) rest l m e some = elim (cut_line [] (print_blank ends ++ rest) l m (before_no_feed lf) e) [
+  | inl (is, at) ↦ absurd (false≢true (sym some ∙ ap (list_all is_newline) is))
+  | inr (k, is, at) ↦
+      let others = cut_blank ends rest k m at (sym (ap (list_all is_newline) is) ∙ some) in
+      (others.0, is ∙ ap (λ (t : List ℕ). 10 ∷ t) others.1, others.2)
+]
+cut_blank (crlf ∷ ends) rest l m e some = elim (cut_line (13 ∷ []) (print_blank ends ++ rest) l m (before_no_feed crlf) e) [
+  | inl (is, at) ↦ absurd (false≢true (sym some ∙ ap (list_all is_newline) is))
+  | inr (k, is, at) ↦
+      let others = cut_blank ends rest k m at (sym (ap (list_all is_newline) is) ∙ some) in
+      (others.0, is ∙ ap (λ (t : List ℕ). 13 ∷ 10 ∷ t) others.1, others.2)
+]
+
+-- in a section a line feed ends a field, or comes with the end of the section or behind it
+record EndsFields (l : List ℕ) : Type 0 where
+  fields : List Field
+  valid : All IsField fields
+  is : l ++ 10 ∷ [] ≡ lines_of fields
+
+record HasSection (fields : List Field) (last : LineEnd) (l : List ℕ) : Type 0 where
+  more : List ℕ
+  is : l ++ 10 ∷ [] ≡ print_section fields last ++ more
+
+token_stops : is_token_byte 10 ≡ false
+unfolding is_token_byte
+token_stops = refl
+
+pub field_no_feed : (f : Field) → IsField f → NoFeed (f.name ++ 58 ∷ f.raw)
+field_no_feed f is =
+    no_feed_append f.name (58 ∷ f.raw) (no_feed_of is_token_byte token_stops f.name is.name.1)
+    (no_feed_cons 58 f.raw (λ e. omega (arith, e)) (no_feed_of is_value_byte refl f.raw is.raw))
+
+field_on : (f : Field) (rest : List ℕ) → print_field f ++ rest ≡ ((f.name ++ 58 ∷ f.raw) ++ before_feed f.end) ++ 10 ∷ rest
+field_on f rest = regroup f.name f.raw (print_end f.end) rest ∙ end_is (f.name ++ 58 ∷ f.raw) f.end rest
+  where
+    regroup : (a b e r : List ℕ) → (a ++ 58 ∷ b ++ e) ++ r ≡ (a ++ 58 ∷ b) ++ (e ++ r)
+    regroup a b e r = simp append_assoc
+
+cut_section : (fields : List Field) (last : LineEnd) (rest l m : List ℕ) → All IsField fields → print_section fields last ++ rest ≡ l ++ 10 ∷ m
+    → EndsFields l ⊎ HasSection fields last l
+cut_section [] last rest l m all e =
+    elim (cut_line (before_feed last) rest l m (before_no_feed last) (sym (end_is [] last rest) ∙ e)) [
+      | inl (is, at) ↦ inr (record { more = []; is = ap (λ (t : List ℕ). t ++ 10 ∷ []) is ∙ sym (end_is [] last []) })
+      | inr (k, is, at) ↦ inr (record {
+        more = k ++ 10 ∷ [];
+        is = ap (λ (t : List ℕ). t ++ 10 ∷ []) is ∙ append_assoc (before_feed last) (10 ∷ k) (10 ∷ []) ∙ sym (end_is [] last (k ++ 10 ∷ []));
+      })
+    ]
+cut_section (f ∷ fields) last rest l m all e =
+    let valid = All-head IsField f fields all in
+    let body = (f.name ++ 58 ∷ f.raw) ++ before_feed f.end in
+    let line = line_no_feed (f.name ++ 58 ∷ f.raw) f.end (field_no_feed f valid) in
+    elim (cut_line body (print_section fields last ++ rest) l m line (sym (field_on f (print_section fields last ++ rest)) ∙ opened f fields last rest ∙ e)) [
+      | inl (is, at) ↦ inl (record {
+        fields = f ∷ [];
+        valid = All-cons IsField f [] valid (All-nil IsField);
+        is = ap (λ (t : List ℕ). t ++ 10 ∷ []) is ∙ sym (field_on f []);
+      })
+      | inr (k, is, at) ↦ elim (cut_section fields last rest k m (All-tail IsField f fields all) at) [
+        | inl ends ↦ inl (record {
+          fields = f ∷ ends.fields;
+          valid = All-cons IsField f ends.fields valid ends.valid;
+          is = ap (λ (t : List ℕ). t ++ 10 ∷ []) is ∙ append_assoc body (10 ∷ k) (10 ∷ []) ∙ sym (field_on f (k ++ 10 ∷ []))
+              ∙ ap (λ (t : List ℕ). print_field f ++ t) ends.is;
+        })
+        | inr has ↦ inr (record {
+          more = has.more;
+          is = ap (λ (t : List ℕ). t ++ 10 ∷ []) is ∙ append_assoc body (10 ∷ k) (10 ∷ []) ∙ sym (field_on f (k ++ 10 ∷ []))
+              ∙ ap (λ (t : List ℕ). print_field f ++ t) has.is ∙ opened f fields last has.more;
+        })
+      ]
+    ]
+  where
+    opened : (f : Field) (fields : List Field) (last : LineEnd) (rest : List ℕ)
+        → print_field f ++ (print_section fields last ++ rest) ≡ print_section (f ∷ fields) last ++ rest
+    opened f fields last rest = regroup (print_field f) (lines_of fields) (print_end last) rest
+      where
+        regroup : (a b e r : List ℕ) → a ++ ((b ++ e) ++ r) ≡ ((a ++ b) ++ e) ++ r
+        regroup a b e r = simp append_assoc
+
+-- the start line
+start_body : RequestHead → List ℕ
+start_body h = h.method ++ 32 ∷ (h.target ++ 32 ∷ print_version h.minor)
+
+version_no_feed : (minor : ℕ) → NoFeed (print_version minor)
+version_no_feed minor =
+    no_feed_append (72 ∷ 84 ∷ 84 ∷ 80 ∷ 47 ∷ 49 ∷ 46 ∷ []) ((48 + minor) ∷ [])
+    (no_feed_of (λ b. not (b == 10)) refl (72 ∷ 84 ∷ 84 ∷ 80 ∷ 47 ∷ 49 ∷ 46 ∷ [])
+    (AllPass-from_list_all (λ b. not (b == 10)) (72 ∷ 84 ∷ 84 ∷ 80 ∷ 47 ∷ 49 ∷ 46 ∷ []) refl))
+    (no_feed_cons (48 + minor) [] (λ e. omega (arith, e)) (All-nil (λ (v : ℕ). v ≡ 10 → ⊥)))
+
+start_no_feed : (h : RequestHead) → IsRequestHead h → NoFeed (start_body h)
+unfolding start_body
+start_no_feed h is =
+    no_feed_append h.method (32 ∷ (h.target ++ 32 ∷ print_version h.minor)) (no_feed_of is_token_byte token_stops h.method is.method.1)
+    (no_feed_cons 32 (h.target ++ 32 ∷ print_version h.minor) (λ e. omega (arith, e)) (no_feed_append h.target (32 ∷ print_version h.minor) (no_feed_of is_uri_byte refl h.target is.target.1)
+    (no_feed_cons 32 (print_version h.minor) (λ e. omega (arith, e)) (version_no_feed h.minor))))
+
+start_line : (h : RequestHead) (rest : List ℕ) → start_on h rest ≡ print_blank h.blank ++ ((start_body h ++ before_feed h.line_end) ++ 10 ∷ rest)
+unfolding start_body
+start_line h rest =
+    ap (λ (t : List ℕ). print_blank h.blank ++ t)
+    (regroup h.method h.target (print_version h.minor) (print_end h.line_end) rest ∙ end_is (start_body h) h.line_end rest)
+  where
+    regroup : (b c d e r : List ℕ) → b ++ 32 ∷ (c ++ 32 ∷ (d ++ (e ++ r))) ≡ (b ++ 32 ∷ (c ++ 32 ∷ d)) ++ (e ++ r)
+    regroup b c d e r = simp (append_assoc, cons-append)
+
+-- a line feed behind the start line, and not behind the end of the head, ends whole lines
+opens_with : (h : RequestHead) → IsRequestHead h → (fields : List Field) → All IsField fields → (front : List ℕ) → front ≡ start_on h (lines_of fields) → OpensHead front
+opens_with h is fields all front same =
+    let reads = request_from_pieces (front ++ 10 ∷ []) ((request_tree h).0, (fields, lf)) [] (
+      lines_of fields ++ 10 ∷ [],
+      let P : List ℕ → Type 0 = λ t. RequestStart (request_tree h).0 t (lines_of fields ++ 10 ∷ []) in
+          subst P (sym (ap (λ (t : List ℕ). t ++ 10 ∷ []) (same ∙ start_splits h (lines_of fields)) ∙ append_assoc (start_on h []) (lines_of fields) (10 ∷ [])
+          ∙ sym (start_splits h (lines_of fields ++ 10 ∷ [])))) (start_reads h is (lines_of fields ++ 10 ∷ [])),
+      (all, sym (append-nil (lines_of fields ++ 10 ∷ []))),
+    ) in
+    record { head = _; reads = reads; last = refl }
+
+section_at : (h : RequestHead) (l k m : List ℕ) → IsRequestHead h → HasNoRequest (l ++ 10 ∷ m) → (rest : List ℕ)
+    → l ≡ print_blank h.blank ++ ((start_body h ++ before_feed h.line_end) ++ 10 ∷ k) → EndsFields k ⊎ HasSection h.fields h.last k → OpensHead (l ++ 10 ∷ [])
+section_at h l k m is none rest cut (inl ends) =
+    opens_with h is ends.fields ends.valid (l ++ 10 ∷ []) (
+    ap (λ (t : List ℕ). t ++ 10 ∷ []) (cut ∙ sym (start_line h k) ∙ start_splits h k) ∙ append_assoc (start_on h []) k (10 ∷ [])
+    ∙ sym (start_splits h (k ++ 10 ∷ [])) ∙ ap (start_on h) ends.is
+    )
+section_at h l k m is none rest cut (inr has) =
+    absurd (none h (has.more ++ m) (
+      is,
+      regroup l m ∙ ap (λ (t : List ℕ). (t ++ 10 ∷ []) ++ m) (cut ∙ sym (start_line h k) ∙ start_splits h k)
+          ∙ deeper (start_on h []) k m ∙ ap (λ (t : List ℕ). start_on h [] ++ (t ++ m)) has.is
+          ∙ ap (λ (t : List ℕ). start_on h [] ++ t) (append_assoc (print_section h.fields h.last) has.more m)
+          ∙ sym (start_splits h (print_section h.fields h.last ++ (has.more ++ m))) ∙ sym (print_request-append h (has.more ++ m)),
+    ))
+  where
+    regroup : (l m : List ℕ) → l ++ 10 ∷ m ≡ (l ++ 10 ∷ []) ++ m
+    regroup l m = simp (append_assoc, cons-append)
+
+    deeper : (a k m : List ℕ) → ((a ++ k) ++ 10 ∷ []) ++ m ≡ a ++ ((k ++ 10 ∷ []) ++ m)
+    deeper a k m = simp append_assoc
+
+opens_becoming : (l m more : List ℕ) (h : RequestHead) → list_all is_newline l ≡ false → HasNoRequest (l ++ 10 ∷ m)
+    → ReadsRequest ((l ++ 10 ∷ m) ++ more) h [] → OpensHead (l ++ 10 ∷ [])
+opens_becoming l m more h some none reads =
+    let body = start_body h ++ before_feed h.line_end in
+    let section = print_section h.fields h.last ++ [] in
+    let all : print_blank h.blank ++ (body ++ 10 ∷ section) ≡ l ++ 10 ∷ (m ++ more) =
+    sym (start_line h section) ∙ sym (print_request-append h []) ∙ sym reads.1 ∙ append_assoc l (10 ∷ m) more in
+    let blank = cut_blank h.blank (body ++ 10 ∷ section) l (m ++ more) all some in
+    elim (cut_line body section blank.0 (m ++ more) (line_no_feed (start_body h) h.line_end (start_no_feed h reads.0)) blank.2) [
+      | inl (is, at) ↦
+          opens_with h reads.0 [] (All-nil IsField) (l ++ 10 ∷ []) (
+          ap (λ (t : List ℕ). t ++ 10 ∷ []) (blank.1 ∙ ap (λ (t : List ℕ). print_blank h.blank ++ t) is)
+          ∙ append_assoc (print_blank h.blank) body (10 ∷ []) ∙ sym (start_line h [])
+          )
+      | inr (k, is, at) ↦
+          section_at h l k m reads.0 none [] (blank.1 ∙ ap (λ (t : List ℕ). print_blank h.blank ++ t) is)
+          (cut_section h.fields h.last [] k (m ++ more) reads.0.fields at)
+    ]
+
+opens_target : (l m : List ℕ) (blank : List LineEnd) (method target : List ℕ) → list_all is_newline l ≡ false
+    → All (λ b. is_token_byte b ≡ true) method → All (λ b. is_uri_byte b ≡ true) target
+    → l ++ 10 ∷ m ≡ print_blank blank ++ method ++ 32 ∷ target → ⊥
+opens_target l m blank method target some token uri e =
+    let cut = cut_blank blank (method ++ 32 ∷ target) l m (sym (e ∙ append_assoc (print_blank blank) method (32 ∷ target))) some in
+    no_feed_none (method ++ 32 ∷ target) cut.0 m
+    (no_feed_append method (32 ∷ target) (no_feed_of is_token_byte token_stops method token)
+    (no_feed_cons 32 target (λ x. omega (arith, x)) (no_feed_of is_uri_byte refl target uri))) cut.2
+
+pub opens_at : (l m : List ℕ) → list_all is_newline l ≡ false → HasNoRequest (l ++ 10 ∷ m) → MayBecomeRequest (l ++ 10 ∷ m) → OpensHead (l ++ 10 ∷ [])
+opens_at l m some none (inl (more, h, reads)) = opens_becoming l m more h some none reads
+opens_at l m some none (inr (blank, method, target, token, uri, e)) = absurd (opens_target l m blank method target some token.1 uri e)
+
+-- ---- places
+
+pub no_lines : (text : List ℕ) → AreLines text 0
+no_lines text = record { within = omega arith; short = omega arith; opens = λ some. absurd (omega arith) }
+
+pub lines_more : (text more : List ℕ) (lines : ℕ) → AreLines text lines → AreLines (text ++ more) lines
+lines_more text more lines is = record {
+  within = omega (arith, is.within, length-append text more);
+  short = is.short;
+  opens = λ some. subst OpensHead (sym (take-append-le lines text more is.within)) (is.opens some);
+}
+
+-- the same of the front that a head is read in
+pub lines_front : (text : List ℕ) (lines : ℕ) → AreLines text lines → AreLines (take HEAD_LIMIT text) lines
+lines_front text lines is =
+    let within : lines ≤ length (take HEAD_LIMIT text) = omega (arith, is.within, is.short, length-take HEAD_LIMIT text) in
+    let same : take lines text ≡ take lines (take HEAD_LIMIT text) =
+    ap (take lines) (sym (take-append-drop HEAD_LIMIT text)) ∙ take-append-le lines (take HEAD_LIMIT text) (drop HEAD_LIMIT text) within in
+    record { within = within; short = is.short; opens = λ some. subst OpensHead same (is.opens some) }
+
+pub lines_split : (text : List ℕ) (lines : ℕ) → take lines text ++ drop lines text ≡ text
+lines_split text lines = take-append-drop lines text
+
+pub lines_at : (text : List ℕ) (at : ℕ) → at < length text → at < HEAD_LIMIT → get_or text at 0 ≡ 10 → list_all is_newline (take at text) ≡ false
+    → HasNoRequest text → MayBecomeRequest text → AreLines text (at + 1)
+lines_at text at inside short feed some none may =
+    let cut : text ≡ take at text ++ 10 ∷ drop (at + 1) text =
+    sym (take-append-drop at text) ∙ ap (λ (t : List ℕ). take at text ++ t) (drop_more text at 0 inside ∙ ap (λ (b : ℕ). b ∷ drop (at + 1) text) feed) in
+    let front : take (at + 1) text ≡ take at text ++ 10 ∷ [] = take_more text at 0 inside ∙ ap (λ (b : ℕ). take at text ++ b ∷ []) feed in
+    record {
+      within = omega arith;
+      short = omega arith;
+      opens = λ _.
+          subst OpensHead (sym front)
+          (opens_at (take at text) (drop (at + 1) text) some (subst HasNoRequest cut none) (subst MayBecomeRequest cut may));
+    }
+
+-- ---- what stands behind the lines, as a slice of the text
+
+abbrev pub rest_of : List ℕ → ℕ → List ℕ
+rest_of text lines = take (length text - lines) (drop lines text)
+
+whole_behind : (text : List ℕ) (lines : ℕ) → take lines text ++ rest_of text lines ≡ text
+whole_behind text lines = ap (λ (t : List ℕ). take lines text ++ t) (take_rest text lines) ∙ take-append-drop lines text
+
+opened : (text : List ℕ) (lines : ℕ) → AreLines text lines → (lines ≡ 0 → ⊥) → OpensHead (take lines text)
+opened text lines is some = is.opens (omega (arith, some))
+
+pub partial_behind : (text : List ℕ) (lines : ℕ) → AreLines text lines → (lines ≡ 0 → ⊥)
+    → HasNoSection (rest_of text lines) × MayBecomeSection (rest_of text lines) → HasNoRequest text × MayBecomeRequest text
+partial_behind text lines is some read =
+    let open_ = opened text lines is some in (
+      subst HasNoRequest (whole_behind text lines) (none_behind (take lines text) (rest_of text lines) open_ read.0),
+      subst MayBecomeRequest (whole_behind text lines) (may_behind (take lines text) (rest_of text lines) open_ read.1),
+    )
+
+pub invalid_behind : (text : List ℕ) (lines : ℕ) → AreLines text lines → (lines ≡ 0 → ⊥) → NeverHasSection (rest_of text lines) → NeverHasRequest text
+invalid_behind text lines is some never =
+    subst NeverHasRequest (whole_behind text lines) (never_behind (take lines text) (rest_of text lines) (opened text lines is some) never)
+
+pub feed_behind : (text : List ℕ) (lines at : ℕ) → AreLines text lines → length text < HEAD_LIMIT → at < length (rest_of text lines)
+    → (get_or (rest_of text lines) at 0 == 10) ≡ true → list_all is_newline (take (lines + at) text) ≡ false
+    → HasNoRequest text → MayBecomeRequest text → AreLines text (lines + at + 1)
+feed_behind text lines at is short inside feed some none may =
+    let within : lines + at < length text = omega (arith, ap length (take_rest text lines), length-drop lines text) in
+    let byte : get_or text (lines + at) 0 ≡ 10 =
+    sym (get_or-drop lines text at 0) ∙ ap (λ (t : List ℕ). get_or t at 0) (sym (take_rest text lines)) ∙ eqb-true _ 10 feed in
+    lines_at text (lines + at) within (omega arith) byte some none may

@@ -1,0 +1,5 @@
+use Rattle.http_frames.proofs.EndLemmas.{between_rest}
+use Rattle.http_frames.proofs.laws.between_requests_nothing_is_left.Goals as goal
+
+pub returns : goal.returns
+returns c = between_rest

@@ -1,0 +1,18 @@
+use Rattle.http_frames.proofs.OpenLemmas.{partial_behind, invalid_behind}
+use Rattle.http_frames.proofs.PlaceLemmas.{partial_value}
+use Rattle.http_frames.proofs.lines.read_behind.Goals as goal
+
+pub unless_in_target-requires : goal.unless_in_target-requires
+unless_in_target-requires c =
+    let read = rw c.in-Some-Invalid.field-0-is at c.in-Some-Invalid.ensures in
+    invalid_behind c.args.text.now c.args.place.lines c.requires.place.lines c.if-place-eq0.false read
+
+pub returns-in-Some-Partial : goal.returns-in-Some-Partial
+returns-in-Some-Partial c =
+    let read = rw c.in-Some-Partial.field-0-is at c.in-Some-Partial.ensures in
+    partial_behind c.args.text.now c.args.place.lines c.requires.place.lines c.if-place-eq0.false read
+
+pub returns-then-goes_on : goal.returns-then-goes_on
+returns-then-goes_on c =
+    let value = c.goes_on.ensures c.if-goes_on.true in
+    partial_value c.args.text.now c.args.place.lines c.requires.place.lines value.0 value.1
