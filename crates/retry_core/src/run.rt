@@ -67,6 +67,7 @@ impl RetryRun {
         ensures stays { GivesUp self.old.policy self.old.attempts → self.new ≡ self.old }
         ensures waits { ¬ GivesUp self.old.policy self.old.attempts → (words : List ℕ) → self.old ≡ run_after self.old.policy words
             → (result ≡ Next.Wait (wait_after self.old.policy.kind (words ++ word ∷ []))) × (self.new ≡ run_after self.old.policy (words ++ word ∷ [])) }
+        ensures most { (ms : ℕ) → result ≡ Next.Wait ms → ms ≤ DURATION_LIMIT }
     {
         if gives_up(&self.policy, self.attempts) {
             return Next::GiveUp {
