@@ -1,0 +1,16 @@
+pub mod After
+pub mod Aims
+pub mod Books
+pub mod Course
+pub mod Empty
+pub mod Laws
+pub mod Ledger
+pub mod Message
+pub mod Place
+pub mod Plan
+pub mod Reply
+pub mod Row
+pub mod Rows
+pub mod Size
+pub mod Standing
+pub mod Tree

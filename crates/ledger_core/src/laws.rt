@@ -1,0 +1,32 @@
+//! What holds of every history of a ledger, as functions whose contract is the law.
+ghost use Rattle.std.specs.Prelude.{List};
+ghost use Rattle.turn_cell.specs.History.{IsLegal};
+ghost use Rattle.ledger_core.specs.declared.ledger.Ledger.{Ledger};
+ghost use Rattle.ledger_core.specs.Message.{Step};
+ghost use Rattle.ledger_core.specs.Ledger.{Stands, plans_of, books_of};
+ghost use Rattle.ledger_core.specs.Laws.{AreCountedOnce, StaysSettled, IsSettledOnce, AreLetters, RowsAreOwed};
+
+use crate::Ledger;
+use turn_cell::Object;
+
+/// The rows of a ledger are the owed pairs, each once: it waits where nobody holds it, and is held under one claim else.
+pub fn rows_are_the_owed_pairs()
+    ensures { (first ledger : Ledger) (history : List Step) → Stands first history ledger → RowsAreOwed (plans_of first) history (books_of ledger) }
+{}
+
+/// A status other than owed never changes.
+pub fn a_settled_pair_stays_so()
+    ensures { (first : Ledger) (history : List Step) → IsLegal ⟦<Ledger as Object>⟧ first history → StaysSettled history }
+{}
+
+/// A settling that dead-letters a pair makes one message, with its event and one hop more; and what is settled for good is not
+/// settled again.
+pub fn a_dead_letter_is_one_message()
+    ensures letters { (first : Ledger) (history : List Step) → IsLegal ⟦<Ledger as Object>⟧ first history → AreLetters history }
+    ensures once { (first : Ledger) (history : List Step) → IsLegal ⟦<Ledger as Object>⟧ first history → IsSettledOnce history }
+{}
+
+/// The pairs of the four statuses are all pairs.
+pub fn the_counts_are_all_pairs()
+    ensures { (history : List Step) → AreCountedOnce history }
+{}
