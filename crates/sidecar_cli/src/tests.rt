@@ -1,4 +1,4 @@
-use crate::{Device, Status, World, sidecar_main};
+use crate::{Status, World, sidecar_main};
 use side_base::{Blob, NoMemory, Places, Sequence, Text};
 use side_world::{MemorySink, MemorySource, Sink, Sizes, Source};
 use std::alloc::Global;
@@ -24,7 +24,49 @@ const FOUND_AND_CLOSED: &[u8] =
 /// More than any of these runs writes, so that a sink takes no memory while it runs.
 const SINK_ROOM: usize = 512;
 
-const RUN: [&str; 3] = ["--app-id", "a", "--stdio"];
+const NO_MEMORY: &[u8] = b"no memory\n";
+
+const WORDS: [&str; 3] = ["--app-id", "a", "--stdio"];
+
+/// A run, and how it ends.
+#[derive(Clone, Copy)]
+struct Run {
+    words: &'static [&'static str],
+    input: &'static [&'static [u8]],
+    /// The reads that fail, counted from 0.
+    failing_reads: &'static [u32],
+    sink: Cut,
+    note: Cut,
+    status: u8,
+    told: &'static [u8],
+    sent: &'static [&'static [u8]],
+}
+
+/// The most bytes that the writes to a sink take, in order, and the writes that fail, counted from 0.
+#[derive(Clone, Copy)]
+struct Cut {
+    sizes: &'static [usize],
+    failing: &'static [u32],
+}
+
+const WHOLE: Cut = Cut {
+    sizes: &[],
+    failing: &[],
+};
+
+/// A run in which no device fails, which is asked for and sends nothing.
+fn asked(input: &'static [&'static [u8]]) -> Run {
+    Run {
+        words: &WORDS,
+        input,
+        failing_reads: &[],
+        sink: WHOLE,
+        note: WHOLE,
+        status: 0,
+        told: b"",
+        sent: &[],
+    }
+}
 
 fn joined(alloc: Global, parts: &[&[u8]]) -> Result<Blob, NoMemory> {
     let mut joined = Blob::new(alloc);
@@ -52,31 +94,54 @@ fn source(alloc: Global, bytes: Blob, failing: &[u32]) -> Result<MemorySource, N
     Ok(MemorySource::new(bytes, sizes, failing))
 }
 
-fn sink(alloc: Global, sizes: &[usize], failing: &[u32]) -> Result<MemorySink, NoMemory> {
-    let sizes: Sizes = list(alloc, sizes)?;
-    let failing: Places = list(alloc, failing)?;
+fn sink(alloc: Global, cut: Cut) -> Result<MemorySink, NoMemory> {
+    let sizes: Sizes = list(alloc, cut.sizes)?;
+    let failing: Places = list(alloc, cut.failing)?;
     MemorySink::with_room(alloc, SINK_ROOM, sizes, failing)
 }
 
-fn world(
-    alloc: Global,
-    bytes: Blob,
-) -> Result<World<MemorySource, MemorySink, MemorySink>, NoMemory> {
-    Ok(World {
-        source: source(alloc, bytes, &[])?,
-        sink: sink(alloc, &[], &[])?,
-        note: sink(alloc, &[], &[])?,
-    })
-}
-
 // Runs over any devices, by their bounds alone.
-fn run<S: Source, N: Sink, E: Sink>(
+fn status_of<S: Source, N: Sink, E: Sink>(
     alloc: Global,
     words: &[&str],
     world: &mut World<S, N, E>,
 ) -> Result<Status, NoMemory> {
     let words = texts(alloc, words)?;
     Ok(sidecar_main(alloc, &words, world))
+}
+
+/// Whether a run over this input ends as it is told. One that finds no memory says so and sends nothing, and is want of memory here.
+fn ends_so(alloc: Global, run: Run, input: Blob) -> Result<bool, NoMemory> {
+    let sent = joined(alloc, run.sent)?;
+    let mut world = World {
+        source: source(alloc, input, run.failing_reads)?,
+        sink: sink(alloc, run.sink)?,
+        note: sink(alloc, run.note)?,
+    };
+    let status = status_of(alloc, run.words, &mut world)?;
+    if status == Status::NoMemory
+        && world.sink.bytes().is_empty()
+        && world.note.bytes() == NO_MEMORY
+    {
+        return Err(NoMemory);
+    }
+    Ok(
+        status.code() == run.status
+            && world.note.bytes() == run.told
+            && world.sink.bytes() == sent.bytes(),
+    )
+}
+
+/// Whether a run ends as it is told. One that finds no memory is made again: then there is some, where one allocation of a test fails.
+fn is_right(alloc: Global, run: Run) -> Result<bool, NoMemory> {
+    match once(alloc, run) {
+        Err(NoMemory) => once(alloc, run),
+        right => right,
+    }
+}
+
+fn once(alloc: Global, run: Run) -> Result<bool, NoMemory> {
+    ends_so(alloc, run, joined(alloc, run.input)?)
 }
 
 /// Requests, and the responses to them.
@@ -91,25 +156,11 @@ const EXCHANGES: [Exchange; 6] = [
     (&[SAVE], &[NO_CONTENT]),
 ];
 
-/// Whether the requests are answered so. A run that finds no memory sends nothing.
-fn is_answered(alloc: Global, exchange: Exchange) -> Result<bool, NoMemory> {
-    let (requests, responses) = exchange;
-    let mut world = world(alloc, joined(alloc, requests)?)?;
-    let status = run(alloc, &RUN, &mut world)?;
-    let wanted = match status {
-        Status::Ok => joined(alloc, responses)?,
-        _ => Blob::new(alloc),
-    };
-    Ok(
-        (status == Status::Ok || status == Status::NoMemory)
-            && world.sink.bytes() == wanted.bytes()
-            && world.note.bytes() == status.text(),
-    )
-}
-
 fn are_answered(rt: &impl Abort, alloc: Global, exchanges: &[Exchange]) -> Result<(), NoMemory> {
-    for exchange in exchanges {
-        assert!(rt; is_answered(alloc, *exchange)?);
+    for (requests, responses) in exchanges {
+        let mut run = asked(requests);
+        run.sent = responses;
+        assert!(rt; is_right(alloc, run)?);
     }
     Ok(())
 }
@@ -120,19 +171,13 @@ fn requests_are_answered_in_order(rt: HostRuntime) -> Result<(), Fail> {
     Ok(())
 }
 
-/// Whether a run with these words ends with this status and this note, and sends this.
-fn ends_so(
-    alloc: Global,
-    words: &[&str],
-    mut world: World<MemorySource, MemorySink, MemorySink>,
-    end: (u8, &[u8]),
-    sent: &[u8],
-) -> Result<bool, NoMemory> {
-    let status = run(alloc, words, &mut world)?;
-    Ok(status.code() == end.0 && world.note.bytes() == end.1 && world.sink.bytes() == sent)
+/// A run whose input is of another form.
+fn refused(input: &'static [&'static [u8]]) -> Run {
+    let mut run = asked(input);
+    run.status = 1;
+    run.told = b"input: NotYet\n";
+    run
 }
-
-const BAD_INPUT: (u8, &[u8]) = (1, b"input: NotYet\n");
 
 const NO_INPUTS: [&[&[u8]]; 4] = [
     &[SAVE, b"x"],
@@ -141,10 +186,13 @@ const NO_INPUTS: [&[&[u8]]; 4] = [
     &[GET, b"\n"],
 ];
 
-fn are_no_inputs(rt: &impl Abort, alloc: Global, inputs: &[&[&[u8]]]) -> Result<(), NoMemory> {
+fn are_no_inputs(
+    rt: &impl Abort,
+    alloc: Global,
+    inputs: &[&'static [&'static [u8]]],
+) -> Result<(), NoMemory> {
     for input in inputs {
-        let world = world(alloc, joined(alloc, input)?)?;
-        assert!(rt; ends_so(alloc, &RUN, world, BAD_INPUT, b"")?);
+        assert!(rt; is_right(alloc, refused(input))?);
     }
     Ok(())
 }
@@ -157,12 +205,23 @@ fn spaces(alloc: Global, count: u32) -> Result<Blob, NoMemory> {
     Ok(spaces)
 }
 
+fn is_too_long(alloc: Global) -> Result<bool, NoMemory> {
+    ends_so(alloc, refused(&[]), spaces(alloc, 1_048_577)?)
+}
+
 #[test]
 fn an_input_of_another_form_is_refused(rt: HostRuntime) -> Result<(), Fail> {
-    let alloc = rt.alloc();
-    are_no_inputs(&rt, alloc, &NO_INPUTS)?;
-    let world = world(alloc, spaces(alloc, 1_048_577)?)?;
-    assert!(rt; ends_so(alloc, &RUN, world, BAD_INPUT, b"")?);
+    are_no_inputs(&rt, rt.alloc(), &NO_INPUTS)?;
+    Ok(())
+}
+
+#[test]
+fn an_input_of_one_byte_more_than_the_most_is_refused(rt: HostRuntime) -> Result<(), Fail> {
+    let right = match is_too_long(rt.alloc()) {
+        Err(NoMemory) => is_too_long(rt.alloc())?,
+        Ok(right) => right,
+    };
+    assert!(&rt; right);
     Ok(())
 }
 
@@ -180,61 +239,108 @@ const OTHER_WORDS: [&[&str]; 9] = [
     &["-x"],
 ];
 
-fn are_other_words(rt: &impl Abort, alloc: Global, refused: &[&[&str]]) -> Result<(), NoMemory> {
+fn are_other_words(
+    rt: &impl Abort,
+    alloc: Global,
+    refused: &[&'static [&'static str]],
+) -> Result<(), NoMemory> {
     for words in refused {
-        let world = world(alloc, joined(alloc, &[SAVE])?)?;
-        assert!(rt; ends_so(alloc, words, world, (2, b"usage\n"), b"")?);
+        let mut run = asked(&[SAVE]);
+        run.words = words;
+        run.status = 2;
+        run.told = b"usage\n";
+        assert!(rt; is_right(alloc, run)?);
     }
     Ok(())
 }
 
-fn are_app_ids(rt: &impl Abort, alloc: Global, apps: &[&str]) -> Result<(), NoMemory> {
-    for app in apps {
-        let world = world(alloc, Blob::new(alloc))?;
-        assert!(rt; ends_so(alloc, &["--app-id", app, "--stdio"], world, (0, b""), b"")?);
+const APP_IDS: [&[&str]; 3] = [
+    &["--app-id", "a", "--stdio"],
+    &["--app-id", "Shop-1_b", "--stdio"],
+    &[
+        "--app-id",
+        "aaaaaaaaaaaaaaaaaaaaaaaaaaaaaaaaaaaaaaaaaaaaaaaaaaaaaaaaaaaaaaaa",
+        "--stdio",
+    ],
+];
+
+fn are_app_ids(
+    rt: &impl Abort,
+    alloc: Global,
+    taken: &[&'static [&'static str]],
+) -> Result<(), NoMemory> {
+    for words in taken {
+        let mut run = asked(&[SAVE]);
+        run.words = words;
+        run.sent = &[NO_CONTENT];
+        assert!(rt; is_right(alloc, run)?);
     }
     Ok(())
 }
 
 #[test]
 fn words_of_another_form_are_refused(rt: HostRuntime) -> Result<(), Fail> {
-    let alloc = rt.alloc();
-    are_other_words(&rt, alloc, &OTHER_WORDS)?;
-    are_app_ids(&rt, alloc, &["a", "Shop-1_b", &LONG[1..]])?;
+    are_other_words(&rt, rt.alloc(), &OTHER_WORDS)?;
+    are_app_ids(&rt, rt.alloc(), &APP_IDS)?;
     Ok(())
 }
 
-/// Whether a run ends so where this read of its source fails.
-fn names_the_source(alloc: Global, failing: u32) -> Result<bool, NoMemory> {
-    let mut world = world(alloc, Blob::new(alloc))?;
-    world.source = source(alloc, joined(alloc, &[SAVE, GET])?, &[failing])?;
-    ends_so(alloc, &RUN, world, (4, b"outside: source\n"), b"")
+fn are_faults_of_the_source(
+    rt: &impl Abort,
+    alloc: Global,
+    places: &[&'static [u32]],
+) -> Result<(), NoMemory> {
+    for failing in places {
+        let mut run = asked(&[SAVE, GET]);
+        run.failing_reads = failing;
+        run.status = 4;
+        run.told = b"outside: source\n";
+        assert!(rt; is_right(alloc, run)?);
+    }
+    Ok(())
 }
 
-/// Whether a run ends so, and sends this, where this write to its sink fails.
-fn names_the_sink(alloc: Global, failing: u32, sent: &[u8]) -> Result<bool, NoMemory> {
-    let mut world = world(alloc, joined(alloc, &[SAVE, GET])?)?;
-    world.sink = sink(alloc, &[5, 3], &[failing])?;
-    ends_so(alloc, &RUN, world, (4, b"outside: sink\n"), sent)
+/// The write that fails, and what was sent before it.
+type Fault = (&'static [u32], &'static [&'static [u8]]);
+
+fn are_faults_of_the_sink(
+    rt: &impl Abort,
+    alloc: Global,
+    faults: &[Fault],
+) -> Result<(), NoMemory> {
+    for (failing, sent) in faults {
+        let mut run = asked(&[SAVE, GET]);
+        run.sink = Cut {
+            sizes: &[5, 3],
+            failing,
+        };
+        run.status = 4;
+        run.told = b"outside: sink\n";
+        run.sent = sent;
+        assert!(rt; is_right(alloc, run)?);
+    }
+    Ok(())
 }
 
 #[test]
 fn a_fault_is_named(rt: HostRuntime) -> Result<(), Fail> {
-    let alloc = rt.alloc();
-    for failing in 0..3 {
-        assert!(rt; names_the_source(alloc, failing)?);
-    }
-    assert!(rt; names_the_sink(alloc, 0, b"")?);
-    assert!(rt; names_the_sink(alloc, 1, b"HTTP/")?);
-    assert!(rt; names_the_sink(alloc, 2, b"HTTP/1.1")?);
+    are_faults_of_the_source(&rt, rt.alloc(), &[&[0], &[1], &[2]])?;
+    are_faults_of_the_sink(
+        &rt,
+        rt.alloc(),
+        &[(&[0], &[]), (&[1], &[b"HTTP/"]), (&[2], &[b"HTTP/1.1"])],
+    )?;
     Ok(())
 }
 
 #[test]
 fn a_fault_of_the_note_changes_nothing(rt: HostRuntime) -> Result<(), Fail> {
-    let alloc = rt.alloc();
-    let mut world = world(alloc, joined(alloc, &[b"x"])?)?;
-    world.note = sink(alloc, &[3], &[1])?;
-    assert!(rt; ends_so(alloc, &RUN, world, (1, b"inp"), b"")?);
+    let mut run = refused(&[b"x"]);
+    run.note = Cut {
+        sizes: &[3],
+        failing: &[1],
+    };
+    run.told = b"inp";
+    assert!(&rt; is_right(rt.alloc(), run)?);
     Ok(())
 }

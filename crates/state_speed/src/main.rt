@@ -13,8 +13,8 @@ const ROWS: u32 = 2000;
 /// Rows of the smaller one.
 const FEW: u32 = 1000;
 
-/// How many seconds every other row lives in the last measure.
-const SECONDS: u64 = 3600;
+/// How many seconds every other row lives in the stores of which half is about to expire.
+const SECONDS: u64 = 1;
 
 fn main(rt: HostRuntime) -> io::Result<()> {
     let alloc = rt.alloc();
@@ -26,5 +26,6 @@ fn main(rt: HostRuntime) -> io::Result<()> {
     }
     measures::among(&rt, alloc, FEW, None)?;
     measures::among(&rt, alloc, rows, None)?;
+    measures::among(&rt, alloc, FEW, Some(SECONDS))?;
     measures::among(&rt, alloc, rows, Some(SECONDS))
 }

@@ -84,7 +84,27 @@ fn time<R: Clock>(
     Ok(each(begin.elapsed(rt)?, good))
 }
 
-/// What saves and gets cost among so many rows.
+/// The nanoseconds of a command of this kind: for few keys that are asked for again and again, and for keys all over the rows.
+fn costs<R: Clock>(
+    rt: &R,
+    alloc: Global,
+    store: &mut Store<MemoryKeeper>,
+    kind: Kind,
+    rows: u32,
+    now: Moment,
+) -> io::Result<(u128, u128)>
+    requires kind { IsKind kind }
+    requires room { ⟦<Store<MemoryKeeper> as Object>⟧.used store.old < 2 ^ 39 }
+    requires reached { IsReached ⟦<MemoryKeeper as Keeper>⟧ store.old }
+    ensures reached { IsReached ⟦<MemoryKeeper as Keeper>⟧ store.new }
+    ensures used { ⟦<Store<MemoryKeeper> as Object>⟧.used store.new ≤ ⟦<Store<MemoryKeeper> as Object>⟧.used store.old + 2 ^ 32 }
+{
+    let few = time(rt, alloc, store, kind, HOT, ROUNDS, rows, now)?;
+    let all_over = time(rt, alloc, store, kind, SPREAD, 1, rows, now)?;
+    Ok((few, all_over))
+}
+
+/// What gets and saves cost among so many rows, every other one of which ends in so many seconds where that is said.
 pub fn among<R: Clock + Eprint>(
     rt: &R,
     alloc: Global,
@@ -99,21 +119,22 @@ pub fn among<R: Clock + Eprint>(
     let keeper = MemoryKeeper::new(alloc, u64::MAX, Places::new(alloc));
     let mut store = Store::new(alloc, keeper);
     let stored = fill(alloc, &mut store, rows, ttl, now)?;
-    let save = time(
-        rt,
-        alloc,
-        &mut store,
-        Kind::Save(ttl),
-        HOT,
-        ROUNDS,
-        rows,
-        now,
-    )?;
-    let get = time(rt, alloc, &mut store, Kind::Get, HOT, ROUNDS, rows, now)?;
-    let wide_save = time(rt, alloc, &mut store, Kind::Save(ttl), SPREAD, 1, rows, now)?;
-    let wide_get = time(rt, alloc, &mut store, Kind::Get, SPREAD, 1, rows, now)?;
-    let seconds = ttl.unwrap_or(0);
+    let ends = match ttl {
+        Some(_) => "half of them about to expire",
+        None => "none with an end",
+    };
+    let get = costs(rt, alloc, &mut store, Kind::Get, rows, now)?;
+    let save = costs(rt, alloc, &mut store, Kind::Save(None), rows, now)?;
     eprintln!(rt;
-        "{stored} rows, every other one for {seconds} s (0: for ever): save {save} ns, get {get} ns; keys all over: {wide_save} ns, {wide_get} ns"
+        "{stored} rows, {ends}: get {} ns, save {} ns; keys all over: get {} ns, save {} ns",
+        get.0, save.0, get.1, save.1
+    )?;
+    if ttl.is_none() {
+        return Ok(());
+    }
+    let ending = costs(rt, alloc, &mut store, Kind::Save(ttl), rows, now)?;
+    eprintln!(rt;
+        "    a save that gives an end {} ns; keys all over: {} ns",
+        ending.0, ending.1
     )
 }
