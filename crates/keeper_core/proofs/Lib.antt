@@ -1,11 +1,13 @@
 pub mod Counted
 pub mod Ends
 pub mod Found
-pub mod Hashed
 pub mod Lapsed
 pub mod Least
+pub mod Locating
 pub mod Overlay
 pub mod Placed
+pub mod PlacedRows
+pub mod Places
 pub mod Sizes
 pub mod Sorted
 pub mod Table

@@ -4,9 +4,10 @@ ghost use Rattle.keeper_core.specs.Rows.{row_at, next_lapsed, seen, byte_order, 
 ghost use Rattle.keeper_core.specs.Changes.{after_change, after_changes, VersionsAreBelow};
 ghost use Rattle.keeper_core.specs.Prepared.{change_of, IsReady, IsEndOf};
 ghost use Rattle.keeper_core.specs.Ends.{end_of};
-ghost use Rattle.keeper_core.specs.Table.{row_of, rows_of};
+ghost use Rattle.keeper_core.specs.Table.{row_of};
 ghost use Rattle.keeper_core.specs.Tree.{with_end, without};
 
+use crate::hashed_rows::HashedRows;
 use crate::placing::{put, remove};
 use crate::prepared::{Step, StoredRow};
 use crate::search::{first_lapsed, next_lapsed};
@@ -14,7 +15,6 @@ use crate::tree::{Node, Tree};
 use crate::{ChangeList, Prepared, RowView};
 use side_base::NoMemory;
 use std::alloc::Global;
-use std::collections::HashMap;
 use std::marker::Model;
 use std::mem;
 
@@ -24,7 +24,7 @@ use std::mem;
 /// lapsed row cost a logarithm of the rows that have an end.
 #[derive(Drop)]
 pub struct RowTable {
-    rows: HashMap<Vec<u8>, StoredRow>,
+    rows: HashedRows,
     /// The ends of those rows that have one.
     ends: Tree,
 }
@@ -36,12 +36,11 @@ impl Model for RowTable {
 
     ghost coded = { table_code };
 
-    ghost use Rattle.std.specs.HashMap.{spare};
-    ghost use Rattle.keeper_core.specs.Table.{rows_of, Keeps};
+    ghost use Rattle.keeper_core.specs.Table.{Keeps};
 
-    ghost view = { λ a. record { rows = rows_of a.rows.entries; room = spare a.rows } };
+    ghost view = { λ a. a.rows };
 
-    ghost invariant = { λ a. Keeps (rows_of a.rows.entries) a.ends };
+    ghost invariant = { λ a. Keeps a.rows.rows a.ends };
 }
 
 impl RowTable {
@@ -51,7 +50,7 @@ impl RowTable {
         ensures counted { IsCounted result.rows 1 }
     {
         RowTable {
-            rows: HashMap::new(alloc),
+            rows: HashedRows::new(alloc),
             ends: Tree::new(),
         }
     }
@@ -87,7 +86,7 @@ impl RowTable {
         ensures prepared { IfOk result (λ prepared. prepared ≡ list) }
         ensures room { IfOk result (λ prepared. length prepared ≤ self.new.room) }
     {
-        self.rows.reserve(list.len())?;
+        self.rows.reserve(alloc, list.len())?;
         Prepared::new(alloc, list)
     }
 
@@ -128,10 +127,7 @@ impl RowTable {
         let ended = has_end(&self.rows, &key);
         let ends = mem::replace(&mut self.ends, Tree::new());
         self.ends = with_end(ends, ended, &key, end);
-        match self.rows.insert(key, row) {
-            Ok(_) => {}
-            Err(_) => unreachable!(),
-        }
+        self.rows.insert(key, row);
     }
 
     /// Takes a key and its row out, where it has one.
@@ -142,7 +138,7 @@ impl RowTable {
         let ended = has_end(&self.rows, key);
         let ends = mem::replace(&mut self.ends, Tree::new());
         self.ends = without(ends, ended, key);
-        let _ = self.rows.remove(key);
+        self.rows.remove(key);
     }
 
     #[cfg(test)]
@@ -152,8 +148,8 @@ impl RowTable {
 }
 
 /// Whether a key's row has an end.
-fn has_end(rows: &HashMap<Vec<u8>, StoredRow>, key: &[u8]) -> bool
-    ensures { result ≡ is_some (end_of (row_at (rows_of rows.now.entries) key.now)) }
+fn has_end(rows: &HashedRows, key: &[u8]) -> bool
+    ensures { result ≡ is_some (end_of (row_at rows.now.rows key.now)) }
 {
     match rows.get(key) {
         Some(row) => row.until != 0,

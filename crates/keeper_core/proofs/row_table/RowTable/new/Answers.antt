@@ -1,11 +1,9 @@
-use Rattle.std.proofs.Common.{ap}
-use Rattle.keeper_core.specs.Table.{rows_of}
 use Rattle.keeper_core.proofs.Counted.{counted-empty}
 use Rattle.keeper_core.proofs.Ends.{ends-empty}
 use Rattle.keeper_core.proofs.row_table.RowTable.new.Goals as goal
 
 pub invariant_of-result : goal.invariant_of-result
-invariant_of-result c = rw (c.new.ensures.empty, c.new-2.ensures) ends-empty
+invariant_of-result c = rw (c.new.ensures, c.new-2.ensures) ends-empty
 
 pub returns-clause-counted : goal.returns-clause-counted
-returns-clause-counted c = counted-empty _ (ap rows_of c.new.ensures.empty)
+returns-clause-counted c = counted-empty _ c.new.ensures
