@@ -110,6 +110,11 @@ fn status_of<S: Source, N: Sink, E: Sink>(
     Ok(sidecar_main(alloc, &words, world))
 }
 
+/// Whether a note says so; where a write to it fails, a front of that is enough.
+fn says_no_memory(cut: Cut, note: &[u8]) -> bool {
+    note == NO_MEMORY || !cut.failing.is_empty() && NO_MEMORY.starts_with(note)
+}
+
 /// Whether a run over this input ends as it is told. One that finds no memory says so and sends nothing, and is want of memory here.
 fn ends_so(alloc: Global, run: Run, input: Blob) -> Result<bool, NoMemory> {
     let sent = joined(alloc, run.sent)?;
@@ -121,7 +126,7 @@ fn ends_so(alloc: Global, run: Run, input: Blob) -> Result<bool, NoMemory> {
     let status = status_of(alloc, run.words, &mut world)?;
     if status == Status::NoMemory
         && world.sink.bytes().is_empty()
-        && world.note.bytes() == NO_MEMORY
+        && says_no_memory(run.note, world.note.bytes())
     {
         return Err(NoMemory);
     }
