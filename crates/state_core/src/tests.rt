@@ -8,7 +8,7 @@ use crate::tests::cases::{CASES, KEEPER_CASES};
 use crate::tests::spoken::{cmd_of, is_taken, tell};
 use crate::{BULK_LIMIT, Cmd, Item, Items, Mode, Reply, Store};
 use itoa::Buffer;
-use keeper_core::{ChangeList, Changes, Keeper, MemoryKeeper};
+use keeper_core::{ChangeList, Changes, KeepErr, Keeper, MemoryKeeper};
 use side_base::{Blob, Moment, NoMemory, Places, Sequence, Text};
 use std::alloc::Global;
 use std::process::Abort;
@@ -17,6 +17,16 @@ use turn_cell::Object;
 
 /// The greatest size of a store in memory.
 const LIMIT: u64 = 268_435_456;
+
+/// Makes an attempt, and a second where the first finds no memory: then there is some, where one allocation of a test fails.
+fn tries_twice<F: Fn() -> Result<(), NoMemory>>(attempt: F) -> Result<(), NoMemory>
+    requires { F.IsAlwaysCallable attempt }
+{
+    match attempt() {
+        Err(NoMemory) => attempt(),
+        done => done,
+    }
+}
 
 /// A keeper without rows, whose next version is this.
 fn keeper(
@@ -31,7 +41,10 @@ fn keeper(
     assert!(rt; 1 <= next && next <= 1 << 62);
     if next > 1 {
         let list = ChangeList::new(alloc);
-        assert!(rt; keeper.commit(Changes { list, next }).is_ok());
+        match keeper.commit(Changes { list, next }) {
+            Err(KeepErr::NoMemory) => return Err(NoMemory),
+            made => assert!(rt; made.is_ok()),
+        }
     }
     Ok(keeper)
 }
@@ -53,7 +66,7 @@ fn asks<K: Keeper>(rt: &impl Abort, store: &mut Store<K>, cmd: &Cmd) -> Reply
     store.apply(cmd)
 }
 
-/// The same, and once more where memory was wanting: that changed nothing, and the store goes on.
+/// The same, and once more where it finds no memory. What is wanted of the store afterwards is as though it was asked once.
 fn asks_twice<K: Keeper>(rt: &impl Abort, store: &mut Store<K>, cmd: &Cmd) -> Reply
     requires { IsReached K.Keeper store.old }
     ensures { IsReached K.Keeper store.new }
@@ -110,8 +123,10 @@ fn plays<K: Keeper>(
 fn a_store_answers_by_its_history(rt: HostRuntime) -> Result<(), Fail> {
     let alloc = rt.alloc();
     for (history, replies) in CASES {
-        let keeper = keeper(&rt, alloc, LIMIT, &[], 1)?;
-        plays(&rt, alloc, keeper, history, replies)?;
+        tries_twice(|| {
+            let keeper = keeper(&rt, alloc, LIMIT, &[], 1)?;
+            plays(&rt, alloc, keeper, history, replies)
+        })?;
     }
     Ok(())
 }
@@ -120,8 +135,10 @@ fn a_store_answers_by_its_history(rt: HostRuntime) -> Result<(), Fail> {
 fn a_store_says_why_it_stores_nothing(rt: HostRuntime) -> Result<(), Fail> {
     let alloc = rt.alloc();
     for (limit, failing, next, history, replies) in KEEPER_CASES {
-        let keeper = keeper(&rt, alloc, limit, failing, next)?;
-        plays(&rt, alloc, keeper, history, replies)?;
+        tries_twice(|| {
+            let keeper = keeper(&rt, alloc, limit, failing, next)?;
+            plays(&rt, alloc, keeper, history, replies)
+        })?;
     }
     Ok(())
 }
@@ -162,19 +179,17 @@ fn short_lived(alloc: Global, rows: u32) -> Result<Items, NoMemory> {
 
 /// Of 1,025 rows that expire at one moment, the first commit after it sweeps away 1,024, in byte order, and the second the last.
 /// All of them are absent from that moment on.
-#[test]
-fn a_commit_sweeps_1024_rows_away(rt: HostRuntime) -> Result<(), Fail> {
-    let alloc = rt.alloc();
-    let mut store = fresh(alloc, keeper(&rt, alloc, LIMIT, &[], 1)?);
+fn sweeps_1024_rows_away(rt: &impl Abort, alloc: Global) -> Result<(), NoMemory> {
+    let mut store = fresh(alloc, keeper(rt, alloc, LIMIT, &[], 1)?);
     let save = Cmd::Save {
         items: short_lived(alloc, 1025)?,
-        now: Moment::at(0).expect(&rt, "a moment"),
+        now: Moment::at(0).expect(rt, "a moment"),
     };
-    assert!(rt; matches!(asks(&rt, &mut store, &save), Reply::Saved));
-    answers(&rt, alloc, &mut store, 1000, "save:z=1;e1", b"refused:0")?;
-    answers(&rt, alloc, &mut store, 1000, "save:z=1", b"saved")?;
+    assert!(rt; matches!(asks_twice(rt, &mut store, &save), Reply::Saved));
+    answers(rt, alloc, &mut store, 1000, "save:z=1;e1", b"refused:0")?;
+    answers(rt, alloc, &mut store, 1000, "save:z=1", b"saved")?;
     answers(
-        &rt,
+        rt,
         alloc,
         &mut store,
         1000,
@@ -185,22 +200,31 @@ fn a_commit_sweeps_1024_rows_away(rt: HostRuntime) -> Result<(), Fail> {
     assert!(rt; keeper.find(b"100000").is_none() && keeper.find(b"101023").is_none());
     assert!(rt; keeper.find(b"101024").is_some());
     let mut store = fresh(alloc, keeper);
-    answers(&rt, alloc, &mut store, 1000, "get:z", b"1#1026")?;
-    answers(&rt, alloc, &mut store, 1000, "delete:z", b"deleted")?;
+    answers(rt, alloc, &mut store, 1000, "get:z", b"1#1026")?;
+    answers(rt, alloc, &mut store, 1000, "delete:z", b"deleted")?;
     assert!(rt; store.into_keeper().find(b"101024").is_none());
     Ok(())
 }
 
-/// A command without a write sweeps nothing away.
+#[test]
+fn a_commit_sweeps_1024_rows_away(rt: HostRuntime) -> Result<(), Fail> {
+    tries_twice(|| sweeps_1024_rows_away(&rt, rt.alloc()))?;
+    Ok(())
+}
+
+fn sweeps_nothing_without_a_write(rt: &impl Abort, alloc: Global) -> Result<(), NoMemory> {
+    let mut store = fresh(alloc, keeper(rt, alloc, LIMIT, &[], 1)?);
+    answers(rt, alloc, &mut store, 0, "save:a=1;t1", b"saved")?;
+    answers(rt, alloc, &mut store, 1000, "delete:a", b"deleted")?;
+    answers(rt, alloc, &mut store, 1000, "save:b=1;e1", b"refused:0")?;
+    answers(rt, alloc, &mut store, 1000, "transact:", b"committed")?;
+    assert!(rt; store.into_keeper().find(b"a").is_some());
+    Ok(())
+}
+
 #[test]
 fn a_command_without_a_write_sweeps_nothing(rt: HostRuntime) -> Result<(), Fail> {
-    let alloc = rt.alloc();
-    let mut store = fresh(alloc, keeper(&rt, alloc, LIMIT, &[], 1)?);
-    answers(&rt, alloc, &mut store, 0, "save:a=1;t1", b"saved")?;
-    answers(&rt, alloc, &mut store, 1000, "delete:a", b"deleted")?;
-    answers(&rt, alloc, &mut store, 1000, "save:b=1;e1", b"refused:0")?;
-    answers(&rt, alloc, &mut store, 1000, "transact:", b"committed")?;
-    assert!(rt; store.into_keeper().find(b"a").is_some());
+    tries_twice(|| sweeps_nothing_without_a_write(&rt, rt.alloc()))?;
     Ok(())
 }
 
@@ -221,23 +245,38 @@ fn with_value(rt: &impl Abort, alloc: Global, len: usize) -> Result<Store<Memory
         items,
         now: Moment::at(0).expect(rt, "a moment"),
     };
-    assert!(rt; matches!(asks(rt, &mut store, &save), Reply::Saved));
+    assert!(rt; matches!(asks_twice(rt, &mut store, &save), Reply::Saved));
     Ok(store)
 }
 
-/// Twice half of the greatest length is answered, and twice one byte more is not.
-#[test]
-fn a_bulk_get_is_too_long_by_its_values(rt: HostRuntime) -> Result<(), Fail> {
-    let alloc = rt.alloc();
-    let half = BULK_LIMIT as usize / 2;
-    let mut store = with_value(&rt, alloc, half + 1)?;
-    answers(&rt, alloc, &mut store, 0, "bulk:a,a", b"long:67108866")?;
-    let mut store = with_value(&rt, alloc, half)?;
-    let now = Moment::at(0).expect(&rt, "a moment");
-    let bulk = cmd_of(&rt, alloc, "bulk:a,z,a", now)?;
-    match asks(&rt, &mut store, &bulk) {
-        Reply::Rows { rows } => assert_eq!(rt; rows.len(), 3),
+/// Eight times one byte more than an eighth of the greatest length is not answered.
+fn says_what_is_too_long(rt: &impl Abort, alloc: Global) -> Result<(), NoMemory> {
+    let mut store = with_value(rt, alloc, BULK_LIMIT as usize / 8 + 1)?;
+    answers(
+        rt,
+        alloc,
+        &mut store,
+        0,
+        "bulk:a,a,a,a,a,a,a,a",
+        b"long:67108872",
+    )
+}
+
+/// Eight times an eighth of the greatest length is answered.
+fn answers_the_longest(rt: &impl Abort, alloc: Global) -> Result<(), NoMemory> {
+    let mut store = with_value(rt, alloc, BULK_LIMIT as usize / 8)?;
+    let now = Moment::at(0).expect(rt, "a moment");
+    let bulk = cmd_of(rt, alloc, "bulk:a,a,a,a,z,a,a,a,a", now)?;
+    match asks_twice(rt, &mut store, &bulk) {
+        Reply::Rows { rows } => assert_eq!(rt; rows.len(), 9),
         _ => assert!(rt; false),
     }
+    Ok(())
+}
+
+#[test]
+fn a_bulk_get_is_too_long_by_its_values(rt: HostRuntime) -> Result<(), Fail> {
+    tries_twice(|| says_what_is_too_long(&rt, rt.alloc()))?;
+    tries_twice(|| answers_the_longest(&rt, rt.alloc()))?;
     Ok(())
 }
