@@ -1,11 +1,11 @@
 -- What is found in a list in order, by an entry in its middle.
-use Rattle.std.proofs.Common.{◌≡◌, ◌<◌, true, false, cond, List, [], ◌∷◌, ◌++◌, length, Some, None, refl, ap, ◌∙◌, subst, arith, length-append}
+use Rattle.std.proofs.Common.{◌≡◌, true, false, cond, List, [], ◌∷◌, ◌++◌, Some, None, refl, ap, ◌∙◌, subst}
 use Rattle.std.specs.Ordering.{is_eq, eq_by_cmp}
 use Rattle.std.specs.declared.cmp.Ordering.{Ordering}
-use Rattle.std.specs.declared.cmp.Ordering.TheVariants.{Less, Equal, Greater}
+use Rattle.std.specs.declared.cmp.Ordering.TheVariants.{Less, Greater}
 use Rattle.std.specs.FinMap.{find, is_sorted}
 use Rattle.keeper_core.specs.Rows.{Entry, byte_order}
-use Rattle.keeper_core.proofs.Sorted.{Key, Compares, around, above_each, under_each, tied_each}
+use Rattle.keeper_core.proofs.Sorted.{Key, Compares, around, above_each, under_each}
 
 -- at an entry that does not tie
 find_other : (o : Ordering) (k : Key) (x : Entry) (xs : List Entry) → byte_order k x.0 ≡ o → is_eq o ≡ false → find byte_order k (x ∷ xs) ≡ find byte_order k xs
@@ -33,21 +33,9 @@ found_right d l x r k is sorted e =
     let order = around l x r (subst (λ es. is_sorted byte_order es ≡ true) is sorted) in
     ap (find byte_order k) is ∙ find_past k l (x ∷ r) (above_each k x.0 l e order.before) ∙ find_other Greater k x r e refl
 
-pub found_here : (d l : List Entry) (x : Entry) (r : List Entry) (k : Key) → d ≡ l ++ x ∷ r → is_sorted byte_order d ≡ true → byte_order k x.0 ≡ Equal → find byte_order k d ≡ Some x.1
-found_here d l x r k is sorted e =
-    let order = around l x r (subst (λ es. is_sorted byte_order es ≡ true) is sorted) in
-    ap (find byte_order k) is ∙ find_past k l (x ∷ r) (tied_each Greater k x.0 l e order.before)
-    ∙ ap (λ b. cond b (Some x.1) (find byte_order k r)) (ap is_eq e)
-
 -- both parts of a list in order are in order
 pub left_sorted : (d l : List Entry) (x : Entry) (r : List Entry) → d ≡ l ++ x ∷ r → is_sorted byte_order d ≡ true → is_sorted byte_order l ≡ true
 left_sorted d l x r is sorted = (around l x r (subst (λ es. is_sorted byte_order es ≡ true) is sorted)).left_sorted
 
 pub right_sorted : (d l : List Entry) (x : Entry) (r : List Entry) → d ≡ l ++ x ∷ r → is_sorted byte_order d ≡ true → is_sorted byte_order r ≡ true
 right_sorted d l x r is sorted = (around l x r (subst (λ es. is_sorted byte_order es ≡ true) is sorted)).right_sorted
-
-pub left_shorter : (d l : List Entry) (x : Entry) (r : List Entry) → d ≡ l ++ x ∷ r → length l < length d
-left_shorter d l x r is = omega (arith, length-append l (x ∷ r), ap length is)
-
-pub right_shorter : (d l : List Entry) (x : Entry) (r : List Entry) → d ≡ l ++ x ∷ r → length r < length d
-right_shorter d l x r is = omega (arith, length-append l (x ∷ r), ap length is)

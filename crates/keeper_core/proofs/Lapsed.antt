@@ -20,11 +20,15 @@ live_until moment until value version fits h = grind (arith, nat_tests)
 lapsed_behind : (moment until : ℕ) (value : List ℕ) (version : ℕ) → moment < 2 ^ 64 → last_moment until < moment → is_live moment (record { value = value; version = version; until = until }) ≡ false
 lapsed_behind moment until value version fits h = grind (arith, nat_tests)
 
+-- with one more in front
+pub lapsed_cons : (moment : ℕ) (x : Entry) (xs : List Entry) → lapsed_in moment (x ∷ xs) ≡ cond (is_live moment x.1) (lapsed_in moment xs) (x.0 ∷ lapsed_in moment xs)
+lapsed_cons moment x xs = elim (is_live moment x.1) as (λ b. map (λ entry. entry.0) (cond (not b) (x ∷ filter (λ entry. not (is_live moment entry.1)) xs) (filter (λ entry. not (is_live moment entry.1)) xs)) ≡ cond b (lapsed_in moment xs) (x.0 ∷ lapsed_in moment xs)) [ true ↦ refl | false ↦ refl ]
+
 -- none of these rows has lapsed up to the least of their last moments
 lapsed_none : (moment : ℕ) (xs : List Entry) → moment < 2 ^ 64 → moment ≤ least_of xs → lapsed_in moment xs ≡ []
 lapsed_none moment [] fits h = refl
 lapsed_none moment (x ∷ xs) fits h =
-    ap (λ b. map (λ entry. entry.0) (cond (not b) (x ∷ filter (λ entry. not (is_live moment entry.1)) xs) (filter (λ entry. not (is_live moment entry.1)) xs))) (live_until moment x.1.until x.1.value x.1.version fits (omega arith))
+    lapsed_cons moment x xs ∙ ap (λ b. cond b (lapsed_in moment xs) (x.0 ∷ lapsed_in moment xs)) (live_until moment x.1.until x.1.value x.1.version fits (omega arith))
     ∙ lapsed_none moment xs fits (omega arith)
 
 lapsed-append : (moment : ℕ) (xs ys : List Entry) → lapsed_in moment (xs ++ ys) ≡ lapsed_in moment xs ++ lapsed_in moment ys
@@ -34,11 +38,11 @@ lapsed-append moment xs ys =
 
 lapsed_here : (moment : ℕ) (x : Entry) (xs : List Entry) → moment < 2 ^ 64 → last_moment x.1.until < moment → lapsed_in moment (x ∷ xs) ≡ x.0 ∷ lapsed_in moment xs
 lapsed_here moment x xs fits h =
-    ap (λ b. map (λ entry. entry.0) (cond (not b) (x ∷ filter (λ entry. not (is_live moment entry.1)) xs) (filter (λ entry. not (is_live moment entry.1)) xs))) (lapsed_behind moment x.1.until x.1.value x.1.version fits h)
+    lapsed_cons moment x xs ∙ ap (λ b. cond b (lapsed_in moment xs) (x.0 ∷ lapsed_in moment xs)) (lapsed_behind moment x.1.until x.1.value x.1.version fits h)
 
 lapsed_later : (moment : ℕ) (x : Entry) (xs : List Entry) → moment < 2 ^ 64 → moment ≤ last_moment x.1.until → lapsed_in moment (x ∷ xs) ≡ lapsed_in moment xs
 lapsed_later moment x xs fits h =
-    ap (λ b. map (λ entry. entry.0) (cond (not b) (x ∷ filter (λ entry. not (is_live moment entry.1)) xs) (filter (λ entry. not (is_live moment entry.1)) xs))) (live_until moment x.1.until x.1.value x.1.version fits h)
+    lapsed_cons moment x xs ∙ ap (λ b. cond b (lapsed_in moment xs) (x.0 ∷ lapsed_in moment xs)) (live_until moment x.1.until x.1.value x.1.version fits h)
 
 -- the first of two lists of keys
 first_found : (xs ys : List Key) (key : Key) → slice_get xs 0 ≡ Some key → slice_get (xs ++ ys) 0 ≡ Some key

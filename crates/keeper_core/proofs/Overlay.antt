@@ -13,6 +13,7 @@ use Rattle.keeper_core.specs.Growth.{found_bytes, bytes_at, bytes_after, key_of}
 use Rattle.keeper_core.specs.declared.changes.Change.{Change}
 use Rattle.keeper_core.specs.declared.changes.Change.TheVariants.{Put, Remove}
 use Rattle.keeper_core.proofs.Sorted.{Key, total, antisymmetric}
+use Rattle.keeper_core.proofs.Table.{over_cond}
 use Rattle.keeper_core.proofs.Sizes.{bytes_in-insert, bytes_in-remove}
 
 -- the order of borrowed keys
@@ -32,16 +33,12 @@ found_at : (b : Bool) (k q : Key) (row : Row) (found : Option Row) → eq_by_cmp
 found_at true k q row found e = ap (λ key. entry_bytes (key, row)) (sym (tied k q e))
 found_at false k q row found e = refl
 
-missing_at : (b : Bool) (q : Key) (found : Option Row) → found_bytes q (cond b None found) ≡ cond b 0 (found_bytes q found)
-missing_at true q found = refl
-missing_at false q found = refl
-
 bytes_at-after_change : (rows : Rows) (change : Change) (q : Key) → bytes_at (after_change rows change) q ≡ cond (eq_by_cmp byte_order (key_of change) q) (bytes_after change) (bytes_at rows q)
 bytes_at-after_change rows (Put key value version until) q =
     let row : Row = record { value = value; version = version; until = until } in
     ap (found_bytes q) (get-insert total rows key row q ∙ ap (λ b. cond b (Some row) (row_at rows q)) ((eq_by_cmp_equiv total).symm q key)) ∙ found_at _ key q row (row_at rows q) refl
 bytes_at-after_change rows (Remove key) q =
-    ap (found_bytes q) (get-remove total rows key q ∙ ap (λ b. cond b None (row_at rows q)) ((eq_by_cmp_equiv total).symm q key)) ∙ missing_at _ q (row_at rows q)
+    ap (found_bytes q) (get-remove total rows key q ∙ ap (λ b. cond b None (row_at rows q)) ((eq_by_cmp_equiv total).symm q key)) ∙ sym (over_cond (found_bytes q) _ None (row_at rows q))
 
 bytes_in-after_change : (rows : Rows) (change : Change) → bytes_in (after_change rows change) + bytes_at rows (key_of change) ≡ bytes_in rows + bytes_after change
 bytes_in-after_change rows (Put key value version until) = bytes_in-insert rows key (record { value = value; version = version; until = until })
@@ -58,15 +55,11 @@ after_changes-append rows (other ∷ changes) change = after_changes-append (aft
 pub record Notes (taken : BTreeMap (Bor Key) ℕ) (rows now : Rows) : Type 0 where
   pub each : (q : Bor Key) → unwrap_or (got borrowed_order taken q) (bytes_at rows q.now) ≡ bytes_at now q.now
 
-noted_at : (b : Bool) (before after : ℕ) (found : Option ℕ) → unwrap_or (cond b (Some after) found) before ≡ cond b after (unwrap_or found before)
-noted_at true before after found = refl
-noted_at false before after found = refl
-
 pub notes_more : (taken new : BTreeMap (Bor Key) ℕ) (rows now : Rows) (change : Change) (key : Bor Key) (after : ℕ) → Notes taken rows now → key.now ≡ key_of change → after ≡ bytes_after change → Updates borrowed_order taken new key (Some after) → Notes new rows (after_change now change)
 notes_more taken new rows now change key after notes is exact updates = record {
   each = λ q.
       ap (λ found. unwrap_or found (bytes_at rows q.now)) (updates.0 q)
-      ∙ noted_at (eq_by_cmp borrowed_order key q) _ after _
+      ∙ sym (over_cond (λ found. unwrap_or found (bytes_at rows q.now)) (eq_by_cmp borrowed_order key q) (Some after) _)
       ∙ ap (cond (eq_by_cmp borrowed_order key q) after) (notes.each q)
       ∙ ap (λ k. cond (eq_by_cmp byte_order k q.now) after (bytes_at now q.now)) is
       ∙ ap (λ n. cond (eq_by_cmp byte_order (key_of change) q.now) n (bytes_at now q.now)) exact

@@ -1,4 +1,5 @@
 pub mod Changes
+pub mod EndTable
 pub mod Ends
 pub mod Growth
 pub mod MemoryKeeper
@@ -8,3 +9,5 @@ pub mod Places
 pub mod Rows
 pub mod Table
 pub mod Tree
+pub mod Shapes
+pub mod Fields

@@ -1,23 +1,10 @@
--- What a tree of ends holds, and what it tells of that.
-use Rattle.std.specs.Prelude.{ℕ, ◌-◌, min, ◌==◌, if◌then◌else◌, ◌^◌, List, [], ◌∷◌, ◌++◌, Option, Some, None, Box, not}
+-- What a list of ends holds, and what is true of it.
+use Rattle.std.specs.Prelude.{ℕ, ◌-◌, min, ◌==◌, if◌then◌else◌, ◌^◌, List, [], ◌∷◌, not}
 use Rattle.std.specs.List.{filter}
 use Rattle.std.specs.Ordering.{eq_by_cmp}
 use Rattle.std.specs.FinMap.{put}
-use Rattle.std.specs.declared.alloc.Global.{Global}
 use Rattle.keeper_core.specs.Rows.{Entry, byte_order}
 use Rattle.keeper_core.specs.Ends.{end_alone}
-use Rattle.keeper_core.specs.declared.tree.Node.{Node}
-
-abbrev pub entry_of : Node → Entry
-entry_of node = (node.key.items, end_alone node.until)
-
--- the entries of a node and of what is below it, in order
-abbrev pub listed : Node → List Entry
-listed node = node.left ++ entry_of node ∷ node.right
-
-abbrev pub listed_in : Option (Box Node Global) → List Entry
-listed_in None = []
-listed_in (Some box) = listed box.value
 
 -- the entries of the other keys
 abbrev pub without : List ℕ → List Entry → List Entry

@@ -1,20 +1,22 @@
 //! Rows by their keys, as a store keeps them: what every keeper of rows answers, and one in memory.
 #![tactic(auto)]
 
-mod balance;
 mod changes;
+mod end_tree;
 mod failing;
 mod growth;
 mod hashed_rows;
+mod insertion;
 mod keeper;
+mod links;
 mod memory_keeper;
 mod place;
-mod placing;
 mod prepared;
+mod retiming;
+mod rotation;
 mod row;
 mod row_table;
-mod search;
-mod tree;
+mod seeking;
 
 pub use changes::{Change, ChangeList, Changes};
 pub use keeper::{KeepErr, Keeper};

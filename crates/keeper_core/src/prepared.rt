@@ -1,7 +1,7 @@
 ghost use Rattle.std.specs.Prelude.{◌≡◌, IfOk};
 ghost use Rattle.keeper_core.specs.Prepared.{change_of, IsEndOf, IsReady};
 
-use crate::tree::{Node, Tree};
+use crate::links::NONE;
 use crate::{Change, ChangeList};
 use side_base::{Blob, NoMemory, Sequence};
 use std::alloc::Global;
@@ -14,16 +14,18 @@ pub(crate) struct StoredRow {
     pub(crate) version: u64,
     /// In milliseconds since 1970; 0 is never.
     pub(crate) until: u64,
+    /// The place that its end may have among the ends.
+    pub(crate) end: usize,
 }
 
 /// A change with the memory that it takes, but for a place in the table.
 #[derive(Drop)]
 pub(crate) enum Step {
-    /// The row of a key, with a node where the row has an end.
+    /// The row of a key, with the key once more where the row has an end.
     Place {
         key: Vec<u8>,
         row: StoredRow,
-        end: Option<Box<Node>>,
+        end: Option<Vec<u8>>,
     },
     TakeOut(Vec<u8>),
 }
@@ -78,6 +80,7 @@ fn step_of(alloc: Global, change: Change) -> Result<Step, NoMemory>
                 value,
                 version,
                 until,
+                end: NONE,
             };
             Ok(Step::Place {
                 key: key.into_vec(),
@@ -89,18 +92,12 @@ fn step_of(alloc: Global, change: Change) -> Result<Step, NoMemory>
     }
 }
 
-/// A node for a key, where its row has an end.
-fn end_of(alloc: Global, key: &[u8], until: u64) -> Result<Option<Box<Node>>, NoMemory>
+/// The key once more, where its row has an end.
+fn end_of(alloc: Global, key: &[u8], until: u64) -> Result<Option<Vec<u8>>, NoMemory>
     ensures { IfOk result (IsEndOf key.now until) }
 {
     if until == 0 {
         return Ok(None);
     }
-    let node = Node {
-        key: key.to_vec(alloc)?,
-        left: Tree::new(),
-        right: Tree::new(),
-        until,
-    };
-    Ok(Some(Box::new(alloc, node)?))
+    Ok(Some(key.to_vec(alloc)?))
 }

@@ -7,16 +7,14 @@ ghost use Rattle.keeper_core.specs.Ends.{end_of};
 ghost use Rattle.keeper_core.specs.Table.{row_of};
 ghost use Rattle.keeper_core.specs.Tree.{with_end, without};
 
+use crate::end_tree::EndTree;
 use crate::hashed_rows::HashedRows;
-use crate::placing::{put, remove};
+use crate::links::NONE;
 use crate::prepared::{Step, StoredRow};
-use crate::search::{first_lapsed, next_lapsed};
-use crate::tree::{Node, Tree};
 use crate::{ChangeList, Prepared, RowView};
 use side_base::NoMemory;
 use std::alloc::Global;
 use std::marker::Model;
-use std::mem;
 
 /// Rows by their keys, and the room for further keys. Contracts see the rows as a finite map.
 ///
@@ -26,7 +24,7 @@ use std::mem;
 pub struct RowTable {
     rows: HashedRows,
     /// The ends of those rows that have one.
-    ends: Tree,
+    ends: EndTree,
 }
 
 impl Model for RowTable {
@@ -37,10 +35,11 @@ impl Model for RowTable {
     ghost coded = { table_code };
 
     ghost use Rattle.keeper_core.specs.Table.{Keeps};
+    ghost use Rattle.std.specs.Prelude.{min};
 
-    ghost view = { λ a. a.rows };
+    ghost view = { λ a. record { rows = a.rows.rows; room = min a.rows.room a.ends.room } };
 
-    ghost invariant = { λ a. Keeps a.rows.rows a.ends };
+    ghost invariant = { λ a. Keeps a.rows.rows a.ends.ends };
 }
 
 impl RowTable {
@@ -51,7 +50,7 @@ impl RowTable {
     {
         RowTable {
             rows: HashedRows::new(alloc),
-            ends: Tree::new(),
+            ends: EndTree::new(alloc),
         }
     }
 
@@ -74,10 +73,7 @@ impl RowTable {
     pub fn next_lapsed(&self, after: Option<&[u8]>, moment: u64) -> Option<&[u8]>
         ensures { option_map (λ key. key.now) result ≡ next_lapsed self.now.rows (option_map (λ key. key.now) after.entry) moment }
     {
-        match after {
-            Some(after) => next_lapsed(&self.ends, after, moment),
-            None => first_lapsed(&self.ends, moment),
-        }
+        self.ends.next_lapsed(after, moment)
     }
 
     /// Takes the memory for changes; keys and values are moved.
@@ -87,6 +83,7 @@ impl RowTable {
         ensures room { IfOk result (λ prepared. length prepared ≤ self.new.room) }
     {
         self.rows.reserve(alloc, list.len())?;
+        self.ends.reserve(alloc, list.len())?;
         Prepared::new(alloc, list)
     }
 
@@ -118,15 +115,15 @@ impl RowTable {
     }
 
     /// Gives a key a row, whatever it had.
-    fn place(&mut self, key: Vec<u8>, row: StoredRow, end: Option<Box<Node>>)
+    fn place(&mut self, key: Vec<u8>, row: StoredRow, end: Option<Vec<u8>>)
         requires room { 0 < self.old.room }
         requires ready { IsEndOf key.items row.until end }
         ensures rows { self.new.rows ≡ insert self.old.rows key.items (row_of row) }
         ensures room { self.old.room ≤ self.new.room + 1 }
     {
-        let ended = has_end(&self.rows, &key);
-        let ends = mem::replace(&mut self.ends, Tree::new());
-        self.ends = with_end(ends, ended, &key, end);
+        let kept = kept_end(&self.rows, &key);
+        let mut row = row;
+        row.end = with_end(&mut self.ends, kept, &key, row.until, end);
         self.rows.insert(key, row);
     }
 
@@ -135,45 +132,71 @@ impl RowTable {
         ensures rows { self.new.rows ≡ remove self.old.rows key.now }
         ensures room { self.old.room ≤ self.new.room }
     {
-        let ended = has_end(&self.rows, key);
-        let ends = mem::replace(&mut self.ends, Tree::new());
-        self.ends = without(ends, ended, key);
+        let kept = kept_end(&self.rows, key);
+        without(&mut self.ends, kept, key);
         self.rows.remove(key);
     }
 
     #[cfg(test)]
-    pub(crate) fn height(&self) -> u8 {
+    pub(crate) fn height(&self) -> usize {
         self.ends.height()
     }
 }
 
-/// Whether a key's row has an end.
-fn has_end(rows: &HashedRows, key: &[u8]) -> bool
-    ensures { result ≡ is_some (end_of (row_at rows.now.rows key.now)) }
+/// What a key's row has of an end.
+#[derive(Clone, Copy)]
+struct KeptEnd {
+    /// Whether the row has an end.
+    ended: bool,
+    /// The place that it may have among the ends.
+    hint: usize,
+}
+
+fn kept_end(rows: &HashedRows, key: &[u8]) -> KeptEnd
+    ensures { result.ended ≡ is_some (end_of (row_at rows.now.rows key.now)) }
 {
     match rows.get(key) {
-        Some(row) => row.until != 0,
-        None => false,
+        Some(row) => KeptEnd {
+            ended: row.until != 0,
+            hint: row.end,
+        },
+        None => KeptEnd {
+            ended: false,
+            hint: NONE,
+        },
     }
 }
 
-/// The ends with this end of a key, whatever it had; `ended` tells whether it had one.
-fn with_end(ends: Tree, ended: bool, key: &[u8], end: Option<Box<Node>>) -> Tree
-    requires sorted { IsTrue (is_sorted byte_order ends) }
-    requires ended { ended ≡ is_some (find byte_order key.now ends) }
-    ensures { (until : ℕ) → IsEndOf key.now until end → result ≡ with_end key.now until ends }
+/// Gives a key this end, whatever it had, and answers the place that it may have.
+fn with_end(
+    ends: &mut EndTree,
+    kept: KeptEnd,
+    key: &[u8],
+    until: u64,
+    end: Option<Vec<u8>>,
+) -> usize
+    requires room { 0 < ends.old.room }
+    requires ended { kept.ended ≡ is_some (find byte_order key.now ends.old.ends) }
+    requires ready { IsEndOf key.now until end }
+    ensures ends { ends.new.ends ≡ with_end key.now until ends.old.ends }
+    ensures room { ends.old.room ≤ ends.new.room + 1 }
 {
     match end {
-        Some(node) => put(ends, node),
-        None => without(ends, ended, key),
+        Some(end) => ends.give(kept.hint, end, until),
+        None => {
+            without(ends, kept, key);
+            kept.hint
+        }
     }
 }
 
-/// The ends of the other keys; `ended` tells whether this one has an end.
-fn without(ends: Tree, ended: bool, key: &[u8]) -> Tree
-    requires sorted { IsTrue (is_sorted byte_order ends) }
-    requires ended { ended ≡ is_some (find byte_order key.now ends) }
-    ensures { result ≡ without key.now ends }
+/// Takes the end of a key away, where it has one.
+fn without(ends: &mut EndTree, kept: KeptEnd, key: &[u8])
+    requires ended { kept.ended ≡ is_some (find byte_order key.now ends.old.ends) }
+    ensures ends { ends.new.ends ≡ without key.now ends.old.ends }
+    ensures room { ends.new.room ≡ ends.old.room }
 {
-    if ended { remove(ends, key) } else { ends }
+    if kept.ended {
+        ends.take(kept.hint, key);
+    }
 }

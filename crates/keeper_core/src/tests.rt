@@ -488,7 +488,8 @@ fn thin(alloc: Global, table: &mut RowTable, count: u32) -> Result<(), NoMemory>
     Ok(())
 }
 
-// Each row has an end, and so stands in the tree. One whose subtrees differ in height by at most one has at least 28,656 rows at a height of 21, and 232 at a height of 11.
+// Each row has an end, and so stands in the tree. One whose subtrees differ in height by at most one has at least 28,656 rows at a height of 21, and
+// 1,596 at a height of 15: the 200 that are left, and 1,024 that have no end any more, are fewer.
 #[test]
 fn the_tree_of_ends_stays_balanced(rt: HostRuntime) -> Result<(), Fail> {
     let alloc = rt.alloc();
@@ -496,6 +497,6 @@ fn the_tree_of_ends_stays_balanced(rt: HostRuntime) -> Result<(), Fail> {
     put_up_to(alloc, &mut table, 20_000)?;
     assert!(rt; table.height() <= 20);
     thin(alloc, &mut table, 20_000)?;
-    assert!(rt; table.height() <= 10);
+    assert!(rt; table.height() <= 14);
     Ok(())
 }

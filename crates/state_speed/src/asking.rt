@@ -24,24 +24,8 @@ pub fn ask(store: &mut Store<MemoryKeeper>, cmd: &Cmd) -> bool
     is_good(&reply)
 }
 
-/// How many of the commands the store answered as they were meant, in so many rounds of all of them.
-pub fn ask_rounds(store: &mut Store<MemoryKeeper>, cmds: &[Cmd], rounds: u32) -> u32
-    requires few { length cmds.now < 2 ^ 20 }
-    requires room { ⟦<Store<MemoryKeeper> as Object>⟧.used store.old < 2 ^ 60 }
-    requires taken { All IsTaken cmds.now }
-    requires reached { IsReached ⟦<MemoryKeeper as Keeper>⟧ store.old }
-    ensures reached { IsReached ⟦<MemoryKeeper as Keeper>⟧ store.new }
-    ensures used { ⟦<Store<MemoryKeeper> as Object>⟧.used store.new ≤ ⟦<Store<MemoryKeeper> as Object>⟧.used store.old + 2 ^ 20 * rounds }
-{
-    let mut good: u32 = 0;
-    for _ in 0..rounds {
-        good = good.wrapping_add(ask_all(store, cmds));
-    }
-    good
-}
-
 /// How many of the commands the store answered as they were meant.
-fn ask_all(store: &mut Store<MemoryKeeper>, cmds: &[Cmd]) -> u32
+pub fn ask_all(store: &mut Store<MemoryKeeper>, cmds: &[Cmd]) -> u32
     requires few { length cmds.now < 2 ^ 32 }
     requires room { ⟦<Store<MemoryKeeper> as Object>⟧.used store.old < 2 ^ 61 }
     requires taken { All IsTaken cmds.now }

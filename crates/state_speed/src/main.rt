@@ -24,8 +24,8 @@ fn main(rt: HostRuntime) -> io::Result<()> {
             rows = number;
         }
     }
-    measures::among(&rt, alloc, FEW, None)?;
-    measures::among(&rt, alloc, rows, None)?;
-    measures::among(&rt, alloc, FEW, Some(SECONDS))?;
-    measures::among(&rt, alloc, rows, Some(SECONDS))
+    measures::lasting(&rt, alloc, FEW)?;
+    measures::lasting(&rt, alloc, rows)?;
+    measures::ending(&rt, alloc, FEW, SECONDS)?;
+    measures::ending(&rt, alloc, rows, SECONDS)
 }

@@ -4,7 +4,7 @@ ghost use Rattle.state_core.specs.Store.{IsReached};
 ghost use Rattle.state_core.specs.Taken.{IsTtl};
 ghost use Rattle.state_speed.specs.Kind.{IsKind};
 
-use crate::asking::{ask, ask_rounds};
+use crate::asking::{ask, ask_all};
 use crate::commands::{Kind, command, commands};
 use keeper_core::{Keeper, MemoryKeeper};
 use side_base::{Moment, NoMemory, Places};
@@ -58,83 +58,144 @@ fn fill(
     Ok(good)
 }
 
-/// The nanoseconds of a command of this kind, among rows that are asked for again and again.
+/// The moment that is so many milliseconds later, or the same where there is none.
+fn later(now: Moment, ms: u32) -> Moment {
+    Moment::at(now.ms() + u64::from(ms)).unwrap_or(now)
+}
+
+/// What is asked of a store.
+#[derive(Clone, Copy)]
+struct Asked {
+    /// What the same keys are asked before each round, which is not measured.
+    before: Kind,
+    kind: Kind,
+    /// How many keys are asked in a round.
+    keys: u32,
+    rounds: u32,
+}
+
+/// The nanoseconds of a command, in rounds of which each is a millisecond later than the one before.
 fn time<R: Clock>(
     rt: &R,
     alloc: Global,
     store: &mut Store<MemoryKeeper>,
-    kind: Kind,
-    keys: u32,
-    rounds: u32,
+    asked: Asked,
     rows: u32,
     now: Moment,
 ) -> io::Result<u128>
-    requires kind { IsKind kind }
-    requires few { keys < 2 ^ 20 }
-    requires rounds { rounds < 2 ^ 10 }
+    requires kinds { IsKind asked.before × IsKind asked.kind }
+    requires few { asked.keys < 2 ^ 20 }
+    requires rounds { asked.rounds < 2 ^ 10 }
     requires room { ⟦<Store<MemoryKeeper> as Object>⟧.used store.old < 2 ^ 40 }
     requires reached { IsReached ⟦<MemoryKeeper as Keeper>⟧ store.old }
     ensures reached { IsReached ⟦<MemoryKeeper as Keeper>⟧ store.new }
     ensures used { ⟦<Store<MemoryKeeper> as Object>⟧.used store.new ≤ ⟦<Store<MemoryKeeper> as Object>⟧.used store.old + 2 ^ 31 }
 {
-    let cmds = commands(alloc, kind, keys, rows, now)?;
-    let _ = ask_rounds(store, &cmds, 1);
-    let begin = Instant::now(rt)?;
-    let good = ask_rounds(store, &cmds, rounds);
-    Ok(each(begin.elapsed(rt)?, good))
+    let mut took = Duration::ZERO;
+    let mut good: u32 = 0;
+    for round in 0..asked.rounds {
+        let now = later(now, round);
+        let before = commands(alloc, asked.before, asked.keys, rows, now)?;
+        let cmds = commands(alloc, asked.kind, asked.keys, rows, now)?;
+        let _ = ask_all(store, &before);
+        let begin = Instant::now(rt)?;
+        good = good.wrapping_add(ask_all(store, &cmds));
+        took = took.saturating_add(begin.elapsed(rt)?);
+    }
+    Ok(each(took, good))
 }
 
-/// The nanoseconds of a command of this kind: for few keys that are asked for again and again, and for keys all over the rows.
+/// The nanoseconds of a command of this kind, which follows one of the kind `before`: for few keys that are asked for again and again, and for
+/// keys all over the rows.
 fn costs<R: Clock>(
     rt: &R,
     alloc: Global,
     store: &mut Store<MemoryKeeper>,
+    before: Kind,
     kind: Kind,
     rows: u32,
     now: Moment,
 ) -> io::Result<(u128, u128)>
-    requires kind { IsKind kind }
+    requires kinds { IsKind before × IsKind kind }
     requires room { ⟦<Store<MemoryKeeper> as Object>⟧.used store.old < 2 ^ 39 }
     requires reached { IsReached ⟦<MemoryKeeper as Keeper>⟧ store.old }
     ensures reached { IsReached ⟦<MemoryKeeper as Keeper>⟧ store.new }
     ensures used { ⟦<Store<MemoryKeeper> as Object>⟧.used store.new ≤ ⟦<Store<MemoryKeeper> as Object>⟧.used store.old + 2 ^ 32 }
 {
-    let few = time(rt, alloc, store, kind, HOT, ROUNDS, rows, now)?;
-    let all_over = time(rt, alloc, store, kind, SPREAD, 1, rows, now)?;
+    let hot = Asked {
+        before,
+        kind,
+        keys: HOT,
+        rounds: ROUNDS,
+    };
+    let few = time(rt, alloc, store, hot, rows, now)?;
+    let spread = Asked {
+        before,
+        kind,
+        keys: SPREAD,
+        rounds: 1,
+    };
+    let all_over = time(rt, alloc, store, spread, rows, later(now, ROUNDS))?;
     Ok((few, all_over))
 }
 
-/// What gets and saves cost among so many rows, every other one of which ends in so many seconds where that is said.
-pub fn among<R: Clock + Eprint>(
-    rt: &R,
-    alloc: Global,
-    rows: u32,
-    ttl: Option<u64>,
-) -> io::Result<()>
-    requires { IsTtl ttl }
+/// What gets and saves cost among so many rows without an end.
+pub fn lasting<R: Clock + Eprint>(rt: &R, alloc: Global, rows: u32) -> io::Result<()> {
+    let Some(now) = Moment::at(0) else {
+        return Ok(());
+    };
+    let keeper = MemoryKeeper::new(alloc, u64::MAX, Places::new(alloc));
+    let mut store = Store::new(alloc, keeper);
+    let stored = fill(alloc, &mut store, rows, None, now)?;
+    let get = costs(rt, alloc, &mut store, Kind::Get, Kind::Get, rows, now)?;
+    let save = costs(
+        rt,
+        alloc,
+        &mut store,
+        Kind::Get,
+        Kind::Save(None),
+        rows,
+        now,
+    )?;
+    eprintln!(rt;
+        "{stored} rows: get {} ns, save {} ns; keys all over: {} and {} ns",
+        get.0, save.0, get.1, save.1
+    )
+}
+
+/// The same among so many rows of which every other one ends in so many seconds: a save that gives its row an end, and one that takes it
+/// away. Each measure begins later than the one before it has ended, since a store takes no moment back.
+pub fn ending<R: Clock + Eprint>(rt: &R, alloc: Global, rows: u32, seconds: u64) -> io::Result<()>
+    requires { IsTtl (Some seconds) }
 {
     let Some(now) = Moment::at(0) else {
         return Ok(());
     };
     let keeper = MemoryKeeper::new(alloc, u64::MAX, Places::new(alloc));
     let mut store = Store::new(alloc, keeper);
-    let stored = fill(alloc, &mut store, rows, ttl, now)?;
-    let ends = match ttl {
-        Some(_) => "half of them about to expire",
-        None => "none with an end",
-    };
-    let get = costs(rt, alloc, &mut store, Kind::Get, rows, now)?;
-    let save = costs(rt, alloc, &mut store, Kind::Save(None), rows, now)?;
-    eprintln!(rt;
-        "{stored} rows, {ends}: get {} ns, save {} ns; keys all over: get {} ns, save {} ns",
-        get.0, save.0, get.1, save.1
+    let ending = Kind::Save(Some(seconds));
+    let stored = fill(alloc, &mut store, rows, Some(seconds), now)?;
+    let get = costs(rt, alloc, &mut store, Kind::Get, Kind::Get, rows, now)?;
+    let given = costs(
+        rt,
+        alloc,
+        &mut store,
+        Kind::Get,
+        ending,
+        rows,
+        later(now, 2 * ROUNDS),
     )?;
-    if ttl.is_none() {
-        return Ok(());
-    }
-    let ending = costs(rt, alloc, &mut store, Kind::Save(ttl), rows, now)?;
+    let taken = costs(
+        rt,
+        alloc,
+        &mut store,
+        ending,
+        Kind::Save(None),
+        rows,
+        later(now, 4 * ROUNDS),
+    )?;
     eprintln!(rt;
-        "    a save that gives an end {} ns; keys all over: {} ns",
-        ending.0, ending.1
+        "{stored} rows, half of them about to expire: get {} ns, a save that gives an end {} ns, one that takes it away {} ns; keys all over: {}, {} and {} ns",
+        get.0, given.0, taken.0, get.1, given.1, taken.1
     )
 }
