@@ -34,5 +34,3 @@ pub use overwriting::Tear;
 pub use schedule::Sizes;
 pub use worker_script::{MemoryParts, WorkerScript};
 
-#[cfg(test)]
-mod tests;
