@@ -1,6 +1,7 @@
 use crate::{HostClock, HostDisk, HostFiles, StartNumbers, StdSink, StdSource};
-use side_base::Names;
+use side_base::{Blob, Names, NoMemory};
 use side_world::{Clock, Disk, Failed, Files, FilesErr, gather, send};
+use std::alloc::Global;
 use std::io::Write;
 use std::test::Fail;
 use std::{fs, io};
@@ -103,13 +104,20 @@ fn a_folder_of_the_host_is_read(rt: HostRuntime) -> Result<(), Fail> {
     Ok(())
 }
 
+// So many letters.
+fn letters(alloc: Global, n: usize) -> Result<Blob, NoMemory> {
+    let letters: Vec<u8> = vec![in alloc; b'x'; n]?;
+    Ok(Blob::from_vec(letters))
+}
+
 #[test]
 fn a_long_file_is_refused(rt: HostRuntime) -> Result<(), Fail> {
     let folder = "a_long_file_is_refused";
     fs::create_dir(&rt, folder)?;
-    let bytes = vec![in rt.alloc(); b'x'; 1_048_577]?;
-    fs::write(&rt, "a_long_file_is_refused/long", bytes.as_slice())?;
-    fs::write(&rt, "a_long_file_is_refused/most", &bytes[..1_048_576])?;
+    let long = letters(rt.alloc(), 1_048_577)?;
+    fs::write(&rt, "a_long_file_is_refused/long", long.bytes())?;
+    let most = letters(rt.alloc(), 1_048_576)?;
+    fs::write(&rt, "a_long_file_is_refused/most", most.bytes())?;
     let mut files = HostFiles::new(rt);
     assert_eq!(rt;
         files.read(folder.as_bytes(), b"long").err(),
