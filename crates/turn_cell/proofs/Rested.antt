@@ -1,5 +1,5 @@
 -- A seat between two calls: after the start, a split and a meeting, and when its cell is closed.
-use Rattle.std.proofs.Common.{◌≡◌, ℕ, ◌+◌, ◌<◌, true, List, [], ◌∷◌, length, Option, Some, IsSome, refl, sym, ap, ◌∙◌, subst, inl, inr, ⊎_elim, arith, length-append}
+use Rattle.std.proofs.Common.{◌≡◌, ℕ, ◌+◌, ◌<◌, true, false, List, [], ◌∷◌, length, Option, Some, IsSome, refl, sym, ap, ◌∙◌, subst, inl, inr, ⊎_elim, arith, length-append}
 use Rattle.std.proofs.lemmas.List.Elements.{All-nil, All-weaker}
 use mathlib.Core.Option.{some, some-injective}
 use mathlib.Core.List.{IsPrefix}
@@ -36,6 +36,7 @@ module _ {O C R : Type 0} (object : Ghosts O C R) (first : O) where
     plain = λ e. absurd (cc);
     count = s.count;
     short = s.short;
+    full = λ alone. absurd (omega (arith, alone.1));
   }
 
   child_sound : (v : View O C R) → v.is_root ≡ true → IsSoundView object first v → IsSoundView object first (child_view v)
@@ -48,6 +49,7 @@ module _ {O C R : Type 0} (object : Ghosts O C R) (first : O) where
     plain = λ _. (refl, refl, refl);
     count = tt;
     short = s.short;
+    full = λ alone. absurd (let no : false ≡ true = alone.0 in cc);
   }
 
   -- as the clauses of a split say it

@@ -63,6 +63,7 @@ module _ {O C R : Type 0} (object : Ghosts O C R) (first : O) where
       own = here.own;
       own_seen = here.own_seen;
       count = here.count;
+      rests = here.rests;
       knows = here.knows;
     }
 
@@ -77,6 +78,7 @@ module _ {O C R : Type 0} (object : Ghosts O C R) (first : O) where
       own = nothing;
       own_seen = none_before j v.seen r.log here.has_seen nothing;
       count = λ n z. absurd (cc);
+      rests = λ _. refl;
       knows = tt;
     }
 
