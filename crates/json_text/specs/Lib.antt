@@ -17,3 +17,4 @@ pub mod Written
 pub mod Visits
 pub mod Productions
 pub mod Words
+pub mod Shape
