@@ -30,3 +30,6 @@ pub mod Depths
 pub mod Every
 pub mod Placed
 pub mod CopiedRuns
+pub mod ValueFacts
+pub mod LevelFacts
+pub mod FirstHolders

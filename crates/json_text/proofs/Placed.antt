@@ -9,6 +9,7 @@ use Rattle.json_text.specs.Shape.{AreInRow, value_bytes}
 use Rattle.json_text.specs.Doc.{bytes_read, values_kept, Shows, ForFirst}
 use Rattle.json_text.proofs.Fronts.{one_tree}
 use Rattle.json_text.proofs.Shapes.{text_in_row}
+use Rattle.json_text.proofs.Kept.{length-entries}
 use Rattle.json_text.proofs.Every.{Every, every_kept}
 
 -- every value of a row is within the text
@@ -30,6 +31,7 @@ shown doc h = record {
   clean = h.clean;
   from_root = λ node is. record { depth = 0; others = []; are = ap (λ k. drop k (values_kept doc)) is ∙ h.nodes_are ∙ sym (append-nil (entries 0 h.values)); end = tt };
   same = refl;
+  all = ap length h.nodes_are ∙ length-entries 0 h.values;
 }
 
 -- the bytes between the places of a value are its bytes

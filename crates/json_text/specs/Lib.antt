@@ -18,3 +18,4 @@ pub mod Visits
 pub mod Productions
 pub mod Words
 pub mod Shape
+pub mod Levels

@@ -1,5 +1,5 @@
 -- Where the values of a text stand, which of them have names, and how deep they are nested.
-use Rattle.std.specs.Prelude.{◌≡◌, ℕ, ◌+◌, ◌-◌, ◌<◌, ◌≤◌, Bool, true, false, ⊤, List, take, drop, max, Option, Some, None, is_some}
+use Rattle.std.specs.Prelude.{◌≡◌, ℕ, ◌+◌, ◌-◌, ◌<◌, ◌≤◌, Bool, true, false, ⊤, List, length, take, drop, max, Option, Some, None, is_some}
 use Rattle.json_text.specs.declared.kind.Kind.{Kind}
 use Rattle.json_text.specs.declared.kind.Kind.TheVariants as kinds
 use Rattle.json_text.specs.declared.spot.Span.{Span}
@@ -54,3 +54,13 @@ nesting (grows spot children later) = max (levels (is_holder spot.kind) (nesting
 -- the bytes of a value
 abbrev pub value_bytes : List ℕ → Spot → List ℕ
 value_bytes bytes spot = take (spot.span.end - spot.span.start) (drop spot.span.start bytes)
+
+-- A value stands within the bytes, behind its name; what it holds stands within its brackets; and it is nested at most 64
+-- deep.
+pub record IsPlaced (bytes : List ℕ) (spot : Spot) (children : Forest) : Type 0 where
+  pub some : spot.span.start < spot.span.end
+  pub within : spot.span.end ≤ length bytes
+  pub before : StandsBefore spot.name spot.span.start
+  pub leaf : is_holder spot.kind ≡ false → IsEmpty children
+  pub held : AreInRow (is_map spot.kind) (spot.span.start + 1) (spot.span.end - 1) children
+  pub deep : levels (is_holder spot.kind) (nesting children) ≤ 64

@@ -14,7 +14,7 @@ ghost use Rattle.json_text.specs.Unescape.{unescaped};
 ghost use Rattle.json_text.specs.Words.{HasWord, HasProduced};
 ghost use Rattle.json_text.specs.Written.{ReadsBack};
 ghost use Rattle.json_text.specs.Grammar.{IsText};
-ghost use Rattle.json_text.specs.Shape.{AreInRow, nesting};
+ghost use Rattle.json_text.specs.Shape.{AreInRow, nesting, IsPlaced};
 ghost use Rattle.json_text.specs.Faults.{IsClean};
 
 /// What `push_string` writes of a text is a JSON text of one string in which nothing is wrong, so that `read` takes it
@@ -46,4 +46,10 @@ pub fn values_stand_in_rows()
 /// The values of a text in which nothing is wrong are nested at most 64 deep.
 pub fn values_are_nested_64_deep_at_most()
     ensures { (bytes : List ℕ) (values : Forest) → IsText bytes values → IsClean bytes (length bytes + 1) → nesting values ≤ 64 }
+{}
+
+/// Each value of a text that was read stands within its bytes, behind its name and round what it holds, and is nested 64 deep
+/// at most.
+pub fn each_value_has_its_place()
+    ensures { (doc : Doc) (bytes : List ℕ) (node : Node) (spot : Spot) (children later : Forest) → Shows doc bytes → StandsAt doc node (grows spot children later) → IsPlaced bytes spot children }
 {}

@@ -6,6 +6,7 @@ mod doc;
 mod error;
 mod kind;
 pub mod laws;
+mod levels;
 mod lexeme;
 mod parse;
 mod part;
