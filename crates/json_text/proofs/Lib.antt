@@ -34,3 +34,4 @@ pub mod ValueFacts
 pub mod LevelFacts
 pub mod FirstHolders
 pub mod TextLengths
+pub mod LastNames

@@ -19,3 +19,4 @@ pub mod Productions
 pub mod Words
 pub mod Shape
 pub mod Levels
+pub mod LastMembers
