@@ -35,3 +35,4 @@ pub mod LevelFacts
 pub mod FirstHolders
 pub mod TextLengths
 pub mod LastNames
+pub mod Moves

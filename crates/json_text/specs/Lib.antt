@@ -20,3 +20,4 @@ pub mod Words
 pub mod Shape
 pub mod Levels
 pub mod LastMembers
+pub mod Moved
