@@ -36,3 +36,4 @@ pub mod FirstHolders
 pub mod TextLengths
 pub mod LastNames
 pub mod Moves
+pub mod Composing

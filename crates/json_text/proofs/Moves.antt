@@ -1,10 +1,9 @@
 -- What completes a list or a map does so at other places, whatever follows.
-use Rattle.std.proofs.Common.{◌≡◌, ℕ, zero, suc, ◌+◌, ◌-◌, ◌<◌, ◌≤◌, Bool, true, false, cond, eqb, List, [], ◌∷◌, ◌++◌, length, take, drop, Option, Some, None, refl, sym, ap, subst, ◌∙◌, arith, append_assoc, append-nil, length-append}
+use Rattle.std.proofs.Common.{◌≡◌, ℕ, zero, suc, ◌+◌, ◌-◌, ◌≤◌, Bool, true, false, cond, eqb, List, [], ◌∷◌, ◌++◌, length, take, drop, Option, Some, None, refl, sym, ap, subst, ◌∙◌, arith, append_assoc, append-nil, length-append}
 use Rattle.std.proofs.lemmas.List.{take-append-le, take_all, drop-drop}
 use Rattle.json_text.specs.declared.kind.Kind.{Kind}
 use Rattle.json_text.specs.declared.kind.Kind.TheVariants as kinds
 use Rattle.json_text.specs.declared.spot.Span.{Span}
-use Rattle.json_text.specs.declared.spot.Spot.{Spot}
 use Rattle.json_text.specs.declared.part.Bracket.{Bracket}
 use Rattle.json_text.specs.declared.part.Bracket.TheVariants.{List as list, Map as map}
 use Rattle.json_text.specs.declared.part.Part.{Part}
@@ -12,14 +11,13 @@ use Rattle.json_text.specs.declared.part.Part.TheVariants.{Start as start, Next 
 use Rattle.json_text.specs.declared.lexeme.Lexeme.{Lexeme}
 use Rattle.json_text.specs.declared.lexeme.Lexeme.TheVariants.{Plain as plain}
 use Rattle.json_text.specs.Lexeme.{begins, Spells}
-use Rattle.json_text.specs.Forest.{Forest, empty, grows, one}
+use Rattle.json_text.specs.Forest.{Forest, empty, one}
 use Rattle.json_text.specs.Grammar.{bracket_kind, opens, closes, turns, takes_value, takes_name, Completes, blank, word, nested, member_name, turn, close, finish, IsText}
-use Rattle.json_text.specs.Moved.{moved_span, moved_name, moved, back, alone, IsTextAlone}
-use Rattle.json_text.specs.Shape.{value_bytes}
+use Rattle.json_text.specs.Moved.{moved_span, moved_name, moved, back, IsTextAlone}
 use Rattle.json_text.proofs.Accepted.{accepted, spelled_out}
 use Rattle.json_text.proofs.ValueFacts.{EachValue}
 use Rattle.json_text.proofs.Readable.{drop_tail}
-use Rattle.json_text.proofs.Tables.{none_some, some_none}
+use Rattle.json_text.proofs.Tables.{some_none}
 
 abbrev moved_part : (ℕ → ℕ) → Part → Part
 moved_part to start = start
@@ -131,7 +129,7 @@ moved_end to i k n steady e = ap to e ∙ steady_add to (suc i) n (steady_from t
 joined : (s w u h t : List ℕ) → s ≡ w ++ u → u ≡ h ++ t → s ≡ (w ++ h) ++ t
 joined s w u h t a b = a ∙ ap (λ l. w ++ l) b ∙ sym (append_assoc w h t)
 
-cut : (to : ℕ → ℕ) (level : Option Bracket) (here : Part) (i j : ℕ) (s t : List ℕ) (values : Forest) (bracket : Bracket) → Completes level here i s j t values → level ≡ Some bracket → Steady to i → Cut to level here i j s t values
+pub cut : (to : ℕ → ℕ) (level : Option Bracket) (here : Part) (i j : ℕ) (s t : List ℕ) (values : Forest) (bracket : Bracket) → Completes level here i s j t values → level ≡ Some bracket → Steady to i → Cut to level here i j s t values
 cut to level here i j (byte ∷ s) t values bracket (blank b c) inner steady =
     let h = cut to level here (suc i) j s t values bracket c inner (steady_from to i (suc i) steady (omega arith)) in
     record {
@@ -198,7 +196,7 @@ taken bytes i k byte s w u here split far =
     let n : k - i ≡ suc (length w) = omega (arith, far) in
     ap (λ m. take m (drop i bytes)) n ∙ ap (take (suc (length w))) (sym here ∙ ap (λ l. byte ∷ l) split) ∙ ap (λ l. byte ∷ l) (take-append-le (length w) w u (omega arith) ∙ take_all (length w) w (omega arith))
 
-takes_first : takes_value None start ≡ Some None
+pub takes_first : takes_value None start ≡ Some None
 unfolding takes_value
 takes_first = refl
 
@@ -239,21 +237,23 @@ each_alone bytes level here i j (byte ∷ s) t values (member_name {j = k} {t = 
 each_alone bytes level here i j (byte ∷ s) t values (word {name = name} {kind = kind} {first = first} {j = k} {t = u} {values = others} takes b spells c) e =
     let w = accepted first (suc i) s k u kind spells in
     let n : k - i ≡ suc (length w.0) = omega (arith, w.2) in
-    let inside : Spells first 1 w.0 (suc (length w.0)) [] kind = subst (λ l. Spells first 1 l (suc (length w.0)) [] kind) (append-nil w.0) (spelled_out first 1 w.0 [] (suc (length w.0)) kind w.3 (omega arith)) in
-    (placed_alone bytes (byte ∷ w.0) i k (suc (length w.0)) kind name empty (taken bytes i k byte s w.0 u e w.1 w.2) n (word_alone byte w.0 kind first b inside),
-    tt,
-    each_alone bytes level rest k j u t others c (rest_of bytes i k byte s w.0 u e w.1 w.2))
+    let inside : Spells first 1 w.0 (suc (length w.0)) [] kind = subst (λ l. Spells first 1 l (suc (length w.0)) [] kind) (append-nil w.0) (spelled_out first 1 w.0 [] (suc (length w.0)) kind w.3 (omega arith)) in (
+      placed_alone bytes (byte ∷ w.0) i k (suc (length w.0)) kind name empty (taken bytes i k byte s w.0 u e w.1 w.2) n (word_alone byte w.0 kind first b inside),
+      tt,
+      each_alone bytes level rest k j u t others c (rest_of bytes i k byte s w.0 u e w.1 w.2),
+    )
 each_alone bytes level here i j (byte ∷ s) t values (nested {name = name} {bracket = own} {j = k} {t = u} {children = children} {values = others} takes o held c) e =
     let w = cut (back i) (Some own) start (suc i) k s u children own held refl (steady_back i) in
     let n : k - i ≡ suc (length w.bytes) = omega (arith, w.far) in
     let at : suc i - i ≡ 1 = omega arith in
     let inside : Completes (Some own) start 1 w.bytes (suc (length w.bytes)) [] (moved (back i) children) =
-        subst (λ l. Completes (Some own) start 1 l (suc (length w.bytes)) [] (moved (back i) children)) (append-nil w.bytes)
-        (subst (λ m. Completes (Some own) start 1 (w.bytes ++ []) m [] (moved (back i) children)) n
-        (subst (λ m. Completes (Some own) start m (w.bytes ++ []) (k - i) [] (moved (back i) children)) at (w.again []))) in
-    (placed_alone bytes (byte ∷ w.bytes) i k (suc (length w.bytes)) (bracket_kind own) name children (taken bytes i k byte s w.bytes u e w.are w.far) n (nested_alone byte w.bytes own (moved (back i) children) o inside),
-    each_alone bytes (Some own) start (suc i) k s u children held (drop_tail bytes i byte s e),
-    each_alone bytes level rest k j u t others c (rest_of bytes i k byte s w.bytes u e w.are w.far))
+    subst (λ l. Completes (Some own) start 1 l (suc (length w.bytes)) [] (moved (back i) children)) (append-nil w.bytes)
+    (subst (λ m. Completes (Some own) start 1 (w.bytes ++ []) m [] (moved (back i) children)) n
+    (subst (λ m. Completes (Some own) start m (w.bytes ++ []) (k - i) [] (moved (back i) children)) at (w.again []))) in (
+      placed_alone bytes (byte ∷ w.bytes) i k (suc (length w.bytes)) (bracket_kind own) name children (taken bytes i k byte s w.bytes u e w.are w.far) n (nested_alone byte w.bytes own (moved (back i) children) o inside),
+      each_alone bytes (Some own) start (suc i) k s u children held (drop_tail bytes i byte s e),
+      each_alone bytes level rest k j u t others c (rest_of bytes i k byte s w.bytes u e w.are w.far),
+    )
 
 pub all_alone : (bytes : List ℕ) (values : Forest) → IsText bytes values → EachValue (IsTextAlone bytes) values
 all_alone bytes values h = each_alone bytes None start 0 (length bytes) bytes [] values h refl

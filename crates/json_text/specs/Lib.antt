@@ -21,3 +21,4 @@ pub mod Shape
 pub mod Levels
 pub mod LastMembers
 pub mod Moved
+pub mod MapTexts

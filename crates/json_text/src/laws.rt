@@ -16,6 +16,7 @@ ghost use Rattle.json_text.specs.Written.{ReadsBack};
 ghost use Rattle.json_text.specs.Grammar.{IsText};
 ghost use Rattle.json_text.specs.Shape.{AreInRow, nesting, IsPlaced};
 ghost use Rattle.json_text.specs.Moved.{IsTextAlone};
+ghost use Rattle.json_text.specs.MapTexts.{Written, IsWritten, map_bytes, map_of};
 ghost use Rattle.json_text.specs.Faults.{IsClean};
 
 /// What `push_string` writes of a text is a JSON text of one string in which nothing is wrong, so that `read` takes it
@@ -64,4 +65,10 @@ pub fn a_text_has_one_tree()
 /// start.
 pub fn each_value_is_a_text()
     ensures { (doc : Doc) (bytes : List ℕ) (node : Node) (spot : Spot) (children later : Forest) → Shows doc bytes → StandsAt doc node (grows spot children later) → IsTextAlone bytes spot children }
+{}
+
+/// A map written of names and of values that are texts by themselves, joined by commas, is a text: one level deeper, with
+/// these members.
+pub fn a_written_map_is_a_text()
+    ensures { (members : List Written) → AllByRecursion IsWritten members → IsText (map_bytes members) (map_of members) }
 {}
