@@ -1,6 +1,6 @@
 ghost use Rattle.std.specs.Prelude.{◌≡◌, Some, true, false, IfOk};
 ghost use Rattle.sidecar_workers.specs.StopPlay.{ended_view};
-ghost use Rattle.sidecar_workers.specs.StopSeat.{root_of, parent_of, child_of, HasMet};
+ghost use Rattle.sidecar_workers.specs.StopSeat.{root_of, parent_of, child_of, looked_as, HasMet};
 
 use crate::Reason;
 use crate::seat::StopSeat;
@@ -53,7 +53,8 @@ impl Stop {
     pub fn look(&self, seat: &mut StopSeat) -> bool
         requires { seat.old.table ≡ self.now }
         ensures found { result ≡ seat.new.found }
-        ensures same { seat.new ≡ record seat.old { found = seat.new.found } }
+        ensures same { seat.new ≡ looked_as result seat.old }
+        ensures never_unset { seat.old.found ≡ true → result ≡ true }
     {
         self.words.shared.load::<Look>(&mut seat.token, WORD) != 0
     }
