@@ -49,7 +49,8 @@ impl Stop {
         StopSeat { token }
     }
 
-    /// Whether the word is set, which the seat then shows. Takes no memory.
+    /// Whether the word is set, which the seat then shows; it counts the looks that found it not set. A seat that has found it set
+    /// finds it set from then on. Takes no memory.
     pub fn look(&self, seat: &mut StopSeat) -> bool
         requires { seat.old.table ≡ self.now }
         ensures found { result ≡ seat.new.found }
@@ -67,7 +68,7 @@ impl Stop {
         halt::<Brand>(&self.words, &mut seat.token, &reason);
     }
 
-    /// Takes `other` back into the root `seat`. Takes no memory.
+    /// Takes `other` back into the root `seat`, which then looks at the word. Takes no memory.
     pub fn meet(&self, seat: &mut StopSeat, other: StopSeat)
         requires seat { seat.old.table ≡ self.now }
         requires root { seat.old.is_root ≡ true }
