@@ -17,3 +17,8 @@ pub mod Written
 pub mod Visits
 pub mod Productions
 pub mod Words
+pub mod Shape
+pub mod Levels
+pub mod LastMembers
+pub mod Moved
+pub mod MapTexts

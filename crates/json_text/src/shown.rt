@@ -1,11 +1,12 @@
 // The texts of a value and of its name.
-ghost use Rattle.std.specs.Prelude.{◌≡◌, ◌↔◌, IsTrue, IfOk, slice_get};
-ghost use Rattle.json_text.specs.Unescape.{HasText, HasName, text_shown, name_shown};
+ghost use Rattle.std.specs.Prelude.{◌≡◌, ◌↔◌, ◌++◌, IsTrue, OnOk, OnErr, slice_get};
+ghost use Rattle.json_text.specs.Unescape.{HasText, HasName, unescaped, text_shown, name_shown};
 
+use crate::copies::push_unescaped;
 use crate::kind::Kind;
 use crate::spot::Spot;
-use crate::texts::{byte_of, content_of, spells, unescape};
-use std::alloc::{AllocError, Global};
+use crate::texts::{byte_of, content_of, spells};
+use side_base::{Blob, NoMemory};
 
 /// Whether the value is this text.
 pub(crate) fn has_text(bytes: &[u8], spot: Spot, text: &[u8]) -> bool
@@ -31,40 +32,51 @@ pub(crate) fn has_name(bytes: &[u8], spot: Spot, name: &[u8]) -> bool
     }
 }
 
+/// What spells the text that the value is; nothing for another value.
+#[tactic(auto, unfolding(crate::specs::Unescape::unescaped_from))]
+pub(crate) fn text_inside(bytes: &[u8], spot: Spot) -> &[u8]
+    ensures { unescaped result.now ≡ text_shown bytes.now spot }
+{
+    match spot.kind {
+        Kind::Text => content_of(bytes, spot.span),
+        Kind::Null => b"",
+        Kind::Flag { on: _ } => b"",
+        Kind::Number => b"",
+        Kind::List => b"",
+        Kind::Map => b"",
+    }
+}
+
+/// What spells the name of a member; nothing for another value.
+#[tactic(auto, unfolding(crate::specs::Unescape::unescaped_from))]
+pub(crate) fn name_inside(bytes: &[u8], spot: Spot) -> &[u8]
+    ensures { unescaped result.now ≡ name_shown bytes.now spot }
+{
+    match spot.name {
+        Some(span) => content_of(bytes, span),
+        None => b"",
+    }
+}
+
 /// The byte of this number of the text that the value is.
 pub(crate) fn text_byte_of(bytes: &[u8], spot: Spot, number: usize) -> Option<u8>
     ensures { result ≡ slice_get (text_shown bytes.now spot) number }
 {
-    match spot.kind {
-        Kind::Text => byte_of(content_of(bytes, spot.span), number),
-        Kind::Null => None,
-        Kind::Flag { on: _ } => None,
-        Kind::Number => None,
-        Kind::List => None,
-        Kind::Map => None,
-    }
+    byte_of(text_inside(bytes, spot), number)
 }
 
-/// The bytes of the text that the value is; none for another value.
-pub(crate) fn text_bytes(alloc: Global, bytes: &[u8], spot: Spot) -> Result<Vec<u8>, AllocError>
-    ensures { IfOk result (λ text. text.items ≡ text_shown bytes.now spot) }
+/// Appends the text that the value is; nothing for another value. Without memory `out` stays as it was.
+pub(crate) fn push_text_of(out: &mut Blob, bytes: &[u8], spot: Spot) -> Result<(), NoMemory>
+    ensures ok { OnOk result (out.new ≡ out.old ++ text_shown bytes.now spot) }
+    ensures err { OnErr result (out.new ≡ out.old) }
 {
-    match spot.kind {
-        Kind::Text => unescape(alloc, content_of(bytes, spot.span)),
-        Kind::Null => Ok(Vec::new(alloc)),
-        Kind::Flag { on: _ } => Ok(Vec::new(alloc)),
-        Kind::Number => Ok(Vec::new(alloc)),
-        Kind::List => Ok(Vec::new(alloc)),
-        Kind::Map => Ok(Vec::new(alloc)),
-    }
+    push_unescaped(out, text_inside(bytes, spot))
 }
 
-/// The bytes of the name of a member; none for another value.
-pub(crate) fn name_bytes(alloc: Global, bytes: &[u8], spot: Spot) -> Result<Vec<u8>, AllocError>
-    ensures { IfOk result (λ name. name.items ≡ name_shown bytes.now spot) }
+/// Appends the name of a member; nothing for another value. Without memory `out` stays as it was.
+pub(crate) fn push_name_of(out: &mut Blob, bytes: &[u8], spot: Spot) -> Result<(), NoMemory>
+    ensures ok { OnOk result (out.new ≡ out.old ++ name_shown bytes.now spot) }
+    ensures err { OnErr result (out.new ≡ out.old) }
 {
-    match spot.name {
-        Some(span) => unescape(alloc, content_of(bytes, span)),
-        None => Ok(Vec::new(alloc)),
-    }
+    push_unescaped(out, name_inside(bytes, spot))
 }
