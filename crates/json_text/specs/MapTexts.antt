@@ -1,11 +1,13 @@
 -- A map written of names and of values that are texts by themselves.
-use Rattle.std.specs.Prelude.{ℕ, ◌+◌, List, [], ◌∷◌, ◌++◌, length, Some, None}
+use Rattle.std.specs.Prelude.{ℕ, ◌+◌, ◌≤◌, List, [], ◌∷◌, ◌++◌, length, Some, None}
 use Rattle.std.specs.Str.{IsUtf8}
 use Rattle.json_text.specs.declared.kind.Kind.{Kind}
 use Rattle.json_text.specs.declared.kind.Kind.TheVariants as kinds
 use Rattle.json_text.specs.declared.spot.Spot.{Spot}
 use Rattle.json_text.specs.Forest.{Forest, empty, grows, one}
 use Rattle.json_text.specs.Grammar.{IsText}
+use Rattle.json_text.specs.Faults.{IsClean}
+use Rattle.json_text.specs.Shape.{is_holder, levels, nesting}
 use Rattle.json_text.specs.Spelling.{string_of}
 use Rattle.json_text.specs.Moved.{moved}
 
@@ -16,10 +18,15 @@ pub record Written : Type 0 where
   pub kind : Kind
   pub children : Forest
 
--- the name is UTF-8, and the bytes are a text without white space round it
+-- the name is UTF-8, and the bytes are a text without white space round it, in which nothing is wrong
 pub record IsWritten (member : Written) : Type 0 where
   pub utf8 : IsUtf8 member.name
   pub text : IsText member.bytes (one (record { kind = member.kind; span = record { start = 0; end = length member.bytes }; name = None }) member.children)
+  pub clean : IsClean member.bytes (length member.bytes + 1)
+
+-- the value is nested so deep at most
+abbrev pub IsDeep : ℕ → Written → Type 0
+IsDeep most member = levels (is_holder member.kind) (nesting member.children) ≤ most
 
 -- the name as a JSON string, a colon, and the value
 abbrev pub member_bytes : Written → List ℕ
