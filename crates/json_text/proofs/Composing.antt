@@ -1,5 +1,5 @@
 -- A map written of names and of values that are texts by themselves is a text.
-use Rattle.std.proofs.Common.{◌≡◌, ◌≤◌, ℕ, suc, ◌+◌, true, false, List, [], ◌∷◌, ◌++◌, length, Some, None, refl, sym, ap, subst, ◌∙◌, arith, append_assoc, append-nil, length-append}
+use Rattle.std.proofs.Common.{◌≡◌, ◌≤◌, ℕ, suc, ◌+◌, true, false, List, [], ◌∷◌, ◌++◌, length, take, drop, ◌-◌, Some, None, refl, sym, ap, subst, ◌∙◌, arith, append_assoc, append-nil, length-append}
 use Rattle.std.specs.List.{AllByRecursion}
 use Rattle.std.specs.Str.{IsUtf8}
 use Rattle.byte_lanes.specs.Spelling.{spelled}
@@ -19,12 +19,14 @@ use Rattle.json_text.specs.Forest.{Forest, empty, grows, one}
 use Rattle.json_text.specs.Grammar.{bracket_kind, opens, closes, turns, takes_value, takes_name, Completes, IsText}
 use Rattle.json_text.specs.Spelling.{string_of}
 use Rattle.json_text.specs.Moved.{moved}
-use Rattle.json_text.specs.Shape.{is_holder, levels, nesting}
-use Rattle.json_text.specs.MapTexts.{Written, IsWritten, IsDeep, member_bytes, joined_bytes, map_bytes, ahead, value_place, member_spot, member_values, map_of}
+use Rattle.json_text.specs.Shape.{is_holder, levels, nesting, value_bytes}
+use Rattle.json_text.specs.Unescape.{unescaped, name_shown}
+use Rattle.std.proofs.lemmas.List.{drop-drop}
+use Rattle.json_text.specs.MapTexts.{ShowsMembers, Written, IsWritten, IsDeep, member_bytes, joined_bytes, map_bytes, ahead, value_place, member_spot, member_values, map_of}
 use Rattle.json_text.proofs.Clear.{Clear, c_blank, c_word, c_nested, c_name, c_turn, c_close, c_finish, clear_completes, text_clear, clear_clean}
 use Rattle.json_text.proofs.StringTails.{whole_word}
 use Rattle.json_text.proofs.Courses.{Course, course_on, here as stop, on as go}
-use Rattle.json_text.proofs.WrittenTexts.{spelling_leads, closed_next}
+use Rattle.json_text.proofs.WrittenTexts.{spelling_leads, closed_next, spelled_text}
 use Rattle.json_text.proofs.Moves.{Steady, cut, takes_first, nesting_moved}
 use Rattle.json_text.proofs.Shapes.{starts_later}
 use Rattle.json_text.proofs.Tables.{none_some, false_true}
@@ -185,3 +187,47 @@ map_low n members all = omega (arith, values_low 1 n members all)
 
 pub map_clean : (members : List Written) → AllByRecursion IsWritten members → AllByRecursion (IsDeep 63) members → IsClean (map_bytes members) (length (map_bytes members) + 1)
 map_clean members all low = clear_clean (map_bytes members) (map_of members) (map_clear members all) (map_low 63 members low)
+
+-- ---- what the members show
+
+-- what stands behind some bytes
+behind : (front back : List ℕ) → drop (length front) (front ++ back) ≡ back
+behind [] back = refl
+behind (x ∷ front) back = behind front back
+
+before : (front back : List ℕ) → take (length front) (front ++ back) ≡ front
+before [] back = refl
+before (x ∷ front) back = ap (λ l. x ∷ l) (before front back)
+
+drop_on : (bytes front back : List ℕ) (at n : ℕ) → drop at bytes ≡ front ++ back → n ≡ at + length front → drop n bytes ≡ back
+drop_on bytes front back at n e far = ap (λ k. drop k bytes) far ∙ sym (drop-drop (length front) at bytes) ∙ ap (drop (length front)) e ∙ behind front back
+
+name_read : (bytes : List ℕ) (at : ℕ) (m : Written) (back : List ℕ) → drop at bytes ≡ member_bytes m ++ back → name_shown bytes (member_spot at m) ≡ m.name
+name_read bytes at m back e =
+    let inside = spelled m.name in
+    let split : drop at bytes ≡ (34 ∷ []) ++ (inside ++ 34 ∷ (58 ∷ (m.bytes ++ back))) = e ∙ member_split m.name m.bytes back in
+    let rest_is = drop_on bytes (34 ∷ []) (inside ++ 34 ∷ (58 ∷ (m.bytes ++ back))) at (at + 1) split (omega arith) in
+    let long : at + length (string_of m.name) - 1 - (at + 1) ≡ length inside = omega (arith, length-append inside (34 ∷ [])) in
+    ap unescaped (ap (λ n. take n (drop (at + 1) bytes)) long ∙ ap (take (length inside)) rest_is ∙ before inside (34 ∷ (58 ∷ (m.bytes ++ back)))) ∙ spelled_text m.name
+
+value_read : (bytes : List ℕ) (at : ℕ) (m : Written) (back : List ℕ) → drop at bytes ≡ member_bytes m ++ back → value_bytes bytes (member_spot at m) ≡ m.bytes
+value_read bytes at m back e =
+    let front = string_of m.name ++ 58 ∷ [] in
+    let split : drop at bytes ≡ front ++ (m.bytes ++ back) = e ∙ append_assoc (string_of m.name) (58 ∷ m.bytes) back ∙ sym (append_assoc (string_of m.name) (58 ∷ []) (m.bytes ++ back)) in
+    let rest_is = drop_on bytes front (m.bytes ++ back) at (value_place at m) split (omega (arith, length-append (string_of m.name) (58 ∷ []))) in
+    let long : value_place at m + length m.bytes - value_place at m ≡ length m.bytes = omega arith in
+    ap (λ n. take n (drop (value_place at m) bytes)) long ∙ ap (take (length m.bytes)) rest_is ∙ before m.bytes back
+
+members_shown : (bytes : List ℕ) (at : ℕ) (m : Written) (members : List Written) → drop at bytes ≡ joined_bytes (m ∷ members) ++ 125 ∷ [] → ShowsMembers bytes at (m ∷ members)
+members_shown bytes at m [] e = (name_read bytes at m (125 ∷ []) e, value_read bytes at m (125 ∷ []) e, tt)
+members_shown bytes at m (q ∷ members) e =
+    let others = joined_bytes (q ∷ members) ++ 125 ∷ [] in
+    let split : drop at bytes ≡ member_bytes m ++ (44 ∷ others) = e ∙ append_assoc (member_bytes m) (44 ∷ joined_bytes (q ∷ members)) (125 ∷ []) in
+    let front = member_bytes m ++ 44 ∷ [] in
+    let past : drop at bytes ≡ front ++ others = split ∙ sym (append_assoc (member_bytes m) (44 ∷ []) others) in
+    let place : value_place at m + length m.bytes + 1 ≡ at + length front = omega (arith, length-append (member_bytes m) (44 ∷ []), length-append (string_of m.name) (58 ∷ m.bytes)) in
+    (name_read bytes at m (44 ∷ others) split, value_read bytes at m (44 ∷ others) split, members_shown bytes (value_place at m + length m.bytes + 1) q members (drop_on bytes front others at (value_place at m + length m.bytes + 1) past place))
+
+pub map_shown : (members : List Written) → ShowsMembers (map_bytes members) 1 members
+map_shown [] = tt
+map_shown (m ∷ members) = members_shown (map_bytes (m ∷ members)) 1 m members refl

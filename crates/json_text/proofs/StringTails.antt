@@ -27,6 +27,9 @@ digit_on more unit (d ∷ rest) kind h = (d, rest, u, refl, subst (λ q. Accepts
     by true e = let is : h.0 ≡ after_digit more ((16 * unit + hex_value d) % 65536) = cc in is
     by false e = none_some h.0 _ e
 
+four_digits : (b c d e f g : ℕ) (w rest_bytes : List ℕ) (high : Bool) (kind : Kind) → w ≡ d ∷ e ∷ f ∷ g ∷ rest_bytes → Accepts (plain high) rest_bytes kind → Front (b ∷ c ∷ w)
+four_digits b c d e f g w rest_bytes high kind is h = subst (λ l. Front (b ∷ c ∷ l)) (sym is) (long high kind h)
+
 numbered_front : (b c : ℕ) (w : List ℕ) (kind : Kind) → Accepts (digits 3 0) w kind → Front (b ∷ c ∷ w)
 numbered_front b c w kind h =
     let one = digit_on 3 0 w kind h in
@@ -34,7 +37,7 @@ numbered_front b c w kind h =
     let three = digit_on 1 two.2 two.1 kind two.4 in
     let four = digit_on 0 three.2 three.1 kind three.4 in
     let all : w ≡ one.0 ∷ two.0 ∷ three.0 ∷ four.0 ∷ four.1 = one.3 ∙ ap (λ l. one.0 ∷ l) (two.3 ∙ ap (λ l. two.0 ∷ l) (three.3 ∙ ap (λ l. three.0 ∷ l) four.3)) in
-    subst (λ l. Front (b ∷ c ∷ l)) (sym all) (long (is_high_surrogate four.2) kind four.4)
+    four_digits b c one.0 two.0 three.0 four.0 w four.1 (is_high_surrogate four.2) kind all four.4
 
 escape_front : (b : ℕ) (w : List ℕ) (kind : Kind) → eqb b 92 ≡ true → Accepts escape w kind → Front (b ∷ w)
 unfolding next ends

@@ -16,7 +16,7 @@ ghost use Rattle.json_text.specs.Written.{ReadsBack};
 ghost use Rattle.json_text.specs.Grammar.{IsText};
 ghost use Rattle.json_text.specs.Shape.{AreInRow, nesting, IsPlaced, value_bytes};
 ghost use Rattle.json_text.specs.Moved.{IsTextAlone};
-ghost use Rattle.json_text.specs.MapTexts.{Written, IsWritten, IsDeep, map_bytes, map_of};
+ghost use Rattle.json_text.specs.MapTexts.{Written, IsWritten, ShowsMembers, IsDeep, map_bytes, map_of};
 ghost use Rattle.json_text.specs.Faults.{IsClean};
 
 /// What `push_string` writes of a text is a JSON text of one string in which nothing is wrong, so that `read` takes it
@@ -69,8 +69,10 @@ pub fn each_value_is_a_text()
 {}
 
 /// A map written of names and of values that are texts by themselves, joined by commas, is a text: one level deeper, with
-/// these members. Nothing is wrong with it, where no value is nested more than 63 deep.
+/// these members, whose names and values' bytes are those that were written. Nothing is wrong with it, where no value is
+/// nested more than 63 deep.
 pub fn a_written_map_is_a_text()
     ensures text { (members : List Written) → AllByRecursion IsWritten members → IsText (map_bytes members) (map_of members) }
+    ensures shown { (members : List Written) → ShowsMembers (map_bytes members) 1 members }
     ensures clean { (members : List Written) → AllByRecursion IsWritten members → AllByRecursion (IsDeep 63) members → IsClean (map_bytes members) (length (map_bytes members) + 1) }
 {}
