@@ -7,6 +7,9 @@ use Rattle.std.proofs.lemmas.Option.{none-some, same_Some, cond_some}
 use Rattle.std.proofs.lemmas.List.{length-map}
 use Rattle.std.proofs.lemmas.List.Sums.{sum_by-cons}
 use Rattle.retry_core.specs.declared.policy.RetryPolicy.{RetryPolicy}
+use Rattle.retry_core.specs.declared.run.Next.{Next}
+use Rattle.retry_core.specs.declared.run.Next.TheVariants.{Wait, GiveUp}
+use Rattle.retry_core.specs.RetryPolicy.{decided}
 use Rattle.ledger_core.specs.declared.plan.Aim.{Aim}
 use Rattle.ledger_core.specs.declared.plan.Plan.{Plan}
 use Rattle.ledger_core.specs.declared.books.Books.{Books}
@@ -19,11 +22,10 @@ use Rattle.ledger_core.specs.declared.reply.LedgerReply.TheVariants as says
 use Rattle.ledger_core.specs.Plan.{plan_at}
 use Rattle.ledger_core.specs.Aims.{IsGiven}
 use Rattle.ledger_core.specs.Row.{Row}
-use Rattle.ledger_core.specs.Size.{exceeds}
 use Rattle.ledger_core.specs.Message.{Step, Pair, pair_at, letter_of, messages_of, pairs_of}
 use Rattle.ledger_core.specs.Standing.{Standing, Status, owed, done, dropped, dead, settles, status_by, standing, standings}
 use Rattle.ledger_core.specs.Course.{Course, course_of, count_of, is_owed, is_done, is_dropped, is_dead, is_waiting, is_held, standing_at, held_at, kept_if}
-use Rattle.ledger_core.specs.Reply.{IsReply, IsSized, IsSettled, IsRetriedBy, IsBuried}
+use Rattle.ledger_core.specs.Reply.{IsReply, IsSettled, IsRetriedBy, IsAsDecided, IsBuried}
 use Rattle.ledger_core.specs.Books.{row_for, numbered, slotted, row_at, waiting_slot, held_slot, Shows}
 use Rattle.ledger_core.specs.After.{moved, settled_status, fresh_by, AreDistinct}
 use Rattle.ledger_core.specs.Ledger.{IsStep, IsUntouched}
@@ -32,7 +34,6 @@ use Rattle.ledger_core.proofs.Counts.{unit}
 use Rattle.ledger_core.proofs.Histories.{standing_at_pairs}
 use Rattle.ledger_core.proofs.Lookups.{standing_at-map, standing_at-append, standing_at_key, is_pair_parts, or_else}
 use Rattle.ledger_core.proofs.Steps.{Follows, follows}
-use Rattle.ledger_core.proofs.Waits.{surely_gives_up}
 
 -- ---- each pair has one status
 
@@ -67,15 +68,15 @@ pub record Known (history : List Step) : Type 0 where
   pub distinct : AreDistinct (standings history)
   pub untouched : IsUntouched history
 
-nothing_known : Known []
+pub nothing_known : Known []
 nothing_known = record { made = λ m sub s e. absurd (none-some s e); distinct = tt; untouched = λ m sub e. refl }
 
-next_known : (plans : List Plan) (history before after : List Step) (e : Step) → EachSteps plans history → history ≡ before ++ e ∷ after → Known before → Follows before e
+pub next_known : (plans : List Plan) (history before after : List Step) (e : Step) → EachSteps plans history → history ≡ before ++ e ∷ after → Known before → Follows before e
 next_known plans history before after e each is known =
     let step = each before after e is in
     follows plans before e step.0 step.1.reply known.made known.distinct known.untouched
 
-known_on : (plans : List Plan) (history before after : List Step) → EachSteps plans history → history ≡ before ++ after → Known before → Known (before ++ after)
+pub known_on : (plans : List Plan) (history before after : List Step) → EachSteps plans history → history ≡ before ++ after → Known before → Known (before ++ after)
 known_on plans history before [] each is known = subst Known (sym (append-nil before)) known
 known_on plans history before (e ∷ after) each is known =
     let follow = next_known plans history before after e each is known in
@@ -83,7 +84,7 @@ known_on plans history before (e ∷ after) each is known =
     (known_on plans history (before ++ e ∷ []) after each (is ∙ sym (append_assoc before (e ∷ []) after)) (record { made = follow.made; distinct = follow.distinct; untouched = follow.untouched }))
 
 -- a front of a legal history
-front_steps : (plans : List Plan) (history before after : List Step) → EachSteps plans history → history ≡ before ++ after → EachSteps plans before
+pub front_steps : (plans : List Plan) (history before after : List Step) → EachSteps plans history → history ≡ before ++ after → EachSteps plans before
 front_steps plans history before after each is front rest e split = each front (rest ++ after) e (is ∙ ap (λ xs. xs ++ after) split ∙ append_assoc front (e ∷ rest) after)
 
 pub known_of : (plans : List Plan) (history before after : List Step) → EachSteps plans history → history ≡ before ++ after → Known before
@@ -96,7 +97,7 @@ settles_parts m sub n j claim finish now word aims says.NotTaken e = absurd (fal
 settles_parts m sub n j claim finish now word aims reply e = let parts = and_parts (m == n) (sub == j) e in (eqb-true m n parts.0, eqb-true sub j parts.1)
 
 -- no entry settles a pair that is not owed
-settles_owed : (plans : List Plan) (course : Course) (cmd : LedgerCmd) (reply : LedgerReply) (m sub : ℕ) (s : Standing) → IsReply plans course cmd reply → standing_at m sub course.book ≡ Some s → is_owed s.status ≡ false → settles m sub cmd reply ≡ true → ⊥
+pub settles_owed : (plans : List Plan) (course : Course) (cmd : LedgerCmd) (reply : LedgerReply) (m sub : ℕ) (s : Standing) → IsReply plans course cmd reply → standing_at m sub course.book ≡ Some s → is_owed s.status ≡ false → settles m sub cmd reply ≡ true → ⊥
 settles_owed plans course (Accept event aims now) reply m sub s is there settled e = false≢true e
 settles_owed plans course (Take now) reply m sub s is there settled e = false≢true e
 settles_owed plans course (Settle n j claim finish now word aims) reply m sub s is there settled e =
@@ -208,21 +209,19 @@ not_nothing new e = cc
 same_dead : (new other : ℕ) → says.Dead new ≡ says.Dead other → new ≡ other
 same_dead new other e = cc
 
-sized_next : (made rows bytes new : ℕ) → IsSized rows bytes (says.Dead (made + 1)) (says.Dead new) → new ≡ made + 1
-sized_next made rows bytes new sized =
-    ⊎_elim (λ over. absurd (not_full new rows bytes (sized.full over)))
-    (λ within. ⊎_elim (λ e. same_dead new (made + 1) e) (λ e. absurd (not_wanting new e)) (sized.fits within))
-    (cases_Bool (exceeds rows bytes))
-
 buried_next : (course : Course) (s : Standing) (aims : List Aim) (new : ℕ) → IsBuried course s aims (says.Dead new) → new ≡ course.made + 1
 buried_next course s aims new is =
-    ⊎_elim (λ lt. sized_next course.made _ _ new (is.sized lt)) (λ le. absurd (not_dropped new _ (is.hops le))) (cases_lt s.pair.hops 8)
+    ⊎_elim (λ lt. (is.sized lt).1) (λ le. absurd (not_dropped new _ (is.hops le))) (cases_lt s.pair.hops 8)
 
 retried_next : (course : Course) (retry : Option RetryPolicy) (dead_too : Bool) (s : Standing) (now word : ℕ) (aims : List Aim) (new : ℕ) → IsRetriedBy course retry dead_too s now word aims (says.Dead new) → new ≡ course.made + 1
 retried_next course None false s now word aims new is = absurd (not_again new (now + 1000) is)
 retried_next course None true s now word aims new is = buried_next course s aims new is
-retried_next course (Some policy) false s now word aims new is = absurd (not_again new _ (is.again (λ up. not_dropped new _ (is.ends up))))
-retried_next course (Some policy) true s now word aims new is = buried_next course s aims new (is.ends (surely_gives_up policy (length s.words + 1) (λ not_up. not_again new _ (is.again not_up))))
+retried_next course (Some policy) dead_too s now word aims new is = by_next (decided policy (word ∷ s.words)) dead_too is
+  where
+    by_next : (next : Next) (dead_too : Bool) → IsAsDecided course next dead_too s now aims (says.Dead new) → new ≡ course.made + 1
+    by_next (Wait ms) dead_too is = absurd (not_again new (now + ms) is)
+    by_next (GiveUp attempts) false is = absurd (not_dropped new _ is)
+    by_next (GiveUp attempts) true is = buried_next course s aims new is
 
 dead_next : (plans : List Plan) (course : Course) (o : Option Standing) (finish : Finish) (now word : ℕ) (aims : List Aim) (new : ℕ) → IsSettled plans course o finish now word aims (says.Dead new) → (s : Standing) × (o ≡ Some s) × (new ≡ course.made + 1)
 dead_next plans course None finish now word aims new is = absurd (not_nothing new is)

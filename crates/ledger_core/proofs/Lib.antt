@@ -1,6 +1,8 @@
 pub mod AcceptSteps
 pub mod Adds
+pub mod Claims
 pub mod Counts
+pub mod Fitting
 pub mod Found
 pub mod Grown
 pub mod Histories
@@ -18,4 +20,3 @@ pub mod Sorted
 pub mod Stays
 pub mod Steps
 pub mod TakeSteps
-pub mod Waits

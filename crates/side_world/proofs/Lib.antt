@@ -1,5 +1,5 @@
 pub mod Composed
-pub mod Disks
 pub mod Gathered
+pub mod Listed
 pub mod Pieces
 pub mod Sent

@@ -1,0 +1,5 @@
+pub mod Backs
+pub mod Disks
+pub mod Places
+pub mod Returned
+pub mod Searched
