@@ -17,7 +17,7 @@ ghost use Rattle.json_text.specs.Grammar.{IsText};
 ghost use Rattle.json_text.specs.Shape.{AreInRow, nesting, IsPlaced, value_bytes};
 ghost use Rattle.json_text.specs.Moved.{IsTextAlone};
 ghost use Rattle.json_text.specs.MapTexts.{Written, IsWritten, ShowsMembers, IsDeep, map_bytes, map_of};
-ghost use Rattle.json_text.specs.Faults.{IsClean};
+ghost use Rattle.json_text.specs.Faults.{IsClean, IsLoneAt};
 
 /// What `push_string` writes of a text is a JSON text of one string in which nothing is wrong, so that `read` takes it
 /// unless memory runs out; and the text of that string, as `Doc::text_of` tells it, is the text that was written.
@@ -45,9 +45,10 @@ pub fn values_stand_in_rows()
     ensures { (bytes : List ℕ) (values : Forest) → IsText bytes values → AreInRow false 0 (length bytes) values }
 {}
 
-/// The values of a text in which nothing is wrong are nested at most 64 deep.
-pub fn values_are_nested_64_deep_at_most()
-    ensures { (bytes : List ℕ) (values : Forest) → IsText bytes values → IsClean bytes (length bytes + 1) → nesting values ≤ 64 }
+/// Nothing is wrong with a text exactly where its values are nested at most 64 deep and the escape of no surrogate stands
+/// alone in it.
+pub fn what_may_be_wrong_with_a_text()
+    ensures { (bytes : List ℕ) (values : Forest) → IsText bytes values → IsClean bytes (length bytes + 1) ↔ ((nesting values ≤ 64) × ((at : ℕ) → at ≤ length bytes → ¬ IsLoneAt bytes at)) }
 {}
 
 /// Each value of a text that was read stands within its bytes, behind its name and round what it holds, and is nested 64 deep
