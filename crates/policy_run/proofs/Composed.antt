@@ -1,0 +1,49 @@
+-- The effects of events, put together from part to part.
+use Rattle.std.proofs.Common.{◌≡◌, ℕ, ◌+◌, ◌≤◌, List, [], ◌∷◌, ◌++◌, flat_map, refl, sym, ap, subst, ◌∙◌, append-nil, arith}
+use Rattle.std.specs.List.{sum_by}
+use Rattle.std.proofs.lemmas.Grind.{flat_map-append}
+use Rattle.std.proofs.lemmas.List.Sums.{sum_by-append}
+use Rattle.breaker_core.specs.Course.{Step}
+use Rattle.policy_run.specs.Told.{Between, Rises, Drawn}
+use Rattle.rand_core.specs.Stream.{Stream, next_u64}
+use Rattle.policy_run.specs.Event.{Event, own, guarded, word, moment, pause, own_of, step_of, word_of, moment_in, pause_of}
+use Rattle.policy_run.specs.Effects.{Clocked, Effects}
+
+between_on : (a : ℕ) (ms : List ℕ) (b : ℕ) (ns : List ℕ) (c : ℕ) → Between a ms b → Between b ns c → Between a (ms ++ ns) c
+between_on a [] b [] c h k = omega (arith, h, k)
+between_on a [] b (n ∷ ns) c h k = (omega (arith, h, k.0), k.1)
+between_on a (m ∷ ms) b ns c h k = (h.0, between_on m ms b ns c h.1 k)
+
+rises_on : (p m q n r : ℕ) → Rises p m q → Rises q n r → Rises p (m + n) r
+rises_on p m q n r h k = (omega (arith, h.0, k.0), λ below. omega (arith, k.1 below, h.1 (omega (arith, k.0, below))))
+
+module _ {E : Type 0} where
+  -- one part after another
+  pub effects_on : (first second : List (Event E)) (did did-then did-all : List E → Type 0) (held held-then held-all : List Step → Type 0) (clock between clock' : Clocked) (drawn drawn-then drawn-all : List ℕ → Type 0)
+      → ((xs ys : List E) → did xs → did-then ys → did-all (xs ++ ys)) → ((xs ys : List Step) → held xs → held-then ys → held-all (xs ++ ys)) → ((xs ys : List ℕ) → drawn xs → drawn-then ys → drawn-all (xs ++ ys))
+      → Effects first did held clock between drawn → Effects second did-then held-then between clock' drawn-then → Effects (first ++ second) did-all held-all clock clock' drawn-all
+  effects_on first second did did-then did-all held held-then held-all clock between clock' drawn drawn-then drawn-all did-on held-on drawn-on e e' = record {
+    owned = subst did-all (sym (flat_map-append own_of first second)) (did-on _ _ e.owned e'.owned);
+    guards = subst held-all (sym (flat_map-append step_of first second)) (held-on _ _ e.guards e'.guards);
+    times = subst (λ ms. Between clock.last ms clock'.last) (sym (flat_map-append moment_in first second)) (between_on clock.last (flat_map moment_in first) between.last (flat_map moment_in second) clock'.last e.times e'.times);
+    pauses = subst (λ ms. Rises clock.paused (sum_by (λ (n : ℕ). n) ms) clock'.paused) (sym (flat_map-append pause_of first second))
+        (subst (λ n. Rises clock.paused n clock'.paused) (sym (sum_by-append (λ (n : ℕ). n) (flat_map pause_of first) (flat_map pause_of second)))
+        (rises_on clock.paused (sum_by (λ (n : ℕ). n) (flat_map pause_of first)) between.paused (sum_by (λ (n : ℕ). n) (flat_map pause_of second)) clock'.paused e.pauses e'.pauses));
+    words = subst drawn-all (sym (flat_map-append word_of first second)) (drawn-on _ _ e.words e'.words);
+  }
+
+-- nothing beside something is that
+module _ {X : Type 0} (did : List X → Type 0) where
+  pub nothing_before : (xs ys : List X) → xs ≡ [] → did ys → did (xs ++ ys)
+  nothing_before xs ys none-first h = subst (λ l. did (l ++ ys)) (sym none-first) h
+
+  pub nothing_after : (xs ys : List X) → did xs → ys ≡ [] → did (xs ++ ys)
+  nothing_after xs ys h none-then = subst (λ l. did (xs ++ l)) (sym none-then) (subst did (sym (append-nil xs)) h)
+
+pub nothing_at_all : {X : Type 0} (xs ys : List X) → xs ≡ [] → ys ≡ [] → xs ++ ys ≡ []
+nothing_at_all xs ys none-first none-then = ap (λ l. l ++ ys) none-first ∙ none-then
+
+-- words that were drawn, and then others
+pub drawn_on : (s : Stream) (ws : List ℕ) (s' : Stream) (vs : List ℕ) (s'' : Stream) → Drawn s ws s' → Drawn s' vs s'' → Drawn s (ws ++ vs) s''
+drawn_on s [] s' vs s'' h k = subst (λ z. Drawn z vs s'') h k
+drawn_on s (w ∷ ws) s' vs s'' h k = (h.0, drawn_on (next_u64 s).1 ws s' vs s'' h.1 k)

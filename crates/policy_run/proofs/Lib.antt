@@ -1,0 +1,4 @@
+pub mod Composed
+pub mod Asking
+pub mod Turning
+pub mod Trying

@@ -1,0 +1,101 @@
+ghost use Rattle.std.specs.Prelude.{◌≡◌, ℕ, List, [], reverse, Some};
+ghost use Rattle.retry_core.specs.Bound.{IsWithinLimit};
+ghost use Rattle.retry_core.specs.RetryPolicy.{IsWithinLimit as IsRetryWithinLimit};
+ghost use Rattle.retry_core.specs.RetryRun.{run_after};
+ghost use Rattle.retry_core.specs.declared.policy.RetryPolicy.{RetryPolicy};
+ghost use Rattle.policy_run.specs.Event.{Event};
+ghost use Rattle.policy_run.specs.Effects.{Effects, clocked};
+ghost use Rattle.policy_run.specs.Attempts.{Attempts, Attempted, Decides, last_outcome};
+ghost use Rattle.policy_run.specs.Told.{Drawn};
+
+use crate::turn::{Turned, turn};
+use crate::{Clock, Guard, Operation, Outcome};
+use rand_core::Rng;
+use retry_core::{Bound, Next, RetryPolicy, RetryRun};
+use std::sync::Wait;
+
+/// Makes attempts of `op` until one ends the call, as the policies that are bound say (Dapr's resiliency policies): each is let
+/// through by the breaker, if there is one, made, and reported to it.
+///
+/// After a failing attempt under a retry policy one random word is drawn, which decides how long to wait before the next one;
+/// without such a policy, or where it gives up, the call ends with the last failing answer.
+pub fn run_call<P: Operation, G: Guard, C: Clock, R: Rng, W: Wait>(
+    rt: &W,
+    bound: &Bound,
+    guard: &mut G,
+    op: &mut P,
+    clock: &mut C,
+    rng: &mut R,
+) -> Outcome<P::Good, P::Bad>
+    requires limits { IsWithinLimit bound.now }
+    requires guard { G.ready guard.old }
+    requires op { P.ready op.old }
+    ensures attempts { (events : List (Event P.Own)) × Attempts bound.now (G.there guard.old) (P.makes op.old) result events × Effects events (λ xs. P.did op.old xs op.new) (λ xs. G.held guard.old xs guard.new) (clocked C.Clock clock.old) (clocked C.Clock clock.new) (λ ws. Drawn (R.stream rng.old) ws (R.stream rng.new)) }
+    ensures there { G.there guard.new ≡ G.there guard.old }
+    ensures shows { (count : ℕ) → result ≡ Outcome.Exhausted count → G.shows guard.new count }
+{
+    let limit = bound.timeout_ms.unwrap_or(0);
+    match &bound.retry {
+        None => outcome_of_last(turn(rt, limit, guard, op, clock)),
+        Some(policy) => run_with(rt, limit, policy, guard, op, clock, rng),
+    }
+}
+
+/// The outcome of a call whose last turn this was.
+fn outcome_of_last<A: Drop, B: Drop>(turned: Turned<A, B>) -> Outcome<A, B>
+    ensures { result ≡ last_outcome turned }
+{
+    match turned {
+        Turned::Failed(bad) => Outcome::Bad(bad),
+        Turned::Ended(outcome) => outcome,
+    }
+}
+
+/// Makes attempts under a retry policy.
+fn run_with<P: Operation, G: Guard, C: Clock, R: Rng, W: Wait>(
+    rt: &W,
+    limit: u64,
+    policy: &RetryPolicy,
+    guard: &mut G,
+    op: &mut P,
+    clock: &mut C,
+    rng: &mut R,
+) -> Outcome<P::Good, P::Bad>
+    requires limits { IsRetryWithinLimit policy.now }
+    requires guard { G.ready guard.old }
+    requires op { P.ready op.old }
+    ensures attempts { (events : List (Event P.Own)) × Attempted (Some policy.now) (G.there guard.old) (P.makes op.old limit) result events × Effects events (λ xs. P.did op.old xs op.new) (λ xs. G.held guard.old xs guard.new) (clocked C.Clock clock.old) (clocked C.Clock clock.new) (λ ws. Drawn (R.stream rng.old) ws (R.stream rng.new)) }
+    ensures there { G.there guard.new ≡ G.there guard.old }
+    ensures shows { (count : ℕ) → result ≡ Outcome.Exhausted count → G.shows guard.new count }
+{
+    let mut run = RetryRun::start(policy);
+    for _ in rt.forever() {
+        match turn(rt, limit, guard, op, clock) {
+            Turned::Failed(bad) => {
+                if !goes_on::<P, C, R, W>(rt, &mut run, clock, rng) {
+                    return Outcome::Bad(bad);
+                }
+            }
+            Turned::Ended(outcome) => return outcome,
+        }
+    }
+    unreachable!()
+}
+
+/// Decides after a failing attempt by one random word: waits before the next one, or says that none follows.
+fn goes_on<P: Operation, C: Clock, R: Rng, W: Wait>(
+    rt: &W,
+    run: &mut RetryRun,
+    clock: &mut C,
+    rng: &mut R,
+) -> bool
+    ensures { (policy : RetryPolicy) (words : List ℕ) → run.old ≡ run_after policy (reverse words) → (events : List (Event P.Own)) × Decides policy words result run.new events × Effects events (λ xs. xs ≡ []) (λ xs. xs ≡ []) (clocked C.Clock clock.old) (clocked C.Clock clock.new) (λ ws. Drawn (R.stream rng.old) ws (R.stream rng.new)) }
+{
+    match run.next(rng.next_u64()) {
+        Next::GiveUp { .. } => false,
+        Next::Wait(ms) => {
+            clock.pause(rt, ms);
+            true
+        }
+    }
+}

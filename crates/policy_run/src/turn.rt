@@ -1,0 +1,159 @@
+ghost use Rattle.std.specs.Prelude.{◌≡◌, ℕ, List, [], ◌++◌, true, IfErr};
+ghost use Rattle.breaker_core.specs.declared.command.BreakerCmd.TheVariants.{Admit};
+ghost use Rattle.breaker_core.specs.Course.{Step};
+ghost use Rattle.policy_run.specs.declared.operation.Attempt.{Attempt};
+ghost use Rattle.policy_run.specs.Event.{Event};
+ghost use Rattle.policy_run.specs.Effects.{Effects, clocked};
+ghost use Rattle.policy_run.specs.Turn.{Fits, IsAdmission, IsAdmittedBy, IsReport, is_good};
+ghost use Rattle.policy_run.specs.Attempts.{TurnsTo, IsRest, turned_by};
+
+use crate::{Attempt, Clock, Guard, Operation, Outcome, Refusal};
+use breaker_core::{BreakerCmd, BreakerReply};
+use std::sync::Wait;
+use turn_cell::Exhausted;
+
+/// How one turn ended.
+#[derive(Drop)]
+pub(crate) enum Turned<A, B> {
+    /// The attempt failed, and was reported.
+    Failed(B),
+    /// The call is over.
+    Ended(Outcome<A, B>),
+}
+
+/// What came of asking whether an attempt may be made.
+#[derive(Clone, Copy)]
+pub(crate) enum Admission {
+    /// It may, and belongs to this generation of the breaker; without a breaker it is 0.
+    LetThrough { generation: u64 },
+    Refused(Refusal),
+    Exhausted { count: u64 },
+}
+
+/// One turn: an attempt is let through, made and reported.
+pub(crate) fn turn<P: Operation, G: Guard, C: Clock, W: Wait>(
+    rt: &W,
+    limit: u64,
+    guard: &mut G,
+    op: &mut P,
+    clock: &mut C,
+) -> Turned<P::Good, P::Bad>
+    requires guard { G.ready guard.old }
+    requires op { P.ready op.old }
+    ensures turn { (events : List (Event P.Own)) × TurnsTo (G.there guard.old) (P.makes op.old limit) result events × Effects events (λ xs. P.did op.old xs op.new) (λ xs. G.held guard.old xs guard.new) (clocked C.Clock clock.old) (clocked C.Clock clock.new) (λ xs. xs ≡ []) }
+    ensures there { G.there guard.new ≡ G.there guard.old }
+    ensures shows { (count : ℕ) → result ≡ Turned.Ended (Outcome.Exhausted count) → G.shows guard.new count }
+{
+    match admit::<P, G, C, W>(rt, guard, clock) {
+        Admission::LetThrough { generation } => attempt(rt, limit, generation, guard, op, clock),
+        Admission::Refused(refusal) => Turned::Ended(Outcome::Refused(refusal)),
+        Admission::Exhausted { count } => Turned::Ended(Outcome::Exhausted { count }),
+    }
+}
+
+/// Asks the breaker, if there is one, to let an attempt through.
+fn admit<P: Operation, G: Guard, C: Clock, W: Wait>(
+    rt: &W,
+    guard: &mut G,
+    clock: &mut C,
+) -> Admission
+    requires { G.ready guard.old }
+    ensures admission { (events : List (Event P.Own)) × IsAdmission (G.there guard.old) result events × Effects events (λ xs. xs ≡ []) (λ xs. G.held guard.old xs guard.new) (clocked C.Clock clock.old) (clocked C.Clock clock.new) (λ xs. xs ≡ []) }
+    ensures there { G.there guard.new ≡ G.there guard.old }
+    ensures shows { (count : ℕ) → result ≡ Admission.Exhausted count → G.shows guard.new count }
+{
+    if !guard.is_there() {
+        return Admission::LetThrough { generation: 0 };
+    }
+    let now = clock.now();
+    match guard.step(rt, &BreakerCmd::Admit { now }) {
+        Ok(reply) => admission_by(reply),
+        Err(Exhausted { count }) => Admission::Exhausted { count },
+    }
+}
+
+/// What the breaker's answer to an admission means.
+fn admission_by(reply: BreakerReply) -> Admission
+    requires { (now : ℕ) × Fits (Admit now) reply }
+    ensures { IsAdmittedBy reply result }
+{
+    match reply {
+        BreakerReply::Admitted { generation, .. } => Admission::LetThrough { generation },
+        BreakerReply::Opened { until } => Admission::Refused(Refusal::Opened { until }),
+        BreakerReply::TooMany { out } => Admission::Refused(Refusal::TooMany { out }),
+        BreakerReply::Counted | BreakerReply::Stale { .. } => unreachable!(),
+    }
+}
+
+/// Makes an attempt that was let through, and reports it.
+fn attempt<P: Operation, G: Guard, C: Clock, W: Wait>(
+    rt: &W,
+    limit: u64,
+    generation: u64,
+    guard: &mut G,
+    op: &mut P,
+    clock: &mut C,
+) -> Turned<P::Good, P::Bad>
+    requires guard { G.ready guard.old }
+    requires op { P.ready op.old }
+    ensures rest { (made report : List (Event P.Own)) × (answer : Attempt P.Good P.Bad) × P.makes op.old limit answer made × IsRest (G.there guard.old) generation answer result report × Effects (made ++ report) (λ xs. P.did op.old xs op.new) (λ xs. G.held guard.old xs guard.new) (clocked C.Clock clock.old) (clocked C.Clock clock.new) (λ xs. xs ≡ []) }
+    ensures there { G.there guard.new ≡ G.there guard.old }
+    ensures shows { (count : ℕ) → result ≡ Turned.Ended (Outcome.Exhausted count) → G.shows guard.new count }
+{
+    let answer = op.attempt(rt, limit, clock);
+    match report::<P, G, C, W>(rt, generation, is_good(&answer), guard, clock) {
+        Ok(()) => outcome_of(answer),
+        Err(Exhausted { count }) => Turned::Ended(Outcome::Exhausted { count }),
+    }
+}
+
+/// Whether an attempt is reported as good.
+fn is_good<A, B>(answer: &Attempt<A, B>) -> bool
+    ensures { result ≡ is_good answer.now }
+{
+    match answer {
+        Attempt::Good(_) | Attempt::NoMemory => true,
+        Attempt::Bad(_) => false,
+    }
+}
+
+/// What a reported attempt makes of the call.
+fn outcome_of<A: Drop, B: Drop>(answer: Attempt<A, B>) -> Turned<A, B>
+    ensures { result ≡ turned_by answer }
+{
+    match answer {
+        Attempt::Good(good) => Turned::Ended(Outcome::Good(good)),
+        Attempt::Bad(bad) => Turned::Failed(bad),
+        Attempt::NoMemory => Turned::Ended(Outcome::NoMemory),
+    }
+}
+
+/// Reports an attempt of this generation to the breaker, if there is one.
+fn report<P: Operation, G: Guard, C: Clock, W: Wait>(
+    rt: &W,
+    generation: u64,
+    good: bool,
+    guard: &mut G,
+    clock: &mut C,
+) -> Result<(), Exhausted>
+    requires { G.ready guard.old }
+    ensures report { (events : List (Event P.Own)) × IsReport (G.there guard.old) generation good result events × Effects events (λ xs. xs ≡ []) (λ xs. G.held guard.old xs guard.new) (clocked C.Clock clock.old) (clocked C.Clock clock.new) (λ xs. xs ≡ []) }
+    ensures there { G.there guard.new ≡ G.there guard.old }
+    ensures shows { IfErr result (λ e. G.shows guard.new e.count) }
+{
+    if !guard.is_there() {
+        return Ok(());
+    }
+    let now = clock.now();
+    match guard.step(
+        rt,
+        &BreakerCmd::Report {
+            generation,
+            now,
+            good,
+        },
+    ) {
+        Ok(_) => Ok(()),
+        Err(exhausted) => Err(exhausted),
+    }
+}
