@@ -3,7 +3,7 @@ mod files;
 
 use crate::{Bodies, Journal, JournalErr, format};
 use side_base::{NoMemory, Places};
-use side_world::MemoryDisk;
+use side_memory::MemoryDisk;
 use std::alloc::Global;
 
 /// No test appends as much as this.

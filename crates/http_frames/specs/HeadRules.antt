@@ -12,7 +12,7 @@ use Rattle.side_base.specs.declared.method.Method.{Method}
 use Rattle.side_base.specs.declared.method.Method.TheVariants.{Get, Head, Post, Put, Patch, Delete, Options, Other}
 use Rattle.http_frames.specs.declared.refusal.FrameErr.{FrameErr}
 use Rattle.http_frames.specs.declared.refusal.FrameErr.TheVariants.{TooManyHeaders, BadHost, BothLengths, TransferCoding, BadLength, Coding, TooLong}
-use Rattle.http_frames.specs.Closes.{is_same_word}
+use Rattle.side_base.specs.Field.{is_same_word}
 
 -- the most bytes of a head, of a chunk line and of trailers; the most fields of a head; the most bytes of a body
 abbrev pub HEAD_LIMIT : ℕ

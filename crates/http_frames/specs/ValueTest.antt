@@ -1,6 +1,6 @@
 -- The tests of `src/rules`, for the clauses of its private functions alone.
 use Rattle.std.specs.Prelude.{ℕ, List, Bool, not, codes}
-use Rattle.http_frames.specs.Closes.{is_same_word}
+use Rattle.side_base.specs.Field.{is_same_word}
 use Rattle.http_frames.specs.HeadRules.{is_length}
 use Rattle.http_frames.specs.declared.rules.Test.{Test}
 use Rattle.http_frames.specs.declared.rules.Test.TheVariants.{OtherThanChunked, OtherThanLength, OtherThanIdentity, Continue}

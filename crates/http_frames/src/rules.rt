@@ -2,13 +2,12 @@ ghost use Rattle.std.specs.Prelude.{◌≡◌, ◌<◌, ◌≤◌, not, true, fa
 ghost use Rattle.std.specs.List.{list_all};
 ghost use Rattle.std.specs.Char.{is_ascii_digit};
 ghost use Rattle.std.specs.Str.Parse.{digits_value};
-ghost use Rattle.http_frames.specs.Closes.{is_same_word};
+ghost use Rattle.side_base.specs.Field.{is_same_word};
 ghost use Rattle.http_frames.specs.HeadRules.{count_named, any_value, is_named, is_length, content_length, is_chunked, has_length, is_bad_host, is_bad_coding, is_bad_length, is_encoded, fields_refusal, asks_to_continue};
 ghost use Rattle.http_frames.specs.ValueTest.{passes};
 
 use crate::FrameErr;
-use crate::connection::is_same_word;
-use side_base::{Field, Fields};
+use side_base::{Field, Fields, is_same_word};
 
 /// The most fields of a head.
 const FIELD_LIMIT: usize = 64;

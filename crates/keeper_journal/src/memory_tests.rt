@@ -2,7 +2,7 @@ use crate::JournalKeeper;
 use crate::tests::{LIMIT, disk_of, save, shows, started};
 use keeper_core::Keeper;
 use side_base::NoMemory;
-use side_world::MemoryDisk;
+use side_memory::MemoryDisk;
 use std::alloc::Global;
 use std::process::Abort;
 use std::test::Fail;

@@ -3,7 +3,7 @@ use crate::{AnyKeeper, BodyErr, JournalKeeper, body_len, decode, encode};
 use disk_journal::{Journal, JournalErr};
 use keeper_core::{Change, Changes, KeepErr, Keeper, MemoryKeeper};
 use side_base::{Blob, NoMemory, Places, Sequence};
-use side_world::{MemoryDisk, Tear};
+use side_memory::{MemoryDisk, Tear};
 use std::alloc::Global;
 use std::process::Abort;
 use std::test::Fail;

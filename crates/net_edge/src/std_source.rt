@@ -28,6 +28,8 @@ impl<R: Read> StdSource<R> {
 impl<R: Read> Source for StdSource<R> {
     ghost left = { λ _. None };
 
+    ghost taken = { λ _. None };
+
     ghost ended = { λ s. s.ended };
 
     ghost faults = { λ s. s.faults };

@@ -6,7 +6,7 @@ use Rattle.std.proofs.lemmas.List.{length-drop}
 use Rattle.std.specs.Str.Parse.{digits_value}
 use Rattle.side_base.specs.declared.duration.DurationErr.{DurationErr}
 use Rattle.side_base.specs.declared.duration.DurationErr.TheVariants.{Empty, BadUnit, BadDigit, TooLong}
-use Rattle.side_base.specs.declared.duration.TheConstants.{DURATION_LIMIT}
+use Rattle.side_base.specs.Limits.{greatest_duration}
 use Rattle.side_base.specs.Decimal.{digits_at, after_digits}
 use Rattle.side_base.specs.Duration.{TimeUnit, unit_at, Parts, none, part, IsDuration, LacksDigitAt, LacksUnitAt, PartsResult}
 use Rattle.side_base.proofs.Decimals.{min-mul}
@@ -86,11 +86,11 @@ Parts-same rest other s o text ms (part t v k e w p) n q =
 
 -- what the contract says of each answer
 abbrev pub Answers : List ℕ → Result ℕ DurationErr → Type 0
-Answers text (Ok ms) = IsDuration text ms × (ms ≤ DURATION_LIMIT)
+Answers text (Ok ms) = IsDuration text ms × (ms ≤ greatest_duration)
 Answers text (Err Empty) = text ≡ []
 Answers text (Err (BadUnit at)) = LacksUnitAt text at
 Answers text (Err (BadDigit at)) = LacksDigitAt text at
-Answers text (Err TooLong) = (ms : ℕ) × IsDuration text ms × (DURATION_LIMIT < ms)
+Answers text (Err TooLong) = (ms : ℕ) × IsDuration text ms × (greatest_duration < ms)
 
 abbrev is_empty : List ℕ → Bool
 is_empty [] = true
@@ -108,7 +108,7 @@ empty (x ∷ xs) h = cc
 abbrev answer_at : List ℕ → List ℕ → ℕ → Result ℕ DurationErr
 answer_at text rest ms =
     cond (is_empty text) (Err Empty)
-    (cond (is_empty rest) (cond (leb ms DURATION_LIMIT) (Ok ms) (Err TooLong))
+    (cond (is_empty rest) (cond (leb ms greatest_duration) (Ok ms) (Err TooLong))
     (cond (is_empty (digits_at rest)) (Err (BadDigit (length text - length rest))) (Err (BadUnit (length text - length (after_digits rest))))))
 
 abbrev Canonical : List ℕ → Result ℕ DurationErr → Type 0
@@ -136,7 +136,7 @@ has_digits rest some absent = some (ap digits_at absent)
 
 canonical : (text : List ℕ) (r : Result ℕ DurationErr) → Answers text r → Canonical text r
 canonical text (Ok ms) (h, within) =
-    ([], ms, h.1, stuck_at_end, rw (not_empty text h.0, le-leb ms DURATION_LIMIT within) refl)
+    ([], ms, h.1, stuck_at_end, rw (not_empty text h.0, le-leb ms greatest_duration within) refl)
 canonical [] (Err Empty) h = ([], 0, none, stuck_at_end, refl)
 canonical (c ∷ cs) (Err Empty) h = cc
 canonical text (Err (BadUnit at)) (rest, ms, parts, digits, absent, place) = (
@@ -158,7 +158,7 @@ canonical text (Err TooLong) (ms, h, over) = (
   ms,
   h.1,
   stuck_at_end,
-  (let long : leb ms DURATION_LIMIT ≡ false = grind (arith, nat_tests) in rw (not_empty text h.0, long) refl),
+  (let long : leb ms greatest_duration ≡ false = grind (arith, nat_tests) in rw (not_empty text h.0, long) refl),
 )
 
 -- a text has one answer
@@ -174,12 +174,12 @@ pub answers : (text : List ℕ) (r : Result ℕ DurationErr) → Answers text r 
 answers text r h s = (λ e. subst (Answers text) e h, λ k. Answers-same text r s h k)
 
 -- what `sum_of_parts` gives of a text that is not empty, where the sum is within the limit, beyond it, or not there
-pub Answers-within : (text : List ℕ) (total : ℕ) → text ≢ [] → PartsResult text (Ok total) → total ≤ DURATION_LIMIT → Answers text (Ok total)
+pub Answers-within : (text : List ℕ) (total : ℕ) → text ≢ [] → PartsResult text (Ok total) → total ≤ greatest_duration → Answers text (Ok total)
 Answers-within text total some (ms, parts, is) within =
     let whole : ms ≡ total = omega arith in
     ((some, subst (λ (n : ℕ). Parts [] text n) whole parts), within)
 
-pub Answers-beyond : (text : List ℕ) (total : ℕ) → text ≢ [] → PartsResult text (Ok total) → DURATION_LIMIT < total → Answers text (Err TooLong)
+pub Answers-beyond : (text : List ℕ) (total : ℕ) → text ≢ [] → PartsResult text (Ok total) → greatest_duration < total → Answers text (Err TooLong)
 Answers-beyond text total some (ms, parts, is) over = (ms, (some, parts), omega arith)
 
 pub Answers-stopped : (text : List ℕ) (e : DurationErr) → PartsResult text (Err e) → Answers text (Err e)

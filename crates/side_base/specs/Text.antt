@@ -1,4 +1,4 @@
--- Where bytes stop being UTF-8 (RFC 3629).
+-- Texts in UTF-8 (RFC 3629).
 use Rattle.std.specs.Prelude.{◌≡◌, ℕ, List, IsUtf8}
 use Rattle.std.specs.Str.Lossy.{utf8_valid_len}
 

@@ -1,6 +1,7 @@
-ghost use Rattle.std.specs.Prelude.{◌≡◌, ◌≤◌, ℕ, List, [], ◌∷◌, ◌++◌, length, take, IfOk, IsTrue, OnOk, OnErr, ◌↔◌};
+ghost use Rattle.std.specs.Prelude.{◌≡◌, ◌≤◌, ℕ, List, [], ◌∷◌, ◌++◌, length, take, IfOk, IfErr, IsUtf8, IsTrue, OnOk, OnErr, ◌↔◌};
+ghost use Rattle.side_base.specs.Text.{IsNotUtf8At};
 
-use crate::NoMemory;
+use crate::{NoMemory, Text};
 use std::alloc::Global;
 use std::marker::Model;
 
@@ -8,6 +9,15 @@ use std::marker::Model;
 #[derive(Debug, Drop)]
 pub struct Blob {
     bytes: Vec<u8>,
+}
+
+/// Bytes that are no text.
+#[derive(Debug, Drop)]
+pub struct NotText {
+    /// The place of the first byte of the first sequence that is not UTF-8.
+    pub at: usize,
+    /// The bytes.
+    pub blob: Blob,
 }
 
 impl Model for Blob {
@@ -42,7 +52,24 @@ impl Blob {
         Blob { bytes }
     }
 
-    /// The bytes as a `Vec`; takes no memory.
+    /// The bytes as a text, if they are UTF-8; takes no memory.
+    pub fn into_text(self) -> Result<Text, NotText>
+        ensures text { IfOk result (λ text. (text ≡ self) × IsUtf8 self) }
+        ensures not_text { IfErr result (λ error. IsNotUtf8At self error.at × (error.blob ≡ self)) }
+    {
+        match String::from_utf8(self.bytes) {
+            Ok(string) => Ok(Text::from_string(string)),
+            Err(error) => {
+                let at = error.utf8_error().valid_up_to();
+                Err(NotText {
+                    at,
+                    blob: Blob::from_vec(error.into_bytes()),
+                })
+            }
+        }
+    }
+
+    /// The bytes as a `Vec`; takes no memory. To be removed: use `bytes`, or move the byte string itself.
     pub fn into_vec(self) -> Vec<u8>
         ensures { result.items ≡ self }
     {

@@ -1,4 +1,5 @@
 ghost use Rattle.std.specs.Prelude.{◌≡◌, ◌≤◌, ◌<◌, ℕ, ◌↔◌, [], length, Err, Ok, IsErrOf, IfSome, IsNone, IsSomeAnd};
+ghost use Rattle.side_base.specs.Limits.{greatest_duration};
 ghost use Rattle.side_base.specs.Duration.{IsDuration, LacksDigitAt, LacksUnitAt, PartsResult, unit_at};
 
 use crate::{number_of, split_digits};
@@ -98,11 +99,11 @@ fn sum_of_parts(text: &[u8]) -> Result<u64, DurationErr>
 /// `1h30m`, read from the left, where `ms` is read before `m`. No sign, blank or fraction may stand in it, and parts may
 /// stand in any order, also twice. Takes no memory.
 pub fn duration_ms(text: &[u8]) -> Result<u64, DurationErr>
-    ensures ok { (ms : ℕ) → (result ≡ Ok ms) ↔ (IsDuration text.now ms × (ms ≤ DURATION_LIMIT)) }
+    ensures ok { (ms : ℕ) → (result ≡ Ok ms) ↔ (IsDuration text.now ms × (ms ≤ greatest_duration)) }
     ensures empty { IsErrOf result DurationErr.Empty ↔ (text.now ≡ []) }
     ensures bad_unit { (at : ℕ) → IsErrOf result (DurationErr.BadUnit at) ↔ LacksUnitAt text.now at }
     ensures bad_digit { (at : ℕ) → IsErrOf result (DurationErr.BadDigit at) ↔ LacksDigitAt text.now at }
-    ensures too_long { IsErrOf result DurationErr.TooLong ↔ ((ms : ℕ) × IsDuration text.now ms × (DURATION_LIMIT < ms)) }
+    ensures too_long { IsErrOf result DurationErr.TooLong ↔ ((ms : ℕ) × IsDuration text.now ms × (greatest_duration < ms)) }
 {
     if text.is_empty() {
         return Err(DurationErr::Empty);

@@ -1,5 +1,5 @@
 ghost use Rattle.std.specs.Prelude.{◌≡◌, ◌<◌, ℕ, SomeIff};
-ghost use Rattle.side_base.specs.declared.moment.TheConstants.{MOMENT_LIMIT};
+ghost use Rattle.side_base.specs.Limits.{moments_end};
 
 use std::marker::Model;
 
@@ -17,7 +17,7 @@ impl Model for Moment {
 
     ghost view = { λ m. m.ms };
 
-    ghost invariant = { λ m. m.ms < MOMENT_LIMIT };
+    ghost invariant = { λ m. m.ms < moments_end };
 
     ghost inverse = { λ n. record { ms = n } };
 }
@@ -25,7 +25,7 @@ impl Model for Moment {
 impl Moment {
     /// The moment `ms` milliseconds after the beginning of 1970; `None` exactly where that is past the year 9999.
     pub fn at(ms: u64) -> Option<Moment>
-        ensures { SomeIff result (ms < MOMENT_LIMIT) ms }
+        ensures { SomeIff result (ms < moments_end) ms }
     {
         if ms < MOMENT_LIMIT {
             Some(Moment { ms })
@@ -37,7 +37,7 @@ impl Moment {
     /// The milliseconds since the beginning of 1970.
     pub fn ms(self) -> u64
         ensures same { result ≡ self }
-        ensures limit { result < MOMENT_LIMIT }
+        ensures limit { result < moments_end }
     {
         self.ms
     }

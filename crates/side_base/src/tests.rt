@@ -1,4 +1,6 @@
-use crate::{Blob, Moment, Sequence, Text, TextErr};
+use crate::{
+    Blob, Field, Fields, Moment, Sequence, Text, TextErr, first_item, first_value, has_item,
+};
 use std::test::Fail;
 
 #[test]
@@ -40,14 +42,80 @@ fn a_blob_grows(rt: HostRuntime) -> Result<(), Fail> {
     blob.push(b"save")?;
     blob.push_byte(b'!')?;
     assert_eq!(rt; blob.bytes(), b"save!".as_slice());
-    assert_eq!(rt; blob.copy()?.into_vec().as_slice(), b"save!".as_slice());
+    assert_eq!(rt; blob.copy()?.bytes(), b"save!".as_slice());
     blob.truncate(3);
     assert_eq!(rt; blob.bytes(), b"sav".as_slice());
     assert_eq!(rt; blob.len(), 3);
     blob.clear();
     assert_eq!(rt; blob.len(), 0);
     let copy = Blob::from_bytes(rt.alloc(), b"x")?;
-    assert_eq!(rt; Blob::from_vec(copy.into_vec()).bytes(), b"x".as_slice());
+    assert_eq!(rt; copy.bytes(), b"x".as_slice());
+    Ok(())
+}
+
+#[test]
+fn a_literal_is_a_text(rt: HostRuntime) -> Result<(), Fail> {
+    let mut key = Text::from_static(rt.alloc(), "shop");
+    let copy = key.copy()?;
+    key.push("||k")?;
+    key.push("1")?;
+    assert_eq!(rt; key.bytes(), b"shop||k1".as_slice());
+    assert_eq!(rt; copy.as_str(), "shop");
+    assert_eq!(rt; copy.into_blob()?.bytes(), b"shop".as_slice());
+    assert_eq!(rt; key.into_blob()?.bytes(), b"shop||k1".as_slice());
+    Ok(())
+}
+
+#[test]
+fn a_blob_becomes_a_text(rt: HostRuntime) -> Result<(), Fail> {
+    let alloc = rt.alloc();
+    match Blob::from_bytes(alloc, b"\xc3\xa9")?.into_text() {
+        Ok(text) => assert_eq!(rt; text.len(), 2),
+        Err(error) => assert_eq!(rt; error.at, 99),
+    }
+    match Blob::from_bytes(alloc, b"ab\xc3")?.into_text() {
+        Ok(text) => assert_eq!(rt; text.len(), 99),
+        Err(error) => {
+            assert_eq!(rt; error.at, 2);
+            assert_eq!(rt; error.blob.bytes(), b"ab\xc3".as_slice());
+        }
+    }
+    Ok(())
+}
+
+fn add_field(fields: &mut Fields, name: Text, value: Blob) -> Result<(), Fail> {
+    fields.push(Field { name, value })?;
+    Ok(())
+}
+
+#[test]
+fn the_first_field_of_a_name_counts(rt: HostRuntime) -> Result<(), Fail> {
+    let alloc = rt.alloc();
+    let rows: [(&str, &[u8]); 4] = [
+        ("Host", b"a"),
+        ("IF-Match", b"\"1\""),
+        ("if-match", b"2"),
+        ("Connection", b"keep-alive ,\tClose"),
+    ];
+    let mut fields: Fields = Sequence::new(alloc);
+    for (name, value) in rows {
+        add_field(
+            &mut fields,
+            Text::from_str(alloc, name)?,
+            Blob::from_bytes(alloc, value)?,
+        )?;
+    }
+    assert_eq!(rt;
+        first_value(&fields, b"if-match"),
+        Some(b"\"1\"".as_slice())
+    );
+    assert_eq!(rt; first_value(&fields, b"te"), None);
+    let value = first_value(&fields, b"connection").unwrap_or(b"");
+    assert!(rt; has_item(value, b"close"));
+    assert!(rt; !has_item(value, b"te"));
+    let (item, rest) = first_item(value);
+    assert_eq!(rt; item, b"keep-alive".as_slice());
+    assert_eq!(rt; rest, Some(b"\tClose".as_slice()));
     Ok(())
 }
 

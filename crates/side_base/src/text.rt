@@ -1,8 +1,8 @@
-ghost use Rattle.std.specs.Prelude.{◌≡◌, ℕ, List, [], ◌++◌, ◌↔◌, IfOk, OnOk, OnErr, IsErrOf, IsUtf8};
+ghost use Rattle.std.specs.Prelude.{◌≡◌, ℕ, List, [], ◌++◌, ◌↔◌, IfOk, OnOk, OnErr, IsErrOf, IsUtf8, IsTrue, length};
 ghost use Rattle.std.specs.String.{string_bytes};
 ghost use Rattle.side_base.specs.Text.{IsNotUtf8At};
 
-use crate::NoMemory;
+use crate::{Blob, NoMemory};
 use std::alloc::Global;
 use std::error::Error;
 use std::fmt;
@@ -28,16 +28,26 @@ impl fmt::Display for TextErr {
 
 impl Error for TextErr {}
 
-/// A text in UTF-8 that owns its bytes. Contracts see it as the list of its bytes.
+/// What a text holds: a text of the program itself, with the allocator that a change takes, or one of its own.
+#[derive(Debug, Drop)]
+enum Held {
+    Fixed(Global, &'static str),
+    Owned(String),
+}
+
+/// A text in UTF-8. Contracts see it as the list of its bytes.
 #[derive(Debug, Drop)]
 pub struct Text {
-    string: String,
+    held: Held,
 }
 
 impl Model for Text {
+    ghost use Rattle.std.specs.Prelude.{ℕ, List};
+    ghost use Rattle.side_base.specs.Held.{held_bytes};
+
     ghost Value = { List ℕ };
 
-    ghost view = { λ t. string_bytes t.string };
+    ghost view = { λ t. held_bytes t.held };
 }
 
 impl Text {
@@ -45,8 +55,24 @@ impl Text {
     pub fn new(alloc: Global) -> Text
         ensures { result ≡ [] }
     {
+        Text::from_string(String::new(alloc))
+    }
+
+    /// A text of the program itself, such as a literal; takes no memory. A change of it takes a copy first.
+    pub fn from_static(alloc: Global, text: &'static str) -> Text
+        ensures { result ≡ text.now }
+    {
         Text {
-            string: String::new(alloc),
+            held: Held::Fixed(alloc, text),
+        }
+    }
+
+    /// The text of a `String`; takes no memory.
+    pub fn from_string(string: String) -> Text
+        ensures { result ≡ string_bytes string }
+    {
+        Text {
+            held: Held::Owned(string),
         }
     }
 
@@ -67,9 +93,7 @@ impl Text {
     pub fn from_str(alloc: Global, text: &str) -> Result<Text, NoMemory>
         ensures { IfOk result (λ copy. copy ≡ text.now) }
     {
-        Ok(Text {
-            string: String::from_str(alloc, text)?,
-        })
+        Ok(Text::from_string(String::from_str(alloc, text)?))
     }
 
     /// Appends `piece`; without memory the text stays as it was.
@@ -77,29 +101,68 @@ impl Text {
         ensures ok { OnOk result (self.new ≡ self.old ++ piece.now) }
         ensures err { OnErr result (self.new ≡ self.old) }
     {
-        self.string.push_str(piece)
+        match &mut self.held {
+            Held::Owned(string) => string.push_str(piece),
+            Held::Fixed(alloc, text) => {
+                let mut string = String::from_str(*alloc, *text)?;
+                string.push_str(piece)?;
+                self.held = Held::Owned(string);
+                Ok(())
+            }
+        }
     }
 
-    /// The bytes of the text.
+    /// The bytes of the text, which are UTF-8.
     pub fn bytes(&self) -> &[u8]
-        ensures { result.now ≡ self.now }
+        ensures value { result.now ≡ self.now }
+        ensures utf8 { IsUtf8 self.now }
     {
-        self.string.as_bytes()
+        self.as_str().as_bytes()
     }
 
     /// The text as a `&str`.
     pub fn as_str(&self) -> &str
-        ensures { result.now ≡ self.now }
+        ensures value { result.now ≡ self.now }
+        ensures utf8 { IsUtf8 self.now }
     {
-        self.string.as_str()
+        match &self.held {
+            Held::Fixed(_, text) => *text,
+            Held::Owned(string) => string.as_str(),
+        }
+    }
+
+    /// The number of bytes.
+    pub fn len(&self) -> usize
+        ensures { result ≡ length self.now }
+    {
+        self.bytes().len()
+    }
+
+    /// Whether there is no byte.
+    pub fn is_empty(&self) -> bool
+        ensures { IsTrue result ↔ (self.now ≡ []) }
+    {
+        self.bytes().is_empty()
     }
 
     /// A second text with the same bytes.
     pub fn copy(&self) -> Result<Self, NoMemory>
         ensures { IfOk result (λ text. text ≡ self.now) }
     {
-        Ok(Text {
-            string: self.string.clone()?,
-        })
+        match &self.held {
+            Held::Fixed(alloc, text) => Ok(Text::from_static(*alloc, *text)),
+            Held::Owned(string) => Ok(Text::from_string(string.clone()?)),
+        }
+    }
+
+    /// The bytes of the text as a byte string. They are moved; only those of the program itself are copied, which takes
+    /// memory.
+    pub fn into_blob(self) -> Result<Blob, NoMemory>
+        ensures { IfOk result (λ blob. blob ≡ self) }
+    {
+        match self.held {
+            Held::Fixed(alloc, text) => Blob::from_bytes(alloc, text.as_bytes()),
+            Held::Owned(string) => Ok(Blob::from_vec(string.into_bytes())),
+        }
     }
 }

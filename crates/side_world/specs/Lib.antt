@@ -1,7 +1,9 @@
+pub mod Answer
+pub mod BytesSource
 pub mod Disk
-pub mod DiskNotes
 pub mod Faults
-pub mod MemoryDisk
-pub mod MemorySink
-pub mod MemorySource
+pub mod Files
+pub mod Link
+pub mod Moments
+pub mod Outside
 pub mod Told

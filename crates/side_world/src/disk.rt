@@ -36,6 +36,7 @@ pub trait Disk: Drop {
         ensures size { size self.new ≡ size self.old }
         ensures crash { NoNew (leaves self.old) (leaves self.new) }
         ensures time { GoesOn (moment self.old) (moment self.new) (left_since self.old) (left_since self.new) (leaves self.new) }
+        ensures no_fault { OnOk result (faults self.new ≡ faults self.old) }
         ensures failed { OnErr result (Rose (faults self.old) (faults self.new)) }
         ensures no_fewer { faults self.old ≤ faults self.new };
 
@@ -48,6 +49,7 @@ pub trait Disk: Drop {
         ensures size { size self.new ≡ size self.old }
         ensures crash { NoNew (leaves self.old) (leaves self.new) }
         ensures time { GoesOn (moment self.old) (moment self.new) (left_since self.old) (left_since self.new) (leaves self.new) }
+        ensures no_fault { OnOk result (faults self.new ≡ faults self.old) }
         ensures failed { OnErr result (Rose (faults self.old) (faults self.new)) }
         ensures no_fewer { faults self.old ≤ faults self.new };
 
@@ -64,6 +66,7 @@ pub trait Disk: Drop {
         ensures no_longer { size self.new ≤ max (size self.old) (at + length piece.now) }
         ensures crash { ComesOf (Torn at (length piece.now)) (leaves self.old) (leaves self.new) }
         ensures time { GoesOn (moment self.old) (moment self.new) (left_since self.old) (left_since self.new) (leaves self.new) }
+        ensures no_fault { OnOk result (faults self.new ≡ faults self.old) }
         ensures failed { OnErr result (Rose (faults self.old) (faults self.new)) }
         ensures no_fewer { faults self.old ≤ faults self.new };
 
@@ -74,6 +77,7 @@ pub trait Disk: Drop {
         ensures size { size self.new ≡ size self.old }
         ensures crash { NoNew (leaves self.old) (leaves self.new) }
         ensures time { GoesOn (moment self.old) (moment self.new) (left_since self.old) (left_since self.new) (leaves self.new) }
+        ensures no_fault { OnOk result (faults self.new ≡ faults self.old) }
         ensures failed { OnErr result (Rose (faults self.old) (faults self.new)) }
         ensures no_fewer { faults self.old ≤ faults self.new };
 

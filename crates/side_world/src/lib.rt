@@ -1,33 +1,30 @@
 //! The outside as the other crates see it: where bytes come from and where they go, with a count of faults for each.
 #![tactic(auto)]
 
+mod acceptor;
+mod bytes_source;
+mod clock;
 mod disk;
 mod failed;
+mod files;
 mod gate;
-mod memory_disk;
-mod memory_sink;
-mod memory_source;
-mod note;
-mod noting;
-mod overwriting;
+mod link;
+mod outside;
 mod reading;
-mod schedule;
 mod sending;
 mod sink;
 mod source;
 
+pub use acceptor::{Accepted, Acceptor};
+pub use bytes_source::BytesSource;
+pub use clock::Clock;
 pub use disk::Disk;
 pub use failed::Failed;
+pub use files::{Files, FilesCall, FilesErr};
 pub use gate::{FreeGate, Gate, Point};
-pub use memory_disk::MemoryDisk;
-pub use memory_sink::MemorySink;
-pub use memory_source::MemorySource;
-pub use overwriting::Tear;
+pub use link::{Link, LinkCall, LinkErr};
+pub use outside::{Outside, OutsideCall, WorkerParts};
 pub use reading::{GatherErr, gather};
-pub use schedule::Sizes;
 pub use sending::send;
 pub use sink::Sink;
 pub use source::Source;
-
-#[cfg(test)]
-mod tests;

@@ -1,6 +1,6 @@
-ghost use Rattle.std.specs.Prelude.{◌≡◌, ◌<◌, ◌≤◌, true, length, IfOk, IsErrOf};
+ghost use Rattle.std.specs.Prelude.{◌≡◌, ◌<◌, ◌≤◌, true, length, IfOk, OnOk, IsErrOf};
 ghost use Rattle.side_world.specs.Faults.{Rose};
-ghost use Rattle.side_world.specs.Told.{Took, IsDrained};
+ghost use Rattle.side_world.specs.Told.{Told, Took, IsDrained};
 
 use crate::{Failed, Source};
 use side_base::{Blob, NoMemory};
@@ -33,11 +33,14 @@ impl Error for GatherErr {}
 /// Reads a source until it ends or `limit` bytes were taken, and answers the bytes.
 pub fn gather<S: Source>(alloc: Global, source: &mut S, limit: usize) -> Result<Blob, GatherErr>
     ensures took { IfOk result (λ bytes. Took (S.left source.old) (S.left source.new) bytes) }
+    ensures taken { IfOk result (λ bytes. Told (S.taken source.old) (S.taken source.new) bytes) }
     ensures within { IfOk result (λ bytes. length bytes ≤ limit) }
     ensures ended { IfOk result (λ bytes. length bytes < limit → S.ended source.new ≡ true) }
     ensures drained { IfOk result (λ bytes. length bytes < limit → IsDrained (S.left source.new)) }
+    ensures no_fault { OnOk result (S.faults source.new ≡ S.faults source.old) }
 
     ensures failed { IsErrOf result GatherErr.Failed → Rose (S.faults source.old) (S.faults source.new) }
+    ensures no_room { IsErrOf result GatherErr.NoMemory → S.faults source.new ≡ S.faults source.old }
     ensures no_fewer { S.faults source.old ≤ S.faults source.new }
 {
     let mut gathered = Blob::new(alloc);

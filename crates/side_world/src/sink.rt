@@ -1,4 +1,4 @@
-ghost use Rattle.std.specs.Prelude.{◌≡◌, ◌<◌, ◌≤◌, ℕ, Option, List, length, take, IfOk, OnErr};
+ghost use Rattle.std.specs.Prelude.{◌≡◌, ◌<◌, ◌≤◌, ℕ, Option, List, length, take, IfOk, OnOk, OnErr};
 ghost use Rattle.side_world.specs.Faults.{Rose};
 ghost use Rattle.side_world.specs.Told.{Told};
 
@@ -6,10 +6,10 @@ use crate::Failed;
 
 /// Where bytes go: a file, a socket, or memory.
 pub trait Sink {
-    /// All bytes that were written, where the sink tells them.
+    // All bytes that were written, where the sink tells them.
     ghost contents: { Self → Option (List ℕ) };
 
-    /// How often a write has failed. The count stops at 2^64 - 1.
+    // How often a write has failed. The count stops at 2^64 - 1.
     ghost faults: { Self → ℕ };
 
     /// Writes the first bytes of `piece`, at least one, and answers how many.
@@ -20,6 +20,7 @@ pub trait Sink {
         ensures some { IfOk result (λ n. 0 < n) }
         ensures within { IfOk result (λ n. n ≤ length piece.now) }
         ensures wrote { IfOk result (λ n. Told (contents self.old) (contents self.new) (take n piece.now)) }
+        ensures no_fault { OnOk result (faults self.new ≡ faults self.old) }
 
         ensures failed { OnErr result (Rose (faults self.old) (faults self.new)) }
         ensures untouched { OnErr result (contents self.new ≡ contents self.old) }

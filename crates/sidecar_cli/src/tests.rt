@@ -1,6 +1,7 @@
 use crate::{Status, World, sidecar_main};
 use side_base::{Blob, NoMemory, Places, Sequence, Text};
-use side_world::{MemorySink, MemorySource, Sink, Sizes, Source};
+use side_memory::{MemorySink, MemorySource, Sizes};
+use side_world::{Sink, Source};
 use std::alloc::Global;
 use std::process::Abort;
 use std::test::Fail;

@@ -32,6 +32,7 @@ module _ {O C R : Type 0} (object : Ghosts O C R) (first : O) where
     own = refl;
     own_seen = refl;
     count = λ n e. absurd (cc);
+    rests = λ _. refl;
     knows = tt;
   }
 

@@ -1,5 +1,5 @@
 -- The growth of seats, put together from call to call.
-use Rattle.std.proofs.Common.{◌≡◌, ◌≢◌, ℕ, zero, suc, ◌<◌, List, [], ◌∷◌, ◌++◌, length, set, IsSome, refl, sym, ap, ◌∙◌, subst, arith, append_assoc, append-nil, length-set}
+use Rattle.std.proofs.Common.{◌≡◌, ◌≢◌, ℕ, ◌^◌, ◌<◌, List, [], ◌∷◌, ◌++◌, length, set, IsSome, refl, sym, ap, ◌∙◌, subst, arith, append_assoc, append-nil, length-append, length-set}
 use mathlib.Core.Logic.{dite}
 use mathlib.Core.Option.{some}
 use native.Mathlib.Decide.{ℕ_discrete}
@@ -8,9 +8,9 @@ use lib.ListN.{get_elem?}
 use Rattle.atomic_table.proofs.Lists.{set_here, set_else}
 use Rattle.turn_cell.specs.declared.entry.Entry.{Entry}
 use Rattle.turn_cell.specs.declared.object.Object.{Ghosts}
-use Rattle.turn_cell.specs.Sitting.{Begun, Sitting, IsSeatOf, IsAlone, Extends, Exhausts, entry_by}
-use Rattle.turn_cell.specs.Growth.{Grew, EachGrew, EachSeated}
-use Rattle.turn_cell.proofs.Lists.{in_range, one_place}
+use Rattle.turn_cell.specs.Sitting.{Begun, Sitting, IsSeatOf, IsAlone, IsSound, Extends, Exhausts, entry_by}
+use Rattle.turn_cell.specs.Growth.{Grew, EachGrew}
+use Rattle.turn_cell.proofs.Lists.{in_range, one_place, there}
 
 module _ {O C R : Type 0} (object : Ghosts O C R) (first : O) where
   -- no call
@@ -42,6 +42,14 @@ module _ {O C R : Type 0} (object : Ghosts O C R) (first : O) where
   alone_after : (s : Sitting O C R) (xs : List (Entry C R)) (s' : Sitting O C R) → Grew object first s xs s' → IsAlone s → IsAlone s'
   alone_after s xs s' g alone = (ap (λ (z : Sitting O C R). z.is_root) g.stays ∙ alone.0, ap (λ (z : Sitting O C R). z.out) g.stays ∙ alone.1)
 
+  -- a call makes a step only where the history has fewer than 2^62 entries
+  pub step_room : (s : Sitting O C R) (cmd : C) (reply : R) (s' : Sitting O C R) → Extends object first s cmd reply s' → length s.seen < 2 ^ 62
+  step_room s cmd reply s' did = omega (arith, did.sound.short, ap (λ (z : Sitting O C R). length z.seen) did.whole, length-append (s.seen ++ did.others) (entry_by s cmd reply did.mark ∷ []), length-append s.seen did.others)
+
+  -- where a seat that is alone shows a count after calls, it has seen 2^62 entries
+  pub full_after : (s : Sitting O C R) (xs : List (Entry C R)) (s' : Sitting O C R) → Grew object first s xs s' → IsSound object first s → IsAlone s → IsSome s'.count → length s'.seen ≡ 2 ^ 62
+  full_after s xs s' g ok alone shows = (g.sound ok).full (alone_after s xs s' g alone) shows
+
   -- some calls, and then others
   pub grew_more : (s : Sitting O C R) (xs : List (Entry C R)) (s' : Sitting O C R) (ys : List (Entry C R)) (s'' : Sitting O C R) → Grew object first s xs s' → Grew object first s' ys s'' → Grew object first s (xs ++ ys) s''
   grew_more s xs s' ys s'' g h = record {
@@ -52,11 +60,6 @@ module _ {O C R : Type 0} (object : Ghosts O C R) (first : O) where
     stays = h.stays ∙ ap (λ (z : Sitting O C R). record z { seen = s''.seen; mine = s''.mine; count = s''.count }) g.stays;
     sound = λ ok. h.sound (g.sound ok);
   }
-
-there : {A : Type 0} (l : List A) (k : ℕ) → k < length l → (a : A) × (get_elem? l k ≡ some a)
-there [] k h = absurd (omega arith)
-there (x ∷ xs) zero h = (x, refl)
-there (x ∷ xs) (suc k) h = there xs k (omega arith)
 
 module _ {O C R : Type 0} (object : Ghosts O C R) where
   -- a seat stays a seat of its cell
@@ -96,10 +99,3 @@ module _ {O C R : Type 0} (object : Ghosts O C R) where
     -- the steps by another name
     pub each_same : (seats : List (Sitting O C R)) (made made' : ℕ → List (Entry C R)) (seats' : List (Sitting O C R)) → ((k : ℕ) → made k ≡ made' k) → EachGrew object cells seats made seats' → EachGrew object cells seats made' seats'
     each_same seats made made' seats' same g = record { wide = g.wide; each = λ k cell s s' at here here'. subst (λ (l : List (Entry C R)). Grew object cell.first s l s') (same k) (g.each k cell s s' at here here') }
-
-    -- the seats stay seats of the cells
-    pub still_seated : (seats : List (Sitting O C R)) (made : ℕ → List (Entry C R)) (seats' : List (Sitting O C R)) → EachGrew object cells seats made seats' → EachSeated cells seats → EachSeated cells seats'
-    still_seated seats made seats' g of = record {
-      wide = g.wide ∙ of.wide;
-      each = λ k cell s' at here'. let before = there seats k (omega (arith, in_range seats' k s' here', g.wide)) in still_of cell before.0 (made k) s' (g.each k cell before.0 s' at before.1 here') (of.each k cell before.0 at before.1);
-    }

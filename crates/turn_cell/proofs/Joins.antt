@@ -79,6 +79,7 @@ module _ {O C R : Type 0} (object : Ghosts O C R) (first : O) where
       own = one.own;
       own_seen = one.own_seen;
       count = counted_either (λ (n : ℕ). (2 ^ 62 ≤ n) × (n ≤ r.ticket)) v.count w.count one.count two.count;
+      rests = λ _. idle;
       knows = one.knows;
     }
 

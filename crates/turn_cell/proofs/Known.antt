@@ -1,5 +1,5 @@
 -- What the rule says of one seat: what it has seen, and what a root that is alone knows.
-use Rattle.std.proofs.Common.{◌≡◌, ◌≢◌, ℕ, ◌^◌, ◌<◌, ◌≤◌, true, false, List, [], ◌∷◌, length, All, sum_by, Option, Some, None, IfSome, refl, sym, ap, ◌∙◌, subst, ⊎_elim, arith, eq-eqb}
+use Rattle.std.proofs.Common.{◌≡◌, ◌≢◌, ℕ, ◌^◌, ◌<◌, ◌≤◌, true, false, List, [], ◌∷◌, length, All, sum_by, Option, Some, None, IsSome, IfSome, refl, sym, ap, ◌∙◌, subst, ⊎_elim, arith, eq-eqb}
 use Rattle.std.proofs.lemmas.Bool.{eqb-true}
 use Rattle.std.proofs.lemmas.List.Elements.{All-weaker, All-nil}
 use mathlib.Core.Logic.{dite}
@@ -57,6 +57,10 @@ if_some : {X : Type 0} (P : X → Type 0) (o : Option X) → ((x : X) → o ≡ 
 if_some P (Some x) h = h x refl
 if_some P None h = tt
 
+pub some_count : (o : Option ℕ) → IsSome o → (n : ℕ) × (o ≡ Some n)
+some_count (Some n) h = (n, refl)
+some_count None h = absurd (cc)
+
 pub only_nothing : {X : Type 0} (a l : List X) → IsPrefix a l → l ≡ [] → a ≡ []
 only_nothing [] l h e = refl
 only_nothing (x ∷ a) l h e = absurd (omega (arith, prefix_length (x ∷ a) l h, ap length e))
@@ -90,18 +94,6 @@ module _ {O C R : Type 0} (object : Ghosts O C R) (first : O) (s : State (Option
   cases_apart : v.is_root ≡ false → j ≡ 0 → ⊥
   cases_apart not_root e = let yes' : v.is_root ≡ true = place.root_is ∙ eq-eqb j 0 e in cc
 
-  pub sound : v.kept ≡ [] → IsSoundView object first v
-  sound done table = record {
-    legal = legal_before object first v.seen r.log place.has_seen r.legal;
-    own = ap (λ (k : ℕ). entries_of k v.seen) place.number_is ∙ place.own_seen;
-    met = met_shown done;
-    made = λ is. prefix_all (λ (entry : Entry C R). entry.seat < v.made) v.seen r.log place.has_seen (subst (λ (n : ℕ). All (λ (entry : Entry C R). entry.seat < n) r.log) (sym (root_facts is).made) r.made);
-    parts = λ is. (root_facts is).parts;
-    plain = λ other. place.plain (cases_apart other);
-    count = if_some (λ (n : ℕ). 2 ^ 62 ≤ n) v.count (λ n e. (place.count n e).0);
-    short = omega (arith, prefix_length v.seen r.log place.has_seen, r.long);
-  }
-
   module _ (alone : IsAloneView v) where
     one_lives : sum_by (λ (u : View O C R). living u.stage) s.views ≡ 1
     one_lives = let out = (root_facts alone.0).out in let none : v.out ≡ 0 = alone.1 in omega (arith, out)
@@ -129,3 +121,16 @@ module _ {O C R : Type 0} (object : Ghosts O C R) (first : O) (s : State (Option
     pub alone_home : working v.stage ≡ 0 → AtHome object first s.homes r.log
     alone_home idle = ⊎_elim (λ (h : AtHome object first s.homes r.log). h)
         (λ (a : AtWork s.views). let same = alone_place a.j a.v a.at (working_lives a.v.stage a.works) in let works : working v.stage ≡ 1 = ap (λ (z : View O C R). working z.stage) (sym same) ∙ a.works in absurd (omega arith)) r.home
+
+  pub sound : v.kept ≡ [] → IsSoundView object first v
+  sound done table = record {
+    legal = legal_before object first v.seen r.log place.has_seen r.legal;
+    own = ap (λ (k : ℕ). entries_of k v.seen) place.number_is ∙ place.own_seen;
+    met = met_shown done;
+    made = λ is. prefix_all (λ (entry : Entry C R). entry.seat < v.made) v.seen r.log place.has_seen (subst (λ (n : ℕ). All (λ (entry : Entry C R). entry.seat < n) r.log) (sym (root_facts is).made) r.made);
+    parts = λ is. (root_facts is).parts;
+    plain = λ other. place.plain (cases_apart other);
+    count = if_some (λ (n : ℕ). 2 ^ 62 ≤ n) v.count (λ n e. (place.count n e).0);
+    short = omega (arith, prefix_length v.seen r.log place.has_seen, r.long);
+    full = λ alone shows. let n = some_count v.count shows in omega (arith, place.count n.0 n.1, ap length (alone_seen alone done), r.long, alone_served alone (ap holding (place.rests shows)));
+  }

@@ -89,6 +89,7 @@ module _ {O C R : Type 0} (object : Ghosts O C R) (first : O) (id : ℕ) (m : Me
       own = more_own id r.log e knows.5 ∙ ap (λ (l : List (Entry C R)). l ++ e ∷ []) here.own;
       own_seen = more_own id m.0.seen e knows.5 ∙ ap (λ (l : List (Entry C R)). l ++ e ∷ []) here.own_seen;
       count = here.count;
+      rests = λ _. refl;
       knows = tt;
     }
 
@@ -136,6 +137,7 @@ module _ {O C R : Type 0} (object : Ghosts O C R) (first : O) (id : ℕ) (m : Me
       own = past.own;
       own_seen = past.own_seen;
       count = λ k e. let same : q ≡ k = cc in (omega arith, omega (arith, turn.2));
+      rests = λ _. refl;
       knows = tt;
     }
 

@@ -7,6 +7,7 @@ mod Leaves
 pub mod Lists
 mod Meets
 mod Moved
+pub mod Passes
 mod Ran
 mod Rested
 mod Splits

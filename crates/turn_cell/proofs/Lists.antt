@@ -1,5 +1,5 @@
 -- Sums of a number for each element, and lists that begin alike.
-use Rattle.std.proofs.Common.{◌≡◌, ℕ, zero, suc, ◌+◌, ◌<◌, ◌≤◌, List, [], ◌∷◌, ◌++◌, length, set, All, sum_by, refl, sym, ap, ◌∙◌, subst, arith, append_assoc, length-append}
+use Rattle.std.proofs.Common.{◌≡◌, ◌⊎◌, ℕ, zero, suc, ◌+◌, ◌<◌, ◌≤◌, List, [], ◌∷◌, ◌++◌, length, set, All, sum_by, refl, sym, ap, ◌∙◌, subst, inl, inr, ⊎_elim, arith, append_assoc, length-append}
 use Rattle.std.proofs.lemmas.List.Sums.{sum_by-cons}
 use Rattle.std.proofs.lemmas.List.Elements.{All-nil, All-cons, All-head, All-tail}
 use mathlib.Core.Option.{some, some-injective, some-ne-none}
@@ -11,6 +11,17 @@ module _ {A : Type 0} where
   in_range [] i a e = absurd (some-ne-none a (sym e))
   in_range (x ∷ xs) zero a e = omega arith
   in_range (x ∷ xs) (suc i) a e = omega (arith, in_range xs i a e)
+
+  pub there : (l : List A) (k : ℕ) → k < length l → (a : A) × (get_elem? l k ≡ some a)
+  there [] k h = absurd (omega arith)
+  there (x ∷ xs) zero h = (x, refl)
+  there (x ∷ xs) (suc k) h = there xs k (omega arith)
+
+  pub at_end : (l : List A) (a b : A) (j : ℕ) → get_elem? (l ++ a ∷ []) j ≡ some b → (get_elem? l j ≡ some b) ⊎ ((j ≡ length l) × (a ≡ b))
+  at_end [] a b zero e = inr (refl, some-injective a b e)
+  at_end [] a b (suc j) e = absurd (some-ne-none b (sym e))
+  at_end (x ∷ xs) a b zero e = inl e
+  at_end (x ∷ xs) a b (suc j) e = ⊎_elim inl (λ t. inr (ap suc t.0, t.1)) (at_end xs a b j e)
 
   pub one_place : (l : List A) (i : ℕ) (a b : A) → get_elem? l i ≡ some a → get_elem? l i ≡ some b → a ≡ b
   one_place l i a b p q = some-injective a b (sym p ∙ q)

@@ -17,7 +17,7 @@ use Rattle.turn_cell.specs.Play.{Met, longer, met_view, met}
 use Rattle.turn_cell.specs.Rule.{holding, working, living, Knows, Sits, Rule}
 use Rattle.turn_cell.proofs.Lists.{in_range, prefix_order}
 use Rattle.turn_cell.proofs.Histories.{between}
-use Rattle.turn_cell.proofs.Known.{place, sound, alone_seen, alone_served}
+use Rattle.turn_cell.proofs.Known.{some_count, place, sound, alone_seen, alone_served}
 use Rattle.turn_cell.proofs.Steps.{home_stays, glance_sum, quiet, from_first, Next, loaded1}
 
 -- the longer of two lists that begin one
@@ -42,10 +42,6 @@ best {C} {R} a b l h k = ⊎_elim
       which = inl e;
     })
     (cases_lt (length a) (length b))
-
-some_count : (o : Option ℕ) → IsSome o → (n : ℕ) × (o ≡ Some n)
-some_count (Some n) h = (n, refl)
-some_count None h = absurd (cc)
 
 module _ {O C R : Type 0} (object : Ghosts O C R) (first : O) where
   module _ (slots id : ℕ) (m : Me (Option O) (View O C R)) (idle : m.0.stage ≡ Idle) (s : State (Option O) (View O C R)) (r : Rule object first s) (at : get_elem? s.views id ≡ some m.0) where
@@ -72,6 +68,7 @@ module _ {O C R : Type 0} (object : Ghosts O C R) (first : O) where
       own = here.own;
       own_seen = between id m.0.seen Late.seen r.log m.0.mine chosen.left_of chosen.within here.own_seen here.own;
       count = here.count;
+      rests = λ _. idle;
       knows = subst (λ (g : Stage C R). Knows object first r.log r.owner r.ticket r.serving id Late.seen g) (sym idle) tt;
     }
 

@@ -79,6 +79,7 @@ module _ {O C R : Type 0} (object : Ghosts O C R) (first : O) where
       own = m.others j other ∙ st.own;
       own_seen = st.own_seen;
       count = λ n e. let c = st.count n e in (c.0, omega (arith, c.1, m.later));
+      rests = st.rests;
       knows = other_knows j u other u.stage st.knows;
     }
 

@@ -1,5 +1,5 @@
 -- A seat between two calls: after the start, a split and a meeting, and when its cell is closed.
-use Rattle.std.proofs.Common.{◌≡◌, ℕ, ◌+◌, ◌<◌, true, List, [], ◌∷◌, length, Option, Some, IsSome, refl, sym, ap, ◌∙◌, subst, inl, inr, ⊎_elim, arith, length-append}
+use Rattle.std.proofs.Common.{◌≡◌, ℕ, ◌+◌, ◌<◌, true, false, List, [], ◌∷◌, length, Option, Some, IsSome, refl, sym, ap, ◌∙◌, subst, inl, inr, ⊎_elim, arith, length-append}
 use Rattle.std.proofs.lemmas.List.Elements.{All-nil, All-weaker}
 use mathlib.Core.Option.{some, some-injective}
 use mathlib.Core.List.{IsPrefix}
@@ -14,7 +14,7 @@ use Rattle.turn_cell.specs.History.{entries_of}
 use Rattle.turn_cell.specs.Sitting.{IsSound, IsAlone, Meets}
 use Rattle.turn_cell.specs.Play.{shown, sitting, IsSoundView, Rests, Met, opening_view, parent_view, child_view, joined_view, met_view}
 use Rattle.turn_cell.specs.Rule.{Rule}
-use Rattle.turn_cell.proofs.Histories.{absent}
+use Rattle.turn_cell.proofs.Passes.{parent_sound, child_sound}
 use Rattle.turn_cell.proofs.Ends.{opened_sound, closes}
 
 module _ {O C R : Type 0} (object : Ghosts O C R) (first : O) where
@@ -26,35 +26,17 @@ module _ {O C R : Type 0} (object : Ghosts O C R) (first : O) where
         subst (λ (z : O × View O C R). IsSoundView object z.0 z.1) (λ i. ((sym same ∙ one) i, (ap (λ (x : O). opening_view x) (sym same) ∙ sym (ap (λ (m : Me (Option O) (View O C R)). m.0) e)) i)) (opened_sound object first stands);
   }
 
-  parent_sound : (v : View O C R) → v.is_root ≡ true → IsSoundView object first v → IsSoundView object first (parent_view v)
-  parent_sound v is ok table = let s = ok table in record {
-    legal = s.legal;
-    own = s.own;
-    met = All-weaker (λ (pair : ℕ × List (Entry C R)). (pair.0 < v.made) × (entries_of pair.0 v.seen ≡ pair.1)) (λ (pair : ℕ × List (Entry C R)). (pair.0 < v.made + 1) × (entries_of pair.0 v.seen ≡ pair.1)) (λ pair h. (omega (arith, h.0), h.1)) v.met s.met;
-    made = λ _. All-weaker (λ (entry : Entry C R). entry.seat < v.made) (λ (entry : Entry C R). entry.seat < v.made + 1) (λ entry h. omega (arith, h)) v.seen (s.made is);
-    parts = λ _. omega (arith, s.parts is);
-    plain = λ e. absurd (cc);
-    count = s.count;
-    short = s.short;
-  }
+  parent_view_sound : (v : View O C R) → v.is_root ≡ true → IsSoundView object first v → IsSoundView object first (parent_view v)
+  parent_view_sound v is ok table = parent_sound object first (shown table v) is (ok table)
 
-  child_sound : (v : View O C R) → v.is_root ≡ true → IsSoundView object first v → IsSoundView object first (child_view v)
-  child_sound v is ok table = let s = ok table in record {
-    legal = s.legal;
-    own = absent v.made v.made v.seen (omega arith) (s.made is);
-    met = All-nil (λ (pair : ℕ × List (Entry C R)). (pair.0 < 0) × (entries_of pair.0 v.seen ≡ pair.1));
-    made = λ e. absurd (cc);
-    parts = λ e. absurd (cc);
-    plain = λ _. (refl, refl, refl);
-    count = tt;
-    short = s.short;
-  }
+  child_view_sound : (v : View O C R) → v.is_root ≡ true → IsSoundView object first v → IsSoundView object first (child_view v)
+  child_view_sound v is ok table = child_sound object first (shown table v) is (ok table)
 
   -- as the clauses of a split say it
   pub split_sound : (t u w : Seat (Option O) (View O C R)) (l : List (ℕ × Option O)) → t.me.0.is_root ≡ true → IsSoundView object first t.me.0 → u.me ≡ (parent_view t.me.0, l) → w.me ≡ (child_view t.me.0, []) → IsSound object first (sitting u) × IsSound object first (sitting w)
   split_sound t u w l is ok e f = (
-    subst (λ (z : View O C R). IsSoundView object first z) (sym (ap (λ (m : Me (Option O) (View O C R)). m.0) e)) (parent_sound t.me.0 is ok) u.table_id,
-    subst (λ (z : View O C R). IsSoundView object first z) (sym (ap (λ (m : Me (Option O) (View O C R)). m.0) f)) (child_sound t.me.0 is ok) w.table_id,
+    subst (λ (z : View O C R). IsSoundView object first z) (sym (ap (λ (m : Me (Option O) (View O C R)). m.0) e)) (parent_view_sound t.me.0 is ok) u.table_id,
+    subst (λ (z : View O C R). IsSoundView object first z) (sym (ap (λ (m : Me (Option O) (View O C R)). m.0) f)) (child_view_sound t.me.0 is ok) w.table_id,
   )
 
 module _ {O C R : Type 0} (object : Ghosts O C R) (t u : Seat (Option O) (View O C R)) (made : ℕ) (rests : Rests object t made) (is : t.me.0.is_root ≡ true) where
@@ -62,14 +44,14 @@ module _ {O C R : Type 0} (object : Ghosts O C R) (t u : Seat (Option O) (View O
   parent_rests e = record {
     free = record { idle = ap (λ (m : Me (Option O) (View O C R)). m.0.stage) e ∙ rests.free.idle; bare = ap (λ (m : Me (Option O) (View O C R)). m.1) e ∙ rests.free.bare; done = ap (λ (m : Me (Option O) (View O C R)). m.0.kept) e ∙ rests.free.done };
     made_is = ap (λ (n : ℕ). n + 1) rests.made_is ∙ sym (ap (λ (m : Me (Option O) (View O C R)). m.0.made) e);
-    sound = λ f named. subst (λ (z : View O C R). IsSoundView object f z) (sym (ap (λ (m : Me (Option O) (View O C R)). m.0) e)) (parent_sound object f t.me.0 is (rests.sound f (sym (ap (λ (m : Me (Option O) (View O C R)). m.0.first) e) ∙ named)));
+    sound = λ f named. subst (λ (z : View O C R). IsSoundView object f z) (sym (ap (λ (m : Me (Option O) (View O C R)). m.0) e)) (parent_view_sound object f t.me.0 is (rests.sound f (sym (ap (λ (m : Me (Option O) (View O C R)). m.0.first) e) ∙ named)));
   }
 
   pub child_rests : u.me ≡ (child_view t.me.0, []) → Rests object u 0
   child_rests e = record {
     free = record { idle = ap (λ (m : Me (Option O) (View O C R)). m.0.stage) e; bare = ap (λ (m : Me (Option O) (View O C R)). m.1) e; done = ap (λ (m : Me (Option O) (View O C R)). m.0.kept) e };
     made_is = sym (ap (λ (m : Me (Option O) (View O C R)). m.0.made) e);
-    sound = λ f named. subst (λ (z : View O C R). IsSoundView object f z) (sym (ap (λ (m : Me (Option O) (View O C R)). m.0) e)) (child_sound object f t.me.0 is (rests.sound f (sym (ap (λ (m : Me (Option O) (View O C R)). m.0.first) e) ∙ named)));
+    sound = λ f named. subst (λ (z : View O C R). IsSoundView object f z) (sym (ap (λ (m : Me (Option O) (View O C R)). m.0) e)) (child_view_sound object f t.me.0 is (rests.sound f (sym (ap (λ (m : Me (Option O) (View O C R)). m.0.first) e) ∙ named)));
   }
 
 -- the root t joins the seat o, which makes it j, and then meets it, which makes it u

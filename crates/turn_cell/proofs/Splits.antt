@@ -12,16 +12,10 @@ use Rattle.turn_cell.specs.declared.view.Stage.TheVariants.{Idle}
 use Rattle.turn_cell.specs.declared.view.View.{View}
 use Rattle.turn_cell.specs.Play.{parent_view, child_view}
 use Rattle.turn_cell.specs.Rule.{glancing, holding, working, living, Sits, IsSpentAt, IsMet, Rooted, Holder, AtWork, Rule}
-use Rattle.turn_cell.proofs.Lists.{in_range, sum_set}
+use Rattle.turn_cell.proofs.Lists.{in_range, sum_set, at_end}
 use Rattle.turn_cell.proofs.Histories.{none_before, absent}
 use Rattle.turn_cell.proofs.Known.{place, root_place, root_facts}
 use Rattle.turn_cell.proofs.Steps.{holder_stays, work_stays}
-
-at_end : {A : Type 0} (l : List A) (a b : A) (j : ℕ) → get_elem? (l ++ a ∷ []) j ≡ some b → (get_elem? l j ≡ some b) ⊎ ((j ≡ length l) × (a ≡ b))
-at_end [] a b zero e = inr (refl, some-injective a b e)
-at_end [] a b (suc j) e = absurd (some-ne-none b (sym e))
-at_end (x ∷ xs) a b zero e = inl e
-at_end (x ∷ xs) a b (suc j) e = ⊎_elim inl (λ t. inr (ap suc t.0, t.1)) (at_end xs a b j e)
 
 module _ {O C R : Type 0} (object : Ghosts O C R) (first : O) where
   module _ (id : ℕ) (v : View O C R) (idle : v.stage ≡ Idle) (is : v.is_root ≡ true) (room : v.made < 65536) (s : State (Option O) (View O C R)) (r : Rule object first s) (at : get_elem? s.views id ≡ some v) where
@@ -63,6 +57,7 @@ module _ {O C R : Type 0} (object : Ghosts O C R) (first : O) where
       own = here.own;
       own_seen = here.own_seen;
       count = here.count;
+      rests = here.rests;
       knows = here.knows;
     }
 
@@ -77,6 +72,7 @@ module _ {O C R : Type 0} (object : Ghosts O C R) (first : O) where
       own = nothing;
       own_seen = none_before j v.seen r.log here.has_seen nothing;
       count = λ n z. absurd (cc);
+      rests = λ _. refl;
       knows = tt;
     }
 

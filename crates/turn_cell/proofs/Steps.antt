@@ -1,5 +1,5 @@
 -- The steps of a seat that leave the history as it is: a glance, a ticket, a look that misses or hits, a decision.
-use Rattle.std.proofs.Common.{◌≡◌, ◌≢◌, ◌⊎◌, ℕ, ◌+◌, ◌^◌, ◌<◌, ◌≤◌, List, [], ◌∷◌, length, set, slice_index, sum_by, Option, Some, refl, sym, ap, ◌∙◌, subst, inl, inr, ⊎_elim, arith, length-set}
+use Rattle.std.proofs.Common.{◌≡◌, ◌≢◌, ◌⊎◌, ℕ, ◌+◌, ◌^◌, ◌<◌, ◌≤◌, List, [], ◌∷◌, length, set, slice_index, sum_by, Option, Some, IsSome, refl, sym, ap, ◌∙◌, subst, inl, inr, ⊎_elim, arith, length-set}
 use Rattle.std.proofs.lemmas.Bool.{cases_lt}
 use mathlib.Core.Logic.{dite}
 use mathlib.Core.Option.{none, some}
@@ -19,7 +19,7 @@ use Rattle.turn_cell.specs.Play.{IsAloneView, IsSoundView, glanced}
 use Rattle.turn_cell.specs.Rule.{glancing, holding, working, living, Knows, Sits, Holder, AtHome, AtWork, Rule}
 use Rattle.turn_cell.proofs.Lists.{in_range, one_place, sum_set, sum_le_length}
 use Rattle.turn_cell.proofs.Moved.{moved}
-use Rattle.turn_cell.proofs.Known.{glancing_small, place, sound, alone_seen, alone_served}
+use Rattle.turn_cell.proofs.Known.{glancing_small, some_count, place, sound, alone_seen, alone_served}
 
 module _ {O C R : Type 0} (s : State (Option O) (View O C R)) (me : ℕ) (v w : View O C R) (at : get_elem? s.views me ≡ some v) where
   -- who has seen all stays, unless the seat that steps has it and loses it
@@ -88,9 +88,9 @@ module _ {O C R : Type 0} (object : Ghosts O C R) (first : O) where
   }
 
   -- the seat's stage alone changes
-  pub restaged : (log : List (Entry C R)) (owner : ℕ → ℕ) (ticket serving j : ℕ) (v : View O C R) (g : Stage C R) → Sits object first log owner ticket serving j v → Knows object first log owner ticket serving j v.seen g
+  pub restaged : (log : List (Entry C R)) (owner : ℕ → ℕ) (ticket serving j : ℕ) (v : View O C R) (g : Stage C R) → Sits object first log owner ticket serving j v → (IsSome v.count → g ≡ Idle) → Knows object first log owner ticket serving j v.seen g
       → Sits object first log owner ticket serving j (record v { stage = g })
-  restaged log owner ticket serving j v g st knows = record {
+  restaged log owner ticket serving j v g st rests knows = record {
     first_is = st.first_is;
     number_is = st.number_is;
     root_is = st.root_is;
@@ -100,13 +100,14 @@ module _ {O C R : Type 0} (object : Ghosts O C R) (first : O) where
     own = st.own;
     own_seen = st.own_seen;
     count = st.count;
+    rests = rests;
     knows = knows;
   }
 
   -- the seat's count alone changes
-  pub counted : (log : List (Entry C R)) (owner : ℕ → ℕ) (ticket serving j : ℕ) (v : View O C R) (n : ℕ) → Sits object first log owner ticket serving j v → 2 ^ 62 ≤ n → n ≤ ticket
+  pub counted : (log : List (Entry C R)) (owner : ℕ → ℕ) (ticket serving j : ℕ) (v : View O C R) (n : ℕ) → Sits object first log owner ticket serving j v → v.stage ≡ Idle → 2 ^ 62 ≤ n → n ≤ ticket
       → Sits object first log owner ticket serving j (record v { count = Some n })
-  counted log owner ticket serving j v n st late known = record {
+  counted log owner ticket serving j v n st idle late known = record {
     first_is = st.first_is;
     number_is = st.number_is;
     root_is = st.root_is;
@@ -116,6 +117,7 @@ module _ {O C R : Type 0} (object : Ghosts O C R) (first : O) where
     own = st.own;
     own_seen = st.own_seen;
     count = λ k e. let same : n ≡ k = cc in (omega arith, omega arith);
+    rests = λ _. idle;
     knows = st.knows;
   }
 
@@ -152,20 +154,20 @@ module _ {O C R : Type 0} (object : Ghosts O C R) (first : O) where
 
     module _ (idle : m.0.stage ≡ Idle) (done : m.0.kept ≡ []) where
       glance_left : slice_index s.words 0 < 2 ^ 62 → Next s id m 0 (λ n. n) (glanced object m)
-      glance_left few = let w : View O C R = record m.0 { stage = Glanced } in let found = tickets_found in (
+      glance_left few = let w : View O C R = record m.0 { stage = Glanced } in let found = tickets_found in let here = place object first s r id m.0 at (ap living idle) in (
         w,
         keeps,
         tt,
         quiet s r id m.0 w (set s.words 0 (slice_index s.words 0)) s.homes at (ap living idle) refl (refl, refl, refl) loaded0
             (omega (arith, found, few, sum_le_length (λ (u : View O C R). glancing u.stage) (λ u. glancing_small u.stage) (set s.views id w), length-set s.views id w, r.few))
-            (sym (ap holding idle)) (restaged r.log r.owner r.ticket r.serving id m.0 Glanced (place object first s r id m.0 at (ap living idle)) tt) (λ k x other all h. h) (λ h. h) (home_stays s r id m.0 w at (ap working idle)),
+            (sym (ap holding idle)) (restaged r.log r.owner r.ticket r.serving id m.0 Glanced here (λ shows. let n = some_count m.0.count shows in absurd (omega (arith, found, few, here.count n.0 n.1))) tt) (λ k x other all h. h) (λ h. h) (home_stays s r id m.0 w at (ap working idle)),
         ((λ _. refl), (λ late. absurd (omega arith))),
       )
 
       glance_past : 2 ^ 62 ≤ slice_index s.words 0 → Next s id m 0 (λ n. n) (glanced object m)
       glance_past late = let n : ℕ = slice_index s.words 0 in let w : View O C R = record m.0 { count = Some n } in let found = tickets_found in let lives : living m.0.stage ≡ 1 = ap living idle in
           let rule : Rule object first (stepped s 0 n id m.1 w keeps) = quiet s r id m.0 w (set s.words 0 n) s.homes at lives lives (refl, refl, refl) loaded0
-          (omega (arith, r.room, glance_sum s id m.0 w at)) refl (counted r.log r.owner r.ticket r.serving id m.0 n (place object first s r id m.0 at lives) late (omega (arith, found)))
+          (omega (arith, r.room, glance_sum s id m.0 w at)) refl (counted r.log r.owner r.ticket r.serving id m.0 n (place object first s r id m.0 at lives) idle late (omega (arith, found)))
           (λ k x other all h. h) (λ h. h) (home_stays s r id m.0 w at (ap working idle)) in (
             w,
             keeps,

@@ -1,5 +1,5 @@
 -- What a whole call tells, put together from what its steps tell.
-use Rattle.std.proofs.Common.{◌≡◌, ◌≢◌, ℕ, ◌^◌, ◌≤◌, min, List, [], ◌∷◌, ◌++◌, length, All, Option, Some, refl, sym, ap, ◌∙◌, subst, append-nil}
+use Rattle.std.proofs.Common.{◌≡◌, ◌≢◌, ℕ, ◌^◌, ◌≤◌, min, List, [], ◌∷◌, ◌++◌, length, All, Option, Some, refl, sym, ap, ◌∙◌, subst, arith, append-nil}
 use Rattle.std.proofs.lemmas.List.Elements.{All-nil}
 use Rattle.atomic_table.specs.Table.{Me}
 use Rattle.atomic_table.specs.declared.shared.Seat.{Seat}
@@ -15,12 +15,13 @@ module _ {O C R : Type 0} (object : Ghosts O C R) (first : O) (a b : Seat (Optio
   pub seen_as : (w : View O C R) (l : List (ℕ × Option O)) → b.me ≡ (w, l) → sitting b ≡ shown a.table_id w
   seen_as w l e i = shown (same i) (e i).0
 
-  pub glanced_out : (n : ℕ) → 2 ^ 62 ≤ n → b.me ≡ (record a.me.0 { count = Some n }, a.me.1) → IsSoundView object first b.me.0 → Exhausts object first (sitting a) n (sitting b)
-  glanced_out n late e ok = record {
+  pub glanced_out : (n : ℕ) → 2 ^ 62 ≤ n → b.me ≡ (record a.me.0 { count = Some n }, a.me.1) → IsSoundView object first b.me.0 → (IsAlone (sitting a) → length a.me.0.seen ≡ 2 ^ 62) → Exhausts object first (sitting a) n (sitting b)
+  glanced_out n late e ok full = record {
     others = [];
     foreign = All-nil (λ (entry : Entry C R). entry.seat ≢ a.me.0.number);
     alone = λ _. refl;
     late = late;
+    full = full;
     whole = seen_as (record a.me.0 { count = Some n }) a.me.1 e ∙ ap (λ (l : List (Entry C R)). shown a.table_id (record a.me.0 { seen = l; count = Some n })) (sym (append-nil a.me.0.seen));
     sound = ok b.table_id;
   }
@@ -65,6 +66,7 @@ module _ {O C R : Type 0} (object : Ghosts O C R) (first : O) (a b : Seat (Optio
       foreign = others_foreign;
       alone = others_alone;
       late = late;
+      full = λ alone. omega (arith, late, alone_length alone);
       whole = seen_as (record m2.0 { count = Some n; stage = Idle }) [] e ∙ ap (λ (m : Me (Option O) (View O C R)). shown a.table_id (record m.0 { count = Some n; stage = Idle })) served;
       sound = ok b.table_id;
     }

@@ -12,7 +12,7 @@ use Rattle.atomic_table.specs.Table.{State, Me, keeps, takes, Allows, stepped}
 use Rattle.atomic_table.proofs.Lists.{set_here}
 use Rattle.turn_cell.specs.declared.entry.Entry.{Entry}
 use Rattle.turn_cell.specs.declared.object.Object.{Ghosts}
-use Rattle.turn_cell.specs.declared.view.Stage.TheVariants.{Glanced, Waiting, InTurn, Decided}
+use Rattle.turn_cell.specs.declared.view.Stage.TheVariants.{Idle, Glanced, Waiting, InTurn, Decided}
 use Rattle.turn_cell.specs.declared.view.View.{View}
 use Rattle.turn_cell.specs.History.{entries_of, IsLegal}
 use Rattle.turn_cell.specs.Play.{Hit, drew, looked, decided}
@@ -72,6 +72,7 @@ module _ {O C R : Type 0} (object : Ghosts O C R) (first : O) where
             own = st.own;
             own_seen = st.own_seen;
             count = λ k e. let c = st.count k e in (c.0, omega (arith, c.1));
+            rests = λ shows. let both : Idle ≡ Glanced = sym (st.rests shows) ∙ sees in absurd (cc);
             knows = (owned_here r.owner r.ticket id n found, omega (arith, r.held, found), omega (arith, found));
           };
           still = λ k x other all h. h;
@@ -136,6 +137,7 @@ module _ {O C R : Type 0} (object : Ghosts O C R) (first : O) where
           own = here.own;
           own_seen = ap (entries_of id) all ∙ here.own;
           count = here.count;
+          rests = λ shows. let both : Idle ≡ Waiting q = sym (here.rests shows) ∙ waits in absurd (cc);
           knows = (mine.0, sym served, mine.2, all);
         }
 
@@ -187,7 +189,7 @@ module _ {O C R : Type 0} (object : Ghosts O C R) (first : O) where
             quiet object first s r id m.0 w (set s.words 1 (bit_or (slice_index s.words 1) 0)) s.homes at lives refl (refl, refl, refl)
                 (ap (λ (ws : List ℕ). set ws 1 (bit_or (slice_index ws 1) 0)) r.words ∙ ap (λ (n : ℕ). r.ticket ∷ n ∷ []) (or_zero_r r.serving))
                 (omega (arith, r.room, was, glance_sum s id m.0 w at)) (sym (ap holding serves))
-                (restaged object first r.log r.owner r.ticket r.serving id m.0 (Decided q e) here (knows.0, knows.1, knows.2, knows.3, few, own ∙ here.number_is, subst (λ (l : List (Entry C R)). IsLegal object first (l ++ e ∷ [])) knows.3 legal))
+                (restaged object first r.log r.owner r.ticket r.serving id m.0 (Decided q e) here (λ shows. let both : Idle ≡ InTurn q = sym (here.rests shows) ∙ serves in absurd (cc)) (knows.0, knows.1, knows.2, knows.3, few, own ∙ here.number_is, subst (λ (l : List (Entry C R)). IsLegal object first (l ++ e ∷ [])) knows.3 legal))
                 (λ k x apart all h. h) (λ h. h) (inr (work_here s id m.0 w at refl)),
             λ n f is picks'. let same : q ≡ n = (let both : InTurn q ≡ InTurn n = sym serves ∙ is in cc) in let same' : e ≡ f = (let both : Some e ≡ Some f = sym picks ∙ picks' in cc) in
                 ap (λ (z : ℕ × Entry C R). (record m.0 { stage = Decided z.0 z.1 }, m.1)) (λ i. (same i, same' i)),

@@ -5,7 +5,7 @@ use mathlib.Core.List.{IsPrefix}
 use lib.ListN.{get_elem?}
 use Rattle.turn_cell.specs.declared.entry.Entry.{Entry}
 use Rattle.turn_cell.specs.declared.object.Object.{Ghosts}
-use Rattle.turn_cell.specs.Sitting.{Begun, Sitting, IsSeatOf, IsAlone, IsSound}
+use Rattle.turn_cell.specs.Sitting.{Begun, Sitting, IsAlone, IsSound}
 
 module _ {O C R : Type 0} where
   -- what calls leave as it is: all but what the seat has seen and done, and its count
@@ -25,8 +25,3 @@ pub record Grew {O C R : Type 0} (object : Ghosts O C R) (first : O) (seat : Sit
 pub record EachGrew {O C R : Type 0} (object : Ghosts O C R) (cells : List (Begun O)) (seats : List (Sitting O C R)) (made : ℕ → List (Entry C R)) (after : List (Sitting O C R)) : Type 0 where
   pub wide : length after ≡ length seats
   pub each : (k : ℕ) (cell : Begun O) (seat seat' : Sitting O C R) → get_elem? cells k ≡ some cell → get_elem? seats k ≡ some seat → get_elem? after k ≡ some seat' → Grew object cell.first seat (made k) seat'
-
--- at each place, the seat is one of the cell there
-pub record EachSeated {O C R : Type 0} (cells : List (Begun O)) (seats : List (Sitting O C R)) : Type 0 where
-  pub wide : length seats ≡ length cells
-  pub each : (k : ℕ) (cell : Begun O) (seat : Sitting O C R) → get_elem? cells k ≡ some cell → get_elem? seats k ≡ some seat → IsSeatOf cell seat

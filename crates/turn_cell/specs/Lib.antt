@@ -1,5 +1,6 @@
 pub mod Growth
 pub mod History
+pub mod Passes
 pub mod Play
 pub mod Rule
 pub mod Sitting

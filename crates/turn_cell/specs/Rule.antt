@@ -1,5 +1,5 @@
 -- The rule of a cell's table. Word 0 is the next ticket, word 1 the ticket that is served, and slot 0 has the object.
-use Rattle.std.specs.Prelude.{◌≡◌, ◌≢◌, ◌⊎◌, ℕ, ◌+◌, ◌^◌, ◌<◌, ◌≤◌, min, ◌==◌, List, [], ◌∷◌, ◌++◌, length, sum_by, All, Option, Some}
+use Rattle.std.specs.Prelude.{◌≡◌, ◌≢◌, ◌⊎◌, ℕ, ◌+◌, ◌^◌, ◌<◌, ◌≤◌, min, ◌==◌, List, [], ◌∷◌, ◌++◌, length, sum_by, All, Option, Some, IsSome}
 use mathlib.Core.Option.{some}
 use mathlib.Core.List.{IsPrefix}
 use lib.ListN.{get_elem?}
@@ -58,7 +58,7 @@ module _ {O C R : Type 0} (object : Ghosts O C R) (first : O) (log : List (Entry
   Knows (Decided n entry) = (owner n ≡ j) × (n ≡ serving) × (n < ticket) × (seen ≡ log) × (n < 2 ^ 62) × (entry.seat ≡ j) × IsLegal object first (log ++ entry ∷ [])
   Knows Spent = Unit {0}
 
--- a seat that wasn't met
+-- a seat that wasn't met. One that shows a count is between two calls, since it draws no ticket any more
 pub record Sits {O C R : Type 0} (object : Ghosts O C R) (first : O) (log : List (Entry C R)) (owner : ℕ → ℕ) (ticket serving j : ℕ) (v : View O C R) : Type 0 where
   pub first_is : v.first ≡ Some first
   pub number_is : v.number ≡ j
@@ -69,6 +69,7 @@ pub record Sits {O C R : Type 0} (object : Ghosts O C R) (first : O) (log : List
   pub own : entries_of j log ≡ v.mine
   pub own_seen : entries_of j v.seen ≡ v.mine
   pub count : (n : ℕ) → v.count ≡ Some n → (2 ^ 62 ≤ n) × (n ≤ ticket)
+  pub rests : IsSome v.count → v.stage ≡ Idle
   pub knows : Knows object first log owner ticket serving j v.seen v.stage
 
 module _ {O C R : Type 0} where

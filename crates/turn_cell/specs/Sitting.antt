@@ -53,7 +53,8 @@ module _ {O C R : Type 0} where
 
 -- What holds of every seat. What it has seen is legal and has at most 2^62 entries, of which its own are `mine`. A seat that the root met has
 -- a number below `made`, and its entries are the list beside that number. Of the root, each entry is by a seat that was made, and each seat
--- that was made is the root, is out or was met; other seats have none of these. A count is from 2^62 on
+-- that was made is the root, is out or was met; other seats have none of these. A count is from 2^62 on, and a root that is alone shows one
+-- only where it has seen 2^62 entries
 pub record IsSound {O C R : Type 0} (object : Ghosts O C R) (first : O) (seat : Sitting O C R) : Type 0 where
   pub legal : IsLegal object first seat.seen
   pub own : entries_of seat.number seat.seen ≡ seat.mine
@@ -63,6 +64,7 @@ pub record IsSound {O C R : Type 0} (object : Ghosts O C R) (first : O) (seat : 
   pub plain : seat.is_root ≡ false → (seat.made ≡ 0) × (seat.out ≡ 0) × (seat.met ≡ [])
   pub count : IfSome seat.count (λ n. 2 ^ 62 ≤ n)
   pub short : length seat.seen ≤ 2 ^ 62
+  pub full : IsAlone seat → IsSome seat.count → length seat.seen ≡ 2 ^ 62
 
 module _ {O C R : Type 0} where
   -- the step that a seat makes
@@ -78,12 +80,14 @@ pub record Extends {O C R : Type 0} (object : Ghosts O C R) (first : O) (seat : 
   pub whole : after ≡ record seat { seen = (seat.seen ++ others) ++ entry_by seat cmd reply mark ∷ []; mine = seat.mine ++ entry_by seat cmd reply mark ∷ [] }
   pub sound : IsSound object first after
 
--- A call that found the cell exhausted: the seat may see entries of others, and shows the count
+-- A call that found the cell exhausted: the seat may see entries of others, and shows the count. To a seat that is alone this comes only
+-- where it has seen 2^62 entries
 pub record Exhausts {O C R : Type 0} (object : Ghosts O C R) (first : O) (seat : Sitting O C R) (count : ℕ) (after : Sitting O C R) : Type 0 where
   pub others : List (Entry C R)
   pub foreign : All (λ entry. entry.seat ≢ seat.number) others
   pub alone : IsAlone seat → others ≡ []
   pub late : 2 ^ 62 ≤ count
+  pub full : IsAlone seat → length seat.seen ≡ 2 ^ 62
   pub whole : after ≡ record seat { seen = seat.seen ++ others; count = Some count }
   pub sound : IsSound object first after
 

@@ -67,6 +67,7 @@ impl<O: Object> TurnCell<O> {
         requires { O.used first ≡ 0 }
         ensures first { IfOk result (λ made. made.0.first ≡ first) }
         ensures root { IfOk result (λ made. made.1 ≡ root_of made.0) }
+        ensures sound { IfOk result (λ made. IsSound O.Object first made.1) }
     {
         let key = Snapshot::of(&first);
         let mut slots = Vec::with_capacity(alloc, 1)?;

@@ -1,6 +1,6 @@
 use super::{LIMIT, append, begin, bodies_in, opened};
 use crate::{Journal, JournalErr, laws};
-use side_world::{MemoryDisk, Tear};
+use side_memory::{MemoryDisk, Tear};
 use std::alloc::Global;
 use std::test::Fail;
 

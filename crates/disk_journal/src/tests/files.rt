@@ -1,6 +1,6 @@
 use super::{LIMIT, append, begin, bodies_in, disk, format_empty, opened};
 use crate::{Journal, JournalErr};
-use side_world::MemoryDisk;
+use side_memory::MemoryDisk;
 use std::alloc::Global;
 use std::test::Fail;
 

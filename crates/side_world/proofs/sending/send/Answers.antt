@@ -1,4 +1,4 @@
-use Rattle.std.proofs.Common.{arith}
+use Rattle.std.proofs.Common.{arith, ◌∙◌}
 use Rattle.std.proofs.Math.Seq.{take-add}
 use Rattle.std.proofs.lemmas.List.{length-drop}
 use Rattle.side_world.proofs.Composed.{told_on}
@@ -12,5 +12,5 @@ loop-sent-preserved g c =
     record {
       within = omega (arith, length-drop c.loop-sent.sent c.args.bytes.now, within);
       told = rw take-add (told_on _ _ _ _ _ c.loop-sent.invariant.told wrote);
-      no_fewer = omega (arith, c.loop-sent.invariant.no_fewer, c.in_ok-sent.ensures.no_fewer);
+      no_fault = c.in_ok-sent.ensures.no_fault ∙ c.loop-sent.invariant.no_fault;
     }

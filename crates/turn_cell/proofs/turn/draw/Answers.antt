@@ -16,7 +16,7 @@ fetch_add-requires g c = let told = c.load-count.ensures in (
 
 pub returns-then-count-ge-MOST_ENTRIES-clause-err : goal.returns-then-count-ge-MOST_ENTRIES-clause-err
 returns-then-count-ge-MOST_ENTRIES-clause-err g c = let told = c.load-count.ensures in let late = c.if-count-ge-MOST_ENTRIES.true in let out = told.2.1 late in (
-  glanced_out g.O.Object c.args.table.now.key.value c.args.token.now c.load-count.new.seat told.0 _ late out.0 (out.1 _ c.requires.table.3).0,
+  glanced_out g.O.Object c.args.table.now.key.value c.args.token.now c.load-count.new.seat told.0 _ late out.0 (out.1 _ c.requires.table.3).0 (out.1 _ c.requires.table.3).1,
   record {
     idle = ap (λ m. m.0.stage) out.0 ∙ c.requires.free.idle;
     bare = ap (λ m. m.1) out.0 ∙ c.requires.free.bare;

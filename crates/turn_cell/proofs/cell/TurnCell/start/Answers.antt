@@ -13,3 +13,7 @@ new-requires g c = let first = c.args.first in let items = c.in_default.ensures.
 
 pub invariant_of-result-2 : goal.invariant_of-result-2
 invariant_of-result-2 g c = start_rests g.O.Object c.args.first c.in-Ok.made.1 c.of-key.result.value c.of-key.ensures c.in-Ok.ensures.ok.4 (g.met.O.Object.opens c.args.first c.requires)
+
+pub returns-clause-sound : goal.returns-clause-sound
+returns-clause-sound g c = (start_rests g.O.Object c.args.first c.in-Ok.made.1 c.of-key.result.value c.of-key.ensures c.in-Ok.ensures.ok.4 (g.met.O.Object.opens c.args.first c.requires)).sound
+    c.args.first (ap (λ m. m.0.first) c.in-Ok.ensures.ok.4 ∙ ap (λ o. Some o) c.of-key.ensures) c.in-Ok.made.1.table_id

@@ -1,0 +1,4 @@
+pub mod DiskNotes
+pub mod MemoryDisk
+pub mod MemorySink
+pub mod MemorySource

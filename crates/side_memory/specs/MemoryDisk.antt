@@ -1,0 +1,38 @@
+-- What contracts say of a disk in memory.
+use Rattle.std.specs.Prelude.{◌≡◌, ◌⊎◌, ℕ, List, ◌∷◌, reverse, Contains}
+use Rattle.side_memory.specs.declared.memory_disk.MemoryDisk.{MemoryDisk}
+use Rattle.side_memory.specs.declared.note.Note.{Note}
+use Rattle.side_memory.specs.declared.note.Note.TheVariants.{Lost}
+
+-- the bytes that it was made with
+abbrev pub opening_of : MemoryDisk → List ℕ
+opening_of disk = disk.opening.items
+
+-- its writes and syncs, the latest first
+abbrev pub notes_of : MemoryDisk → List Note
+notes_of disk = reverse disk.notes.items
+
+-- what a read gives
+abbrev pub bytes_of : MemoryDisk → List ℕ
+bytes_of disk = disk.bytes.items
+
+abbrev pub faults_of : MemoryDisk → ℕ
+faults_of disk = disk.schedule.faults
+
+-- one note more
+pub record HasNoted (note : Note) (old new : MemoryDisk) : Type 0 where
+  pub opening : opening_of new ≡ opening_of old
+  pub notes : notes_of new ≡ note ∷ notes_of old
+
+-- no note more
+pub record HasNotedNothing (old new : MemoryDisk) : Type 0 where
+  pub opening : opening_of new ≡ opening_of old
+  pub notes : notes_of new ≡ notes_of old
+
+-- a write that failed is noted as lost, or, where there is no memory for the note, not at all
+abbrev pub HasLost : ℕ → List ℕ → MemoryDisk → MemoryDisk → Type 0
+HasLost at piece old new = HasNoted (Lost at piece) old new ⊎ HasNotedNothing old new
+
+-- the next call is one that is to fail
+abbrev pub FailsNow : MemoryDisk → Type 0
+FailsNow disk = Contains disk.schedule.failing disk.schedule.calls

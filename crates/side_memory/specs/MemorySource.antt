@@ -1,0 +1,11 @@
+-- What contracts see of a source in memory.
+use Rattle.std.specs.Prelude.{ℕ, Bool, List}
+
+pub record SourceState : Type 0 where
+  -- all bytes that reads have given
+  pub taken : List ℕ
+  -- the bytes that are left
+  pub left : List ℕ
+  -- whether a read has answered the end of the input
+  pub ended : Bool
+  pub faults : ℕ

@@ -1,0 +1,85 @@
+ghost use Rattle.std.specs.Prelude.{◌≡◌, ◌<◌, ◌≤◌, ◌↔◌, IsTrue, IsErr, IfOk, OnOk, OnErr, Contains};
+ghost use Rattle.side_world.specs.Faults.{Rose};
+
+use side_base::{Places, Sequence};
+use side_world::Failed;
+
+/// The greatest numbers of bytes that the calls of a device in memory move, in order of the calls that do not fail.
+///
+/// 0 counts as 1. Calls past the end of the list move as many bytes as they can.
+pub type Sizes = Sequence<usize>;
+
+/// Which calls of a device in memory fail, and how many bytes the others move.
+#[derive(Debug, Drop)]
+pub(crate) struct Schedule {
+    pub(crate) sizes: Sizes,
+    pub(crate) failing: Places,
+    pub(crate) calls: u64,
+    pub(crate) faults: u64,
+}
+
+impl Schedule {
+    /// No call was made yet; `failing` are the calls that fail, counted from 0.
+    pub(crate) fn new(sizes: Sizes, failing: Places) -> Self
+        ensures { result.faults ≡ 0 }
+    {
+        Schedule {
+            sizes,
+            failing,
+            calls: 0,
+            faults: 0,
+        }
+    }
+
+    /// Counts a call, and answers how many of the `possible` bytes it moves.
+    pub(crate) fn next(&mut self, possible: usize) -> Result<usize, Failed>
+        requires { 0 < possible }
+        ensures listed { IsErr result ↔ Contains self.old.failing self.old.calls }
+        ensures some { IfOk result (λ n. 0 < n) }
+        ensures within { IfOk result (λ n. n ≤ possible) }
+        ensures ok { OnOk result (self.new.faults ≡ self.old.faults) }
+        ensures failed { OnErr result (Rose self.old.faults self.new.faults) }
+        ensures no_fewer { self.old.faults ≤ self.new.faults }
+    {
+        self.call()?;
+        match self.sizes.take_first() {
+            Some(size) => Ok(size.max(1).min(possible)),
+            None => Ok(possible),
+        }
+    }
+
+    /// Counts a call, which fails where it is listed.
+    pub(crate) fn call(&mut self) -> Result<(), Failed>
+        ensures listed { IsErr result ↔ Contains self.old.failing self.old.calls }
+        ensures ok { OnOk result (self.new.faults ≡ self.old.faults) }
+        ensures failed { OnErr result (Rose self.old.faults self.new.faults) }
+        ensures no_fewer { self.old.faults ≤ self.new.faults }
+    {
+        let call = self.calls;
+        self.calls = call.saturating_add(1);
+        if is_listed(&self.failing, call) {
+            self.faults = self.faults.saturating_add(1);
+            return Err(Failed);
+        }
+        Ok(())
+    }
+
+    /// Counts a fault of the device itself.
+    pub(crate) fn fail(&mut self)
+        ensures failed { Rose self.old.faults self.new.faults }
+        ensures no_fewer { self.old.faults ≤ self.new.faults }
+    {
+        self.faults = self.faults.saturating_add(1);
+    }
+}
+
+fn is_listed(places: &Places, call: u64) -> bool
+    ensures { IsTrue result ↔ Contains places.now call }
+{
+    for i in 0..places.len() {
+        if u64::from(*places.at(i)) == call {
+            return true;
+        }
+    }
+    false
+}
