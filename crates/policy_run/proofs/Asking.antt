@@ -14,7 +14,7 @@ use Rattle.policy_run.specs.Turn.{Answers, IsAdmittedBy, IsAdmission, IsReport}
 
 -- the clock was read once, and told `now`
 abbrev pub ReadsNow : Clocked → ℕ → Clocked → Type 0
-ReadsNow clock now clock' = (clock.last ≤ clock'.last) × (clock'.last ≡ now) × (clock'.paused ≡ clock.paused)
+ReadsNow clock now clock' = (clock.last ≤ clock'.last) × (now ≡ clock'.last) × (clock'.paused ≡ clock.paused)
 
 module _ (E : Type 0) (now : ℕ) where
   is_admission : (step : Step) (reply : BreakerReply) (a : Admission) → Answers step (Admit now) reply → IsAdmittedBy reply a → IsAdmission {E = E} true a (moment now ∷ guarded step ∷ [])

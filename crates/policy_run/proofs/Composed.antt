@@ -4,18 +4,10 @@ use Rattle.std.specs.List.{sum_by}
 use Rattle.std.proofs.lemmas.Grind.{flat_map-append}
 use Rattle.std.proofs.lemmas.List.Sums.{sum_by-append}
 use Rattle.breaker_core.specs.Course.{Step}
-use Rattle.policy_run.specs.Told.{Between, Rises, Drawn}
-use Rattle.rand_core.specs.Stream.{Stream, next_u64}
+use Rattle.side_world.specs.Moments.{Between, Rises}
+use Rattle.side_world.proofs.Composed.{between_on, rises_on}
 use Rattle.policy_run.specs.Event.{Event, own, guarded, word, moment, pause, own_of, step_of, word_of, moment_in, pause_of}
 use Rattle.policy_run.specs.Effects.{Clocked, Effects}
-
-between_on : (a : ℕ) (ms : List ℕ) (b : ℕ) (ns : List ℕ) (c : ℕ) → Between a ms b → Between b ns c → Between a (ms ++ ns) c
-between_on a [] b [] c h k = omega (arith, h, k)
-between_on a [] b (n ∷ ns) c h k = (omega (arith, h, k.0), k.1)
-between_on a (m ∷ ms) b ns c h k = (h.0, between_on m ms b ns c h.1 k)
-
-rises_on : (p m q n r : ℕ) → Rises p m q → Rises q n r → Rises p (m + n) r
-rises_on p m q n r h k = (omega (arith, h.0, k.0), λ below. omega (arith, k.1 below, h.1 (omega (arith, k.0, below))))
 
 module _ {E : Type 0} where
   -- one part after another
@@ -43,7 +35,6 @@ module _ {X : Type 0} (did : List X → Type 0) where
 pub nothing_at_all : {X : Type 0} (xs ys : List X) → xs ≡ [] → ys ≡ [] → xs ++ ys ≡ []
 nothing_at_all xs ys none-first none-then = ap (λ l. l ++ ys) none-first ∙ none-then
 
--- words that were drawn, and then others
-pub drawn_on : (s : Stream) (ws : List ℕ) (s' : Stream) (vs : List ℕ) (s'' : Stream) → Drawn s ws s' → Drawn s' vs s'' → Drawn s (ws ++ vs) s''
-drawn_on s [] s' vs s'' h k = subst (λ z. Drawn z vs s'') h k
-drawn_on s (w ∷ ws) s' vs s'' h k = (h.0, drawn_on (next_u64 s).1 ws s' vs s'' h.1 k)
+-- nothing was done
+pub no_effects : {E : Type 0} (did : List E → Type 0) (held : List Step → Type 0) (clock : Clocked) (drawn : List ℕ → Type 0) → did [] → held [] → drawn [] → Effects [] did held clock clock drawn
+no_effects did held clock drawn none-done none-held none-drawn = record { owned = none-done; guards = none-held; times = omega arith; pauses = (omega arith, λ below. omega arith); words = none-drawn }

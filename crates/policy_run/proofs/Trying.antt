@@ -4,7 +4,8 @@ use Rattle.rand_core.specs.Stream.{Stream, next_u64}
 use Rattle.breaker_core.specs.Course.{Step}
 use Rattle.retry_core.specs.declared.policy.RetryPolicy.{RetryPolicy}
 use Rattle.retry_core.specs.RetryRun.{Run, run_after}
-use Rattle.policy_run.specs.Told.{Drawn}
+use Rattle.side_world.specs.Moments.{Drawn}
+use Rattle.side_world.proofs.Composed.{drawn_on}
 use Rattle.policy_run.specs.declared.operation.Attempt.{Attempt}
 use Rattle.policy_run.specs.declared.operation.Attempt.TheVariants as attempt
 use Rattle.policy_run.specs.declared.outcome.Outcome.{Outcome}
@@ -14,7 +15,7 @@ use Rattle.policy_run.specs.declared.turn.Turned.TheVariants.{Failed, Ended}
 use Rattle.policy_run.specs.Event.{Event}
 use Rattle.policy_run.specs.Effects.{Clocked, Effects}
 use Rattle.policy_run.specs.Attempts.{Tried, TurnsTo, Ends, Decides, Attempted}
-use Rattle.policy_run.proofs.Composed.{effects_on, nothing_before, nothing_after, drawn_on}
+use Rattle.policy_run.proofs.Composed.{effects_on, nothing_before, nothing_after}
 
 -- so far: turns that failed with these words, and what they did
 pub record Trying {E G B : Type 0} (policy : RetryPolicy) (there : Bool) (makes : Attempt G B → List (Event E) → Type 0) (did : List E → Type 0) (held : List Step → Type 0) (clock clock' : Clocked) (drawn : List ℕ → Type 0) (run : Run) : Type 0 where
@@ -31,9 +32,9 @@ module _ {E G B : Type 0} (policy : RetryPolicy) (there : Bool) (makes : Attempt
 
   module _ (did did-then did-all : List E → Type 0) (held held-then held-all : List Step → Type 0) (clock between clock' : Clocked) (stream stream' : Stream) (run : Run)
       (did-on : (xs ys : List E) → did xs → did-then ys → did-all (xs ++ ys)) (held-on : (xs ys : List Step) → held xs → held-then ys → held-all (xs ++ ys))
-      (so-far : Trying policy there makes did held clock between (λ ws. Drawn stream ws stream') run) where
-    with_turn : (turn : List (Event E)) → Effects turn did-then held-then between clock' (λ xs. xs ≡ []) → Effects (so-far.events ++ turn) did-all held-all clock clock' (λ ws. Drawn stream ws stream')
-    with_turn turn e = effects_on so-far.events turn did did-then did-all held held-then held-all clock between clock' (λ ws. Drawn stream ws stream') (λ xs. xs ≡ []) (λ ws. Drawn stream ws stream') did-on held-on (nothing_after (λ ws. Drawn stream ws stream')) so-far.effects e
+      (so-far : Trying policy there makes did held clock between (λ ws. Drawn next_u64 stream ws stream') run) where
+    with_turn : (turn : List (Event E)) → Effects turn did-then held-then between clock' (λ xs. xs ≡ []) → Effects (so-far.events ++ turn) did-all held-all clock clock' (λ ws. Drawn next_u64 stream ws stream')
+    with_turn turn e = effects_on so-far.events turn did did-then did-all held held-then held-all clock between clock' (λ ws. Drawn next_u64 stream ws stream') (λ xs. xs ≡ []) (λ ws. Drawn next_u64 stream ws stream') did-on held-on (nothing_after (λ ws. Drawn next_u64 stream ws stream')) so-far.effects e
 
     ends_so : (outcome : Outcome G B) (turn : List (Event E)) → TurnsTo there makes (Ended outcome) turn → Ends there makes (Some policy) so-far.words outcome turn
     ends_so (Good good) turn h = h
@@ -44,16 +45,16 @@ module _ {E G B : Type 0} (policy : RetryPolicy) (there : Bool) (makes : Attempt
 
     -- the turn that ends the call
     pub ended : (outcome : Outcome G B) → ((turn : List (Event E)) × TurnsTo there makes (Ended outcome) turn × Effects turn did-then held-then between clock' (λ xs. xs ≡ []))
-        → (events : List (Event E)) × Attempted (Some policy) there makes outcome events × Effects events did-all held-all clock clock' (λ ws. Drawn stream ws stream')
+        → (events : List (Event E)) × Attempted (Some policy) there makes outcome events × Effects events did-all held-all clock clock' (λ ws. Drawn next_u64 stream ws stream')
     ended outcome t = (so-far.events ++ t.0, record { words = so-far.words; before = so-far.events; last = t.0; tried = so-far.tried; ends = ends_so outcome t.0 t.1; whole = refl }, with_turn t.0 t.2)
 
     module _ (bad : B) (t : (turn : List (Event E)) × TurnsTo there makes (Failed bad) turn × Effects turn did-then held-then between clock' (λ xs. xs ≡ [])) (clock'' : Clocked) (stream'' : Stream) where
-      decided_so : (after : List (Event E)) → Effects after (λ xs. xs ≡ []) (λ xs. xs ≡ []) clock' clock'' (λ ws. Drawn stream' ws stream'') → Effects ((so-far.events ++ t.0) ++ after) did-all held-all clock clock'' (λ ws. Drawn stream ws stream'')
-      decided_so after e = effects_on (so-far.events ++ t.0) after did-all (λ xs. xs ≡ []) did-all held-all (λ xs. xs ≡ []) held-all clock clock' clock'' (λ ws. Drawn stream ws stream') (λ ws. Drawn stream' ws stream'') (λ ws. Drawn stream ws stream'') (nothing_after did-all) (nothing_after held-all) (λ xs ys. drawn_on stream xs stream' ys stream'') (with_turn t.0 t.2) e
+      decided_so : (after : List (Event E)) → Effects after (λ xs. xs ≡ []) (λ xs. xs ≡ []) clock' clock'' (λ ws. Drawn next_u64 stream' ws stream'') → Effects ((so-far.events ++ t.0) ++ after) did-all held-all clock clock'' (λ ws. Drawn next_u64 stream ws stream'')
+      decided_so after e = effects_on (so-far.events ++ t.0) after did-all (λ xs. xs ≡ []) did-all held-all (λ xs. xs ≡ []) held-all clock clock' clock'' (λ ws. Drawn next_u64 stream ws stream') (λ ws. Drawn next_u64 stream' ws stream'') (λ ws. Drawn next_u64 stream ws stream'') (nothing_after did-all) (nothing_after held-all) (λ xs ys. drawn_on next_u64 stream xs stream' ys stream'') (with_turn t.0 t.2) e
 
       -- a turn that failed, and a word that gave a wait
-      pub one_more : (run' : Run) → ((after : List (Event E)) × Decides policy so-far.words true run' after × Effects after (λ xs. xs ≡ []) (λ xs. xs ≡ []) clock' clock'' (λ ws. Drawn stream' ws stream''))
-          → Trying policy there makes did-all held-all clock clock'' (λ ws. Drawn stream ws stream'') run'
+      pub one_more : (run' : Run) → ((after : List (Event E)) × Decides policy so-far.words true run' after × Effects after (λ xs. xs ≡ []) (λ xs. xs ≡ []) clock' clock'' (λ ws. Drawn next_u64 stream' ws stream''))
+          → Trying policy there makes did-all held-all clock clock'' (λ ws. Drawn next_u64 stream ws stream'') run'
       one_more run' a = record {
         words = a.1.0 ∷ so-far.words;
         events = (so-far.events ++ t.0) ++ a.0;
@@ -63,8 +64,14 @@ module _ {E G B : Type 0} (policy : RetryPolicy) (there : Bool) (makes : Attempt
       }
 
       -- a turn that failed, and a word after which none follows
-      pub given_up : (run' : Run) → ((after : List (Event E)) × Decides policy so-far.words false run' after × Effects after (λ xs. xs ≡ []) (λ xs. xs ≡ []) clock' clock'' (λ ws. Drawn stream' ws stream''))
-          → (events : List (Event E)) × Attempted (Some policy) there makes (Bad bad) events × Effects events did-all held-all clock clock'' (λ ws. Drawn stream ws stream'')
+      pub given_up : (run' : Run) → ((after : List (Event E)) × Decides policy so-far.words false run' after × Effects after (λ xs. xs ≡ []) (λ xs. xs ≡ []) clock' clock'' (λ ws. Drawn next_u64 stream' ws stream''))
+          → (events : List (Event E)) × Attempted (Some policy) there makes (Bad bad) events × Effects events did-all held-all clock clock'' (λ ws. Drawn next_u64 stream ws stream'')
       given_up run' a = ((so-far.events ++ t.0) ++ a.0,
           record { words = so-far.words; before = so-far.events; last = t.0 ++ a.0; tried = so-far.tried; ends = (t.0, a.1.0, t.1, a.1.1, ap (λ z. t.0 ++ z) a.1.2); whole = append_assoc so-far.events t.0 a.0 },
           decided_so a.0 a.2)
+
+-- what was decided, where it is known
+module _ {E : Type 0} (policy : RetryPolicy) (words : List ℕ) (run : Run) (clock clock' : Clocked) (drawn : List ℕ → Type 0) where
+  pub decided_as : (went went' : Bool) → went ≡ went' → ((after : List (Event E)) × Decides policy words went run after × Effects after (λ xs. xs ≡ []) (λ xs. xs ≡ []) clock clock' drawn)
+      → (after : List (Event E)) × Decides policy words went' run after × Effects after (λ xs. xs ≡ []) (λ xs. xs ≡ []) clock clock' drawn
+  decided_as went went' same d = (d.0, subst (λ z. Decides policy words z run d.0) same d.1, d.2)

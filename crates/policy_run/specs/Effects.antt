@@ -2,8 +2,8 @@
 use Rattle.std.specs.Prelude.{ℕ, List, flat_map}
 use Rattle.std.specs.List.{sum_by}
 use Rattle.breaker_core.specs.Course.{Step}
-use Rattle.policy_run.specs.declared.clock.Clock.{Ghosts}
-use Rattle.policy_run.specs.Told.{Between, Rises}
+use Rattle.side_world.specs.declared.clock.Clock.{Ghosts}
+use Rattle.side_world.specs.Moments.{Between, Rises}
 use Rattle.policy_run.specs.Event.{Event, own_of, step_of, word_of, moment_in, pause_of}
 
 -- what a clock shows: the moment that it last told, and the sum of its pauses, both in milliseconds

@@ -3,7 +3,6 @@
 #![tactic(auto)]
 
 mod breaker_at;
-mod clock;
 mod guard;
 mod operation;
 mod outcome;
@@ -11,7 +10,6 @@ mod run;
 mod turn;
 
 pub use breaker_at::BreakerAt;
-pub use clock::Clock;
 pub use guard::{Guard, NoBreaker};
 pub use operation::{Attempt, Operation};
 pub use outcome::{Outcome, Refusal};

@@ -1,4 +1,4 @@
-use crate::Clock;
+use side_world::Clock;
 use std::sync::Wait;
 
 /// How one attempt ended.

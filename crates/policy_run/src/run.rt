@@ -6,12 +6,14 @@ ghost use Rattle.retry_core.specs.declared.policy.RetryPolicy.{RetryPolicy};
 ghost use Rattle.policy_run.specs.Event.{Event};
 ghost use Rattle.policy_run.specs.Effects.{Effects, clocked};
 ghost use Rattle.policy_run.specs.Attempts.{Attempts, Attempted, Decides, last_outcome};
-ghost use Rattle.policy_run.specs.Told.{Drawn};
+ghost use Rattle.rand_core.specs.Stream.{next_u64};
+ghost use Rattle.side_world.specs.Moments.{Drawn};
 
 use crate::turn::{Turned, turn};
-use crate::{Clock, Guard, Operation, Outcome};
+use crate::{Guard, Operation, Outcome};
 use rand_core::Rng;
 use retry_core::{Bound, Next, RetryPolicy, RetryRun};
+use side_world::Clock;
 use std::sync::Wait;
 
 /// Makes attempts of `op` until one ends the call, as the policies that are bound say (Dapr's resiliency policies): each is let
@@ -30,7 +32,7 @@ pub fn run_call<P: Operation, G: Guard, C: Clock, R: Rng, W: Wait>(
     requires limits { IsWithinLimit bound.now }
     requires guard { G.ready guard.old }
     requires op { P.ready op.old }
-    ensures attempts { (events : List (Event P.Own)) × Attempts bound.now (G.there guard.old) (P.makes op.old) result events × Effects events (λ xs. P.did op.old xs op.new) (λ xs. G.held guard.old xs guard.new) (clocked C.Clock clock.old) (clocked C.Clock clock.new) (λ ws. Drawn (R.stream rng.old) ws (R.stream rng.new)) }
+    ensures attempts { (events : List (Event P.Own)) × Attempts bound.now (G.there guard.old) (P.makes op.old) result events × Effects events (λ xs. P.did op.old xs op.new) (λ xs. G.held guard.old xs guard.new) (clocked C.Clock clock.old) (clocked C.Clock clock.new) (λ ws. Drawn next_u64 (R.stream rng.old) ws (R.stream rng.new)) }
     ensures there { G.there guard.new ≡ G.there guard.old }
     ensures shows { (count : ℕ) → result ≡ Outcome.Exhausted count → G.shows guard.new count }
 {
@@ -64,7 +66,7 @@ fn run_with<P: Operation, G: Guard, C: Clock, R: Rng, W: Wait>(
     requires limits { IsRetryWithinLimit policy.now }
     requires guard { G.ready guard.old }
     requires op { P.ready op.old }
-    ensures attempts { (events : List (Event P.Own)) × Attempted (Some policy.now) (G.there guard.old) (P.makes op.old limit) result events × Effects events (λ xs. P.did op.old xs op.new) (λ xs. G.held guard.old xs guard.new) (clocked C.Clock clock.old) (clocked C.Clock clock.new) (λ ws. Drawn (R.stream rng.old) ws (R.stream rng.new)) }
+    ensures attempts { (events : List (Event P.Own)) × Attempted (Some policy.now) (G.there guard.old) (P.makes op.old limit) result events × Effects events (λ xs. P.did op.old xs op.new) (λ xs. G.held guard.old xs guard.new) (clocked C.Clock clock.old) (clocked C.Clock clock.new) (λ ws. Drawn next_u64 (R.stream rng.old) ws (R.stream rng.new)) }
     ensures there { G.there guard.new ≡ G.there guard.old }
     ensures shows { (count : ℕ) → result ≡ Outcome.Exhausted count → G.shows guard.new count }
 {
@@ -72,7 +74,7 @@ fn run_with<P: Operation, G: Guard, C: Clock, R: Rng, W: Wait>(
     for _ in rt.forever() {
         match turn(rt, limit, guard, op, clock) {
             Turned::Failed(bad) => {
-                if !goes_on::<P, C, R, W>(rt, &mut run, clock, rng) {
+                if !goes_on::<P, C, R>(&mut run, clock, rng) {
                     return Outcome::Bad(bad);
                 }
             }
@@ -83,18 +85,17 @@ fn run_with<P: Operation, G: Guard, C: Clock, R: Rng, W: Wait>(
 }
 
 /// Decides after a failing attempt by one random word: waits before the next one, or says that none follows.
-fn goes_on<P: Operation, C: Clock, R: Rng, W: Wait>(
-    rt: &W,
+fn goes_on<P: Operation, C: Clock, R: Rng>(
     run: &mut RetryRun,
     clock: &mut C,
     rng: &mut R,
 ) -> bool
-    ensures { (policy : RetryPolicy) (words : List ℕ) → run.old ≡ run_after policy (reverse words) → (events : List (Event P.Own)) × Decides policy words result run.new events × Effects events (λ xs. xs ≡ []) (λ xs. xs ≡ []) (clocked C.Clock clock.old) (clocked C.Clock clock.new) (λ ws. Drawn (R.stream rng.old) ws (R.stream rng.new)) }
+    ensures { (policy : RetryPolicy) (words : List ℕ) → run.old ≡ run_after policy (reverse words) → (events : List (Event P.Own)) × Decides policy words result run.new events × Effects events (λ xs. xs ≡ []) (λ xs. xs ≡ []) (clocked C.Clock clock.old) (clocked C.Clock clock.new) (λ ws. Drawn next_u64 (R.stream rng.old) ws (R.stream rng.new)) }
 {
     match run.next(rng.next_u64()) {
         Next::GiveUp { .. } => false,
         Next::Wait(ms) => {
-            clock.pause(rt, ms);
+            clock.pause(ms);
             true
         }
     }

@@ -7,8 +7,9 @@ ghost use Rattle.policy_run.specs.Effects.{Effects, clocked};
 ghost use Rattle.policy_run.specs.Turn.{Fits, IsAdmission, IsAdmittedBy, IsReport, is_good};
 ghost use Rattle.policy_run.specs.Attempts.{TurnsTo, IsRest, turned_by};
 
-use crate::{Attempt, Clock, Guard, Operation, Outcome, Refusal};
+use crate::{Attempt, Guard, Operation, Outcome, Refusal};
 use breaker_core::{BreakerCmd, BreakerReply};
+use side_world::Clock;
 use std::sync::Wait;
 use turn_cell::Exhausted;
 
