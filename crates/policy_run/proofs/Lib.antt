@@ -1,4 +1,5 @@
 pub mod Composed
 pub mod Asking
 pub mod Turning
+pub mod Stepping
 pub mod Trying

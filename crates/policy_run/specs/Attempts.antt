@@ -1,5 +1,5 @@
 -- The attempts of a call under a policy, turn by turn.
-use Rattle.std.specs.Prelude.{◌≡◌, ℕ, Bool, true, false, List, [], ◌∷◌, ◌++◌, reverse, Option, Some, None, unwrap_or}
+use Rattle.std.specs.Prelude.{◌≡◌, ℕ, Bool, true, false, List, [], ◌∷◌, ◌++◌, Option, Some, None, unwrap_or}
 use Rattle.retry_core.specs.declared.policy.Bound.{Bound}
 use Rattle.retry_core.specs.declared.policy.RetryPolicy.{RetryPolicy}
 use Rattle.retry_core.specs.RetryRun.{Run, run_after}
@@ -11,7 +11,8 @@ use Rattle.policy_run.specs.Event.{Event, word, moment, pause}
 use Rattle.policy_run.specs.Turn.{Turn, CutOff, Asks, IsReported, is_good, reply_of}
 use Rattle.policy_run.specs.declared.turn.Turned.{Turned}
 use Rattle.policy_run.specs.declared.turn.Turned.TheVariants.{Failed, Ended}
-use Rattle.policy_run.specs.Told.{HasWait, HasGivenUp}
+use Rattle.retry_core.specs.declared.run.Next.TheVariants.{GiveUp, Wait}
+use Rattle.retry_core.specs.RetryPolicy.{decided}
 
 -- how many milliseconds an attempt may take; 0 is no limit
 abbrev pub limit_of : Bound → ℕ
@@ -42,12 +43,12 @@ module _ {E G B : Type 0} (there : Bool) (makes : Attempt G B → List (Event E)
   abbrev pub Tried : Option RetryPolicy → List ℕ → List (Event E) → Type 0
   Tried retry [] events = events ≡ []
   Tried None (w ∷ words) events = ⊥
-  Tried (Some policy) (w ∷ words) events = (before turn : List (Event E)) × (bad : B) × (ms : ℕ) × Tried (Some policy) words before × Turn there makes (attempt.Bad bad) turn × HasWait policy (w ∷ words) ms × (events ≡ (before ++ turn) ++ word w ∷ pause ms ∷ [])
+  Tried (Some policy) (w ∷ words) events = (before turn : List (Event E)) × (bad : B) × (ms : ℕ) × Tried (Some policy) words before × Turn there makes (attempt.Bad bad) turn × (decided policy (w ∷ words) ≡ Wait ms) × (events ≡ (before ++ turn) ++ word w ∷ pause ms ∷ [])
 
   -- the last turn fails, and no further one follows: no policy is bound, or it gives up after one word more
   abbrev pub GivesUp : Option RetryPolicy → List ℕ → B → List (Event E) → Type 0
   GivesUp None words bad events = Turn there makes (attempt.Bad bad) events
-  GivesUp (Some policy) words bad events = (turn : List (Event E)) × (w : ℕ) × Turn there makes (attempt.Bad bad) turn × HasGivenUp policy (w ∷ words) × (events ≡ turn ++ word w ∷ [])
+  GivesUp (Some policy) words bad events = (turn : List (Event E)) × (w attempts : ℕ) × Turn there makes (attempt.Bad bad) turn × (decided policy (w ∷ words) ≡ GiveUp attempts) × (events ≡ turn ++ word w ∷ [])
 
   -- how the last turn ends the call, after these words
   abbrev pub Ends : Option RetryPolicy → List ℕ → Outcome G B → List (Event E) → Type 0
@@ -64,8 +65,8 @@ last_outcome (Ended outcome) = outcome
 
 -- after failing attempts with these words a policy decides by one word more: a further attempt after a wait, or none
 abbrev pub Decides : {E : Type 0} → RetryPolicy → List ℕ → Bool → Run → List (Event E) → Type 0
-Decides policy words true run events = (w ms : ℕ) × HasWait policy (w ∷ words) ms × (run ≡ run_after policy (reverse (w ∷ words))) × (events ≡ word w ∷ pause ms ∷ [])
-Decides policy words false run events = (w : ℕ) × HasGivenUp policy (w ∷ words) × (events ≡ word w ∷ [])
+Decides policy words true run events = (w ms : ℕ) × (decided policy (w ∷ words) ≡ Wait ms) × (run ≡ run_after policy (w ∷ words)) × (events ≡ word w ∷ pause ms ∷ [])
+Decides policy words false run events = (w attempts : ℕ) × (decided policy (w ∷ words) ≡ GiveUp attempts) × (events ≡ word w ∷ [])
 
 -- Turns that failed, and the one that ends the call, under a retry policy or none. `makes` is what an attempt with an answer does
 pub record Attempted {E G B : Type 0} (retry : Option RetryPolicy) (there : Bool) (makes : Attempt G B → List (Event E) → Type 0) (outcome : Outcome G B) (events : List (Event E)) : Type 0 where

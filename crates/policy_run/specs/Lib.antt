@@ -1,5 +1,5 @@
-pub mod Told
 pub mod Guard
+pub mod BreakerAt
 pub mod Event
 pub mod Effects
 pub mod Turn

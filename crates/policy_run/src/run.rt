@@ -1,4 +1,4 @@
-ghost use Rattle.std.specs.Prelude.{◌≡◌, ℕ, List, [], reverse, Some};
+ghost use Rattle.std.specs.Prelude.{◌≡◌, ℕ, List, [], Some};
 ghost use Rattle.retry_core.specs.Bound.{IsWithinLimit};
 ghost use Rattle.retry_core.specs.RetryPolicy.{IsWithinLimit as IsRetryWithinLimit};
 ghost use Rattle.retry_core.specs.RetryRun.{run_after};
@@ -90,7 +90,7 @@ fn goes_on<P: Operation, C: Clock, R: Rng>(
     clock: &mut C,
     rng: &mut R,
 ) -> bool
-    ensures { (policy : RetryPolicy) (words : List ℕ) → run.old ≡ run_after policy (reverse words) → (events : List (Event P.Own)) × Decides policy words result run.new events × Effects events (λ xs. xs ≡ []) (λ xs. xs ≡ []) (clocked C.Clock clock.old) (clocked C.Clock clock.new) (λ ws. Drawn next_u64 (R.stream rng.old) ws (R.stream rng.new)) }
+    ensures { (policy : RetryPolicy) (words : List ℕ) → run.old ≡ run_after policy words → (events : List (Event P.Own)) × Decides policy words result run.new events × Effects events (λ xs. xs ≡ []) (λ xs. xs ≡ []) (clocked C.Clock clock.old) (clocked C.Clock clock.new) (λ ws. Drawn next_u64 (R.stream rng.old) ws (R.stream rng.new)) }
 {
     match run.next(rng.next_u64()) {
         Next::GiveUp { .. } => false,

@@ -1,3 +1,4 @@
+pub mod Runs
 pub mod Trips
 pub mod TripLoops
 pub mod TripTexts

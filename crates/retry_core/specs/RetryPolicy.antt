@@ -1,15 +1,15 @@
 -- What a retry policy means: the waits that it gives for random words, and after how many attempts it gives up.
-use Rattle.std.specs.Prelude.{◌≡◌, ◌<◌, ◌≤◌, ◌+◌, ◌*◌, ◌/◌, ◌%◌, ◌^◌, ◌⊎◌, ℕ, List, min, max, fold, IsSomeAnd}
-use Rattle.side_base.specs.declared.duration.TheConstants.{DURATION_LIMIT}
+use Rattle.std.specs.Prelude.{◌≡◌, ◌≤◌, ◌+◌, ◌*◌, ◌/◌, ◌%◌, ◌^◌, ◌||◌, ◌==◌, nat_lt, ℕ, Bool, true, false, List, [], ◌∷◌, length, min, max, Option, Some, None, if◌then◌else◌}
 use Rattle.retry_core.specs.declared.policy.RetryKind.{RetryKind}
 use Rattle.retry_core.specs.declared.policy.RetryKind.TheVariants.{Constant, Exponential}
 use Rattle.retry_core.specs.declared.policy.RetryPolicy.{RetryPolicy}
-use Rattle.retry_core.specs.declared.run.TheConstants.{FIRST_WAIT_MS, MOST_ATTEMPTS}
+use Rattle.retry_core.specs.declared.run.Next.{Next}
+use Rattle.retry_core.specs.declared.run.Next.TheVariants.{GiveUp, Wait}
 
--- the milliseconds of the policy are those of a duration
+-- the milliseconds of the policy are those of a duration, at most 8,760 hours
 abbrev pub IsKindWithinLimit : RetryKind → Type 0
-IsKindWithinLimit (Constant duration) = duration ≤ DURATION_LIMIT
-IsKindWithinLimit (Exponential most) = most ≤ DURATION_LIMIT
+IsKindWithinLimit (Constant duration) = duration ≤ 31536000000
+IsKindWithinLimit (Exponential most) = most ≤ 31536000000
 
 abbrev pub IsWithinLimit : RetryPolicy → Type 0
 IsWithinLimit policy = IsKindWithinLimit policy.kind
@@ -20,10 +20,27 @@ abbrev pub next_wait : RetryKind → ℕ → ℕ → ℕ
 next_wait (Constant duration) previous word = duration
 next_wait (Exponential most) previous word = min most (max 1 (previous * (2 ^ 31 + word % 2 ^ 32) * 3 / 2 ^ 33))
 
--- the last wait, after one wait for each of the words, in their order
+-- the last wait, after one wait for each of the words, of which the latest stands first; 500 comes before the first
 abbrev pub wait_after : RetryKind → List ℕ → ℕ
-wait_after kind words = fold (next_wait kind) FIRST_WAIT_MS words
+wait_after kind [] = 500
+wait_after kind (word ∷ words) = next_wait kind (wait_after kind words) word
+
+-- more attempts failed than may be made again
+abbrev pub is_used_up : Option ℕ → ℕ → Bool
+is_used_up None failed = false
+is_used_up (Some most) failed = nat_lt most failed
 
 -- after so many failing attempts no further one is made
+abbrev pub gives_up : RetryPolicy → ℕ → Bool
+gives_up policy failed = is_used_up policy.max_retries failed || (failed == 4096)
+
 abbrev pub GivesUp : RetryPolicy → ℕ → Type 0
-GivesUp policy attempts = IsSomeAnd policy.max_retries (λ most. most < attempts) ⊎ (attempts ≡ MOST_ATTEMPTS)
+GivesUp policy failed = gives_up policy failed ≡ true
+
+-- what comes after so many failing attempts: none, or a further one after this wait
+abbrev pub decision : RetryPolicy → ℕ → ℕ → Next
+decision policy failed wait = if gives_up policy failed then GiveUp failed else Wait wait
+
+-- What a policy decides after failing attempts with a random word for each, of which the latest stands first
+abbrev pub decided : RetryPolicy → List ℕ → Next
+decided policy words = decision policy (length words) (wait_after policy.kind words)

@@ -1,8 +1,6 @@
-ghost use Rattle.std.specs.Prelude.{◌≡◌, ◌+◌, ◌≤◌, ◌++◌, ◌∷◌, [], ◌↔◌, ℕ, List, length, IsTrue};
-ghost use Rattle.side_base.specs.declared.duration.TheConstants.{DURATION_LIMIT};
-ghost use Rattle.retry_core.specs.declared.run.TheConstants.{MOST_ATTEMPTS};
-ghost use Rattle.retry_core.specs.RetryPolicy.{IsWithinLimit, GivesUp, next_wait, wait_after};
-ghost use Rattle.retry_core.specs.RetryRun.{Run, run_after};
+ghost use Rattle.std.specs.Prelude.{◌≡◌, ◌≤◌, ◌∷◌, [], ◌↔◌, ℕ, List};
+ghost use Rattle.retry_core.specs.RetryPolicy.{IsWithinLimit, GivesUp, gives_up, next_wait, decided};
+ghost use Rattle.retry_core.specs.RetryRun.{Run, run_after, decided_by, run_by};
 
 use crate::{RetryKind, RetryPolicy};
 use std::marker::Model;
@@ -35,7 +33,7 @@ impl Model for RetryRun {
 
     ghost view = { λ r. record { policy = r.policy; attempts = r.attempts; wait = r.wait } };
 
-    ghost invariant = { λ r. IsWithinLimit r.policy × (r.attempts ≤ MOST_ATTEMPTS) × (r.wait ≤ DURATION_LIMIT) };
+    ghost invariant = { λ r. IsWithinLimit r.policy × (r.attempts ≤ 4096) × (r.wait ≤ 31536000000) };
 
     ghost inverse = { λ r. record { policy = r.policy; attempts = r.attempts; wait = r.wait } };
 }
@@ -63,11 +61,12 @@ impl RetryRun {
     /// What comes after a failing attempt, by a random word: a wait, after which the next attempt counts as begun, or the
     /// end, which changes nothing. Takes no memory.
     pub fn next(&mut self, word: u64) -> Next
+        ensures decided { result ≡ decided_by self.old word }
+        ensures run { self.new ≡ run_by self.old word }
         ensures gives_up { (result ≡ Next.GiveUp self.old.attempts) ↔ GivesUp self.old.policy self.old.attempts }
-        ensures stays { GivesUp self.old.policy self.old.attempts → self.new ≡ self.old }
-        ensures waits { ¬ GivesUp self.old.policy self.old.attempts → (words : List ℕ) → self.old ≡ run_after self.old.policy words
-            → (result ≡ Next.Wait (wait_after self.old.policy.kind (words ++ word ∷ []))) × (self.new ≡ run_after self.old.policy (words ++ word ∷ [])) }
-        ensures most { (ms : ℕ) → result ≡ Next.Wait ms → ms ≤ DURATION_LIMIT }
+        ensures words { (words : List ℕ) → self.old ≡ run_after self.old.policy words → result ≡ decided self.old.policy (word ∷ words) }
+        ensures again { (words : List ℕ) (ms : ℕ) → self.old ≡ run_after self.old.policy words → result ≡ Next.Wait ms → self.new ≡ run_after self.old.policy (word ∷ words) }
+        ensures most { (ms : ℕ) → result ≡ Next.Wait ms → ms ≤ 31536000000 }
     {
         if gives_up(&self.policy, self.attempts) {
             return Next::GiveUp {
@@ -82,14 +81,14 @@ impl RetryRun {
 
 /// Whether no attempt follows that many failing ones.
 fn gives_up(policy: &RetryPolicy, attempts: u32) -> bool
-    ensures { IsTrue result ↔ GivesUp policy.now attempts }
+    ensures { result ≡ gives_up policy.now attempts }
 {
     policy.max_retries.is_some_and(|most| attempts > most) || attempts == MOST_ATTEMPTS
 }
 
 /// The wait in milliseconds after one of `previous`.
 fn wait_by(kind: RetryKind, previous: u64, word: u64) -> u64
-    requires { previous ≤ DURATION_LIMIT }
+    requires { previous ≤ 31536000000 }
     ensures { result ≡ next_wait kind previous word }
 {
     match kind {

@@ -1,0 +1,33 @@
+-- What steps of a breaker do to a guard that holds a seat of it.
+use Rattle.std.specs.Prelude.{◌≡◌, ℕ, List, [], ◌++◌, refl}
+use Rattle.std.proofs.Common.{◌∙◌, subst, sym}
+use Rattle.breaker_core.specs.declared.breaker.Breaker.{Breaker}
+use Rattle.breaker_core.specs.declared.command.BreakerCmd.{BreakerCmd}
+use Rattle.breaker_core.specs.declared.command.BreakerReply.{BreakerReply}
+use Rattle.breaker_core.specs.Course.{Step}
+use Rattle.turn_cell.specs.declared.object.Object.{Ghosts}
+use Rattle.turn_cell.specs.Sitting.{Begun, Sitting, IsSeatOf}
+use Rattle.turn_cell.specs.Growth.{Grew}
+use Rattle.turn_cell.proofs.Growing.{grew_none, grew_more, still_of}
+
+-- the guard still holds the same seat of the same cell, and the seat made these steps
+pub record Kept (object : Ghosts Breaker BreakerCmd BreakerReply) (cell : Begun Breaker) (name : ℕ) (seat : Sitting Breaker BreakerCmd BreakerReply) (steps : List Step) (cell' : Begun Breaker) (name' : ℕ) (seat' : Sitting Breaker BreakerCmd BreakerReply) : Type 0 where
+  pub same_cell : cell' ≡ cell
+  pub same_seat : name' ≡ name
+  pub grew : Grew object cell.first seat steps seat'
+
+module _ (object : Ghosts Breaker BreakerCmd BreakerReply) where
+  pub kept_none : (cell : Begun Breaker) (name : ℕ) (seat : Sitting Breaker BreakerCmd BreakerReply) → Kept object cell name seat [] cell name seat
+  kept_none cell name seat = record { same_cell = refl; same_seat = refl; grew = grew_none object cell.first seat }
+
+  pub kept_more : (cell : Begun Breaker) (name : ℕ) (seat : Sitting Breaker BreakerCmd BreakerReply) (first : List Step) (cell' : Begun Breaker) (name' : ℕ) (seat' : Sitting Breaker BreakerCmd BreakerReply) (second : List Step) (cell'' : Begun Breaker) (name'' : ℕ) (seat'' : Sitting Breaker BreakerCmd BreakerReply)
+      → Kept object cell name seat first cell' name' seat' → Kept object cell' name' seat' second cell'' name'' seat'' → Kept object cell name seat (first ++ second) cell'' name'' seat''
+  kept_more cell name seat first cell' name' seat' second cell'' name'' seat'' h k = record {
+    same_cell = k.same_cell ∙ h.same_cell;
+    same_seat = k.same_seat ∙ h.same_seat;
+    grew = grew_more object cell.first seat first seat' second seat'' h.grew (subst (λ z. Grew object z.first seat' second seat'') h.same_cell k.grew);
+  }
+
+  pub kept_stays : (cell : Begun Breaker) (name : ℕ) (seat : Sitting Breaker BreakerCmd BreakerReply) (steps : List Step) (cell' : Begun Breaker) (name' : ℕ) (seat' : Sitting Breaker BreakerCmd BreakerReply)
+      → IsSeatOf cell seat → Kept object cell name seat steps cell' name' seat' → IsSeatOf cell' seat'
+  kept_stays cell name seat steps cell' name' seat' of k = subst (λ z. IsSeatOf z seat') (sym k.same_cell) (still_of object cell seat steps seat' k.grew of)
