@@ -1,0 +1,77 @@
+ghost use Rattle.std.specs.Prelude.{◌≡◌};
+ghost use Rattle.state_api.specs.Call.{answer_of};
+
+use crate::moment::set_now;
+use keeper_core::Keeper;
+use policy_run::{Attempt, Operation};
+use side_world::Clock;
+use state_core::{Cmd, Reply, Store};
+use std::sync::Wait;
+use turn_cell::{Exhausted, Object, Seat, TurnCell};
+
+/// What an attempt that did not fail came to.
+#[derive(Debug, Drop)]
+pub enum StateAnswer {
+    /// The store replied.
+    Replied(Reply),
+    /// The store's cell has no ticket left; `count` was read in it, and its seat shows it.
+    Exhausted { count: u64 },
+}
+
+/// A state call: each attempt is one step of the store with this command, at the moment of the attempt.
+pub struct StoreCall<'a, K: Keeper> {
+    pub cell: &'a TurnCell<Store<K>>,
+    pub seat: &'a mut Seat<Store<K>>,
+    pub cmd: &'a mut Cmd,
+}
+
+impl<K: Keeper> Operation for StoreCall<'_, K> {
+    ghost use Rattle.turn_cell.specs.Sitting.{IsSeatOf};
+    ghost use Rattle.state_core.specs.History.{Step};
+    ghost use Rattle.state_core.specs.Taken.{IsTaken};
+    ghost use Rattle.state_api.specs.Call.{Makes, Did, alike};
+
+    type Good = StateAnswer;
+
+    type Bad = ();
+
+    type Own = turn_cell::Entry<Cmd, Reply>;
+
+    ghost ready = { λ call. IsSeatOf call.cell.now call.seat.now × IsTaken call.cmd.now };
+
+    ghost makes = { λ call limit. Makes call.cmd.now };
+
+    ghost did = { λ call steps after. Did ⟦<Store<K> as Object>⟧ call.cell.now call.seat.ghost_name call.cmd.ghost_name call.seat.now call.cmd.now steps after.cell.now after.seat.ghost_name after.cmd.ghost_name after.seat.now after.cmd.now };
+
+    fn attempt<W: Wait, C: Clock>(
+        &mut self,
+        rt: &W,
+        _limit: u64,
+        clock: &mut C,
+    ) -> Attempt<StateAnswer, ()> {
+        set_now(self.cmd, clock.now());
+        match self.cell.call(rt, self.seat, self.cmd) {
+            Ok(reply) => answer_of(reply),
+            Err(Exhausted { count }) => Attempt::Good(StateAnswer::Exhausted { count }),
+        }
+    }
+
+    ghost none = { ? };
+
+    ghost more = { ? };
+
+    ghost stays = { ? };
+
+    ghost alike = { ? };
+}
+
+/// What a reply means for the attempt: only a store that failed is a failing attempt.
+fn answer_of(reply: Reply) -> Attempt<StateAnswer, ()>
+    ensures { result ≡ answer_of reply }
+{
+    match reply {
+        Reply::Failed => Attempt::Bad(()),
+        Reply::NoMemory => Attempt::NoMemory,
+        other => Attempt::Good(StateAnswer::Replied(other)),
+    }
+}

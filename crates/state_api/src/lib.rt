@@ -1,0 +1,9 @@
+//! State requests (Dapr's state API): from a request to a command of a store, and from its reply to a response.
+#![tactic(auto)]
+
+mod call;
+mod moment;
+mod run;
+
+pub use call::{StateAnswer, StoreCall};
+pub use run::Ran;
