@@ -1,5 +1,5 @@
 -- One command makes a step.
-use Rattle.std.proofs.Common.{◌≡◌, ℕ, max, List, [], ◌∷◌, ◌++◌, length, fold, Option, Some, None, refl, ap, sym, subst, ◌∙◌}
+use Rattle.std.proofs.Common.{◌≡◌, ◌<◌, ℕ, max, List, [], ◌∷◌, ◌++◌, length, fold, Option, Some, None, refl, ap, sym, subst, ◌∙◌}
 use Rattle.retry_core.specs.declared.policy.BreakerPolicy.{BreakerPolicy}
 use Rattle.breaker_core.specs.declared.command.BreakerCmd.{BreakerCmd}
 use Rattle.breaker_core.specs.declared.command.BreakerReply.{BreakerReply}
@@ -28,7 +28,7 @@ by_generation policy now cmd reply seat mid after (g ∷ gs) is answers adds =
     (answers g gs (some_is mid (shown g (length gs)) is), adds g gs seat (some_is mid (shown g (length gs)) is))
 
 -- the entry is a step, and the counters go on with the course
-stepped : (policy : BreakerPolicy) (history : List Step) (latest : ℕ) (present : Option Present) (cmd : BreakerCmd) (now : ℕ) (mid after : Present) (reply : BreakerReply) (seat : ℕ) →
+stepped : (policy : BreakerPolicy) (history : List Step) (latest : ℕ) (present : Option Present) (cmd : BreakerCmd) (now : ℕ) (mid after : Present) (reply : BreakerReply) (seat : ℕ) → moment_of cmd < 253402300800000 →
     latest ≡ (course_of policy history).latest → present ≡ shown_of (course_of policy history).generations → now ≡ max latest (moment_of cmd) →
     ((generations : List Generation) → present ≡ shown_of generations → Some mid ≡ shown_of (found policy now generations)) →
     ((g : Generation) (gs : List Generation) → mid ≡ shown g (length gs) → reply ≡ reply_in policy g.phase g.entries (length gs) cmd) →
@@ -36,11 +36,11 @@ stepped : (policy : BreakerPolicy) (history : List Step) (latest : ℕ) (present
     IsStep policy history (record { seat = seat; cmd = cmd; reply = reply; mark = 0 })
     × (now ≡ (course_of policy (history ++ record { seat = seat; cmd = cmd; reply = reply; mark = 0 } ∷ [])).latest)
     × (Some after ≡ shown_of (course_of policy (history ++ record { seat = seat; cmd = cmd; reply = reply; mark = 0 } ∷ [])).generations)
-stepped policy history latest present cmd now mid after reply seat latest_is present_is now_is finds answers adds =
+stepped policy history latest present cmd now mid after reply seat early latest_is present_is now_is finds answers adds =
     let at : now ≡ now_in (course_of policy history) cmd = now_is ∙ ap (λ n. max n (moment_of cmd)) latest_is in
     let both = by_generation policy now cmd reply seat mid after (found policy now (course_of policy history).generations) (finds _ present_is) answers adds in
     let snoc = course_of-snoc policy history (record { seat = seat; cmd = cmd; reply = reply; mark = 0 }) in (
-      record { reply = both.0 ∙ ap (λ n. reply_of policy (found policy n (course_of policy history).generations) cmd) at; mark = refl },
+      record { moment = early; reply = both.0 ∙ ap (λ n. reply_of policy (found policy n (course_of policy history).generations) cmd) at; mark = refl },
       at ∙ ap (λ (c : Course). c.latest) (sym snoc),
       both.1
           ∙ ap (λ n. shown_of (added policy n (record { seat = seat; cmd = cmd; reply = reply; mark = 0 }) (found policy n (course_of policy history).generations))) at
@@ -55,12 +55,12 @@ pub record Goes (policy : BreakerPolicy) (history : List Step) (entry : Step) (l
 
 -- the same under the policy of the first breaker
 pub goes : (first policy : BreakerPolicy) (history : List Step) (latest : ℕ) (present : Option Present) (cmd : BreakerCmd) (now : ℕ) (mid after : Present) (reply : BreakerReply) (seat : ℕ) →
-    policy ≡ first → latest ≡ (course_of first history).latest → present ≡ shown_of (course_of first history).generations → now ≡ max latest (moment_of cmd) →
+    moment_of cmd < 253402300800000 → policy ≡ first → latest ≡ (course_of first history).latest → present ≡ shown_of (course_of first history).generations → now ≡ max latest (moment_of cmd) →
     ((generations : List Generation) → present ≡ shown_of generations → Some mid ≡ shown_of (found policy now generations)) →
     ((g : Generation) (gs : List Generation) → mid ≡ shown g (length gs) → reply ≡ reply_in policy g.phase g.entries (length gs) cmd) →
     ((g : Generation) (gs : List Generation) (seat : ℕ) → mid ≡ shown g (length gs) → Some after ≡ shown_of (added policy now (record { seat = seat; cmd = cmd; reply = reply; mark = 0 }) (g ∷ gs))) →
     Goes first history (record { seat = seat; cmd = cmd; reply = reply; mark = 0 }) now (Some after)
-goes first policy history latest present cmd now mid after reply seat is latest_is present_is now_is finds answers adds =
+goes first policy history latest present cmd now mid after reply seat early is latest_is present_is now_is finds answers adds =
     subst (λ p. latest ≡ (course_of p history).latest → present ≡ shown_of (course_of p history).generations → Goes p history (record { seat = seat; cmd = cmd; reply = reply; mark = 0 }) now (Some after)) is
-    (λ here there. let made = stepped policy history latest present cmd now mid after reply seat here there now_is finds answers adds in record { step = made.0; latest_is = made.1; present_is = made.2 })
+    (λ here there. let made = stepped policy history latest present cmd now mid after reply seat early here there now_is finds answers adds in record { step = made.0; latest_is = made.1; present_is = made.2 })
     latest_is present_is

@@ -1,5 +1,5 @@
 -- The course of a breaker: its generations, each with the entries of the history that fall into it.
-use Rattle.std.specs.Prelude.{◌≡◌, ◌+◌, ◌&&◌, ◌==◌, ℕ, Bool, true, false, not, nat_lt, max, List, [], ◌∷◌, length, filter, count_by, fold, Option, Some, None, if◌then◌else◌}
+use Rattle.std.specs.Prelude.{◌≡◌, ◌<◌, ◌+◌, ◌&&◌, ◌==◌, ℕ, Bool, true, false, not, nat_lt, max, List, [], ◌∷◌, length, filter, count_by, fold, Option, Some, None, if◌then◌else◌}
 use Rattle.std.specs.List.{prefix_len}
 use Rattle.retry_core.specs.declared.policy.BreakerPolicy.{BreakerPolicy}
 use Rattle.retry_core.specs.declared.trip.Counts.{Counts}
@@ -148,7 +148,8 @@ abbrev pub reply_to : BreakerPolicy → List Step → BreakerCmd → BreakerRepl
 reply_to policy history cmd =
     reply_of policy (found policy (now_in (course_of policy history) cmd) (course_of policy history).generations) cmd
 
--- an entry may come after a history
+-- an entry may come after a history; each moment is before the year 10000
 pub record IsStep (policy : BreakerPolicy) (history : List Step) (entry : Step) : Type 0 where
+  pub moment : moment_of entry.cmd < 253402300800000
   pub reply : entry.reply ≡ reply_to policy history entry.cmd
   pub mark : entry.mark ≡ 0

@@ -3,6 +3,7 @@ use Rattle.std.specs.Prelude.{◌≡◌, ◌<◌, ◌≤◌, ◌+◌, ℕ, List,
 use Rattle.std.specs.List.{flat_map, AllByRecursion}
 use Rattle.retry_core.specs.declared.policy.BreakerPolicy.{BreakerPolicy}
 use Rattle.breaker_core.specs.declared.phase.Phase.TheVariants.{Open, HalfOpen}
+use Rattle.breaker_core.specs.Fits.{Fits}
 use Rattle.breaker_core.specs.Course.{Step, Generation, begun, is_admission, now_in, course_of, IsStep}
 
 -- every entry is a step after those before it
@@ -13,6 +14,10 @@ EachSteps policy history = (before after : List Step) (entry : Step) → history
 pub record Opens (policy : BreakerPolicy) (before : List Step) (entry : Step) (moment : ℕ) : Type 0 where
   pub earlier : List Generation
   pub generations : (course_of policy (before ++ entry ∷ [])).generations ≡ begun (Open (moment + policy.timeout_ms)) moment ∷ earlier
+
+-- each reply fits its command
+abbrev pub AreFitting : List Step → Type 0
+AreFitting history = (before after : List Step) (entry : Step) → history ≡ before ++ entry ∷ after → Fits entry.cmd entry.reply
 
 -- from an opening on, a call is let through only after the timeout
 abbrev pub Rests : BreakerPolicy → List Step → Type 0

@@ -1,4 +1,5 @@
 pub mod Breaker
 pub mod Course
+pub mod Fits
 pub mod Laws
 pub mod Present

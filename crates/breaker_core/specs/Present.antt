@@ -1,7 +1,6 @@
 -- What a breaker keeps of its present generation.
-use Rattle.std.specs.Prelude.{◌≡◌, ◌≤◌, ◌<◌, ◌+◌, ◌-◌, ◌*◌, ◌^◌, ℕ, Bool, true, false, List, [], ◌∷◌, length, count_by, Option, Some, None, is_none}
+use Rattle.std.specs.Prelude.{◌≡◌, ◌≤◌, ◌<◌, ◌+◌, ◌*◌, ◌^◌, ℕ, Bool, true, false, List, [], ◌∷◌, length, count_by, Option, Some, None, is_none}
 use Rattle.std.specs.Option.{ForSome}
-use Rattle.side_base.specs.declared.moment.TheConstants.{MOMENT_LIMIT}
 use Rattle.retry_core.specs.declared.policy.BreakerPolicy.{BreakerPolicy}
 use Rattle.retry_core.specs.BreakerPolicy.{IsWithinLimit}
 use Rattle.breaker_core.specs.declared.present.Present.{Present}
@@ -33,7 +32,7 @@ pub record HasAtMost (most latest : ℕ) (present : Present) : Type 0 where
 
 -- no counter is near the end of its type
 abbrev pub IsSmall : Present → Type 0
-IsSmall present = HasAtMost (2 ^ 63) (MOMENT_LIMIT - 1) present
+IsSmall present = HasAtMost (2 ^ 63) 253402300799999 present
 
 -- a report was counted
 abbrev pub WithReport : Present → Bool → Present → Type 0
@@ -43,7 +42,7 @@ WithReport before false after = after ≡ record before { counts = record before
 -- what keeps the counters small after so many commands, up to this moment: each begins at most two generations
 pub record IsBounded (policy : BreakerPolicy) (used latest : ℕ) (present : Option Present) : Type 0 where
   pub within : IsWithinLimit policy
-  pub moment : latest < MOMENT_LIMIT
+  pub moment : latest < 253402300800000
   pub few : ForSome present (HasAtMost (2 * used) latest)
 
 -- before the first command there is nothing

@@ -4,7 +4,7 @@ ghost use Rattle.turn_cell.specs.History.{IsLegal};
 ghost use Rattle.breaker_core.specs.declared.breaker.Breaker.{Breaker};
 ghost use Rattle.breaker_core.specs.Breaker.{policy_of};
 ghost use Rattle.breaker_core.specs.Course.{Step};
-ghost use Rattle.breaker_core.specs.Laws.{Rests, IsCarefulAlways, IsDivided};
+ghost use Rattle.breaker_core.specs.Laws.{AreFitting, Rests, IsCarefulAlways, IsDivided};
 
 use crate::Breaker;
 use turn_cell::Object;
@@ -17,6 +17,12 @@ pub fn an_open_breaker_rests()
 /// A half-open generation lets at most `max_requests` calls through.
 pub fn a_half_open_breaker_is_careful()
     ensures { (first : Breaker) (history : List Step) → IsLegal ⟦<Breaker as Object>⟧ first history → IsCarefulAlways (policy_of first) history }
+{}
+
+/// Each reply fits its command: a call that asks is let through or not, a report counts or is stale; and an open breaker says a
+/// moment that is at most the greatest of all and the longest duration after it.
+pub fn replies_fit_their_commands()
+    ensures { (first : Breaker) (history : List Step) → IsLegal ⟦<Breaker as Object>⟧ first history → AreFitting history }
 {}
 
 /// Each entry of a history is in exactly one generation, and they stand there in order.

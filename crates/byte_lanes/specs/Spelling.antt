@@ -2,7 +2,6 @@
 -- controls by their number, and all else as it is.
 use Rattle.std.specs.Prelude.{ℕ, ◌+◌, ◌/◌, ◌%◌, List, [], ◌∷◌, ◌==◌, nat_lt, if◌then◌else◌}
 use Rattle.std.specs.List.{flat_map}
-use Rattle.byte_lanes.specs.declared.lanes.TheConstants.{QUOTE, BACKSLASH, FIRST_PRINTABLE}
 
 -- the digit of a number below 16, in lower case
 abbrev pub hex_digit : ℕ → ℕ
@@ -16,15 +15,15 @@ short_letter byte =
 
 -- `\u` and the four digits of a byte
 abbrev pub numbered : ℕ → List ℕ
-numbered byte = BACKSLASH ∷ 117 ∷ 48 ∷ 48 ∷ hex_digit (byte / 16) ∷ hex_digit (byte % 16) ∷ []
+numbered byte = 0x5c ∷ 117 ∷ 48 ∷ 48 ∷ hex_digit (byte / 16) ∷ hex_digit (byte % 16) ∷ []
 
 -- the spelling of one byte
 unfoldable pub spelled_byte : ℕ → List ℕ
 spelled_byte byte =
-    if byte == QUOTE then BACKSLASH ∷ QUOTE ∷ []
-    else if byte == BACKSLASH then BACKSLASH ∷ BACKSLASH ∷ []
-    else if nat_lt byte FIRST_PRINTABLE then
-    (if short_letter byte == 0 then numbered byte else BACKSLASH ∷ short_letter byte ∷ [])
+    if byte == 0x22 then 0x5c ∷ 0x22 ∷ []
+    else if byte == 0x5c then 0x5c ∷ 0x5c ∷ []
+    else if nat_lt byte 0x20 then
+    (if short_letter byte == 0 then numbered byte else 0x5c ∷ short_letter byte ∷ [])
     else byte ∷ []
 
 -- the spelling of a text, without its quotes

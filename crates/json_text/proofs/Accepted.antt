@@ -48,8 +48,8 @@ kind_of escape = kinds.Text
 kind_of (digits count unit) = kinds.Text
 kind_of closed = kinds.Text
 
-record KindIf (kind : Kind) (o : Option Lexeme) : Type 0 where
-  fact : MatchOption o (Unit {0}) (λ word. kind_of word ≡ kind)
+pub record KindIf (kind : Kind) (o : Option Lexeme) : Type 0 where
+  pub fact : MatchOption o (Unit {0}) (λ word. kind_of word ≡ kind)
 
 none_is : (kind : Kind) → KindIf kind None
 none_is kind = record { fact = tt }
@@ -92,7 +92,7 @@ leads_is byte = cond_is kinds.Text (ltb byte 0xc2) None _ (none_is kinds.Text) (
 string_is : (byte : ℕ) (a b c d : Bool) → KindIf kinds.Text (cond a (Some closed) (cond b (Some escape) (cond c None (cond d (Some (plain false)) (leads byte)))))
 string_is byte a b c d = cond_is kinds.Text a (Some closed) _ (some_is kinds.Text closed refl) (cond_is kinds.Text b (Some escape) _ (some_is kinds.Text escape refl) (cond_is kinds.Text c None _ (none_is kinds.Text) (cond_is kinds.Text d (Some (plain false)) (leads byte) (some_is kinds.Text (plain false) refl) (leads_is byte))))
 
-next_kind : (q : Lexeme) (byte : ℕ) → KindIf (kind_of q) (next q byte)
+pub next_kind : (q : Lexeme) (byte : ℕ) → KindIf (kind_of q) (next q byte)
 unfolding next
 next_kind minus byte = cond_is kinds.Number (eqb byte 48) (Some leading_zero) _ (some_is kinds.Number leading_zero refl) (digit_is byte integer refl)
 next_kind leading_zero byte = fraction_is byte
@@ -116,7 +116,7 @@ letters_end : (kind k : Kind) (others : List ℕ) → ends_after_letters kind ot
 letters_end kind k [] e = same_kind kind k e
 letters_end kind k (letter ∷ others) e = none_some k _ e
 
-end_kind : (q : Lexeme) (k : Kind) → ends q ≡ Some k → k ≡ kind_of q
+pub end_kind : (q : Lexeme) (k : Kind) → ends q ≡ Some k → k ≡ kind_of q
 unfolding ends
 end_kind minus k e = none_some k _ e
 end_kind leading_zero k e = same_kind kinds.Number k e
@@ -133,7 +133,7 @@ end_kind escape k e = none_some k _ e
 end_kind (digits count unit) k e = none_some k _ e
 end_kind closed k e = same_kind kinds.Text k e
 
-kind_if : (kind : Kind) (after : Lexeme) (o : Option Lexeme) → o ≡ Some after → KindIf kind o → kind_of after ≡ kind
+pub kind_if : (kind : Kind) (after : Lexeme) (o : Option Lexeme) → o ≡ Some after → KindIf kind o → kind_of after ≡ kind
 kind_if kind after o e h = (subst (KindIf kind) e h).fact
 
 -- a word is of the kind of its states

@@ -25,3 +25,11 @@ pub mod NumberWords
 pub mod StringWords
 pub mod CharTexts
 pub mod Productions
+pub mod Shapes
+pub mod Depths
+pub mod Every
+pub mod Placed
+pub mod CopiedRuns
+pub mod ValueFacts
+pub mod LevelFacts
+pub mod FirstHolders

@@ -1,12 +1,12 @@
 -- Searching the members of a map for the last of a name.
-use Rattle.std.proofs.Common.{◌≡◌, ◌≢◌, inl, inr, ℕ, suc, ◌-◌, Bool, true, false, cond, List, Option, Some, None, refl, sym, subst}
+use Rattle.std.proofs.Common.{◌≡◌, ◌≢◌, inl, inr, ℕ, suc, ◌-◌, Bool, true, false, cond, List, Option, Some, None, refl, sym, subst, arith}
 use Rattle.std.specs.Prelude.{MatchOption, IfSome, IsTrue, ◌↔◌}
 use Rattle.json_text.specs.declared.spot.Spot.{Spot}
 use Rattle.json_text.specs.declared.doc.Doc.{Doc}
 use Rattle.json_text.specs.declared.doc.Node.{Node}
 use Rattle.json_text.specs.Forest.{Forest, empty, grows}
 use Rattle.json_text.specs.Unescape.{HasName}
-use Rattle.json_text.specs.Doc.{bytes_read, StandsAt, ForFirst, OfNode, NoneNamed, IsTailOf, IsLastMember, IsLastNamed}
+use Rattle.json_text.specs.Doc.{bytes_read, IsAfter, StandsAt, ForFirst, OfNode, NoneNamed, IsTailOf, IsLastMember, IsLastNamed}
 use Rattle.json_text.proofs.Tables.{false_true}
 
 abbrev pub or_else : Option Node → Option Node → Option Node
@@ -64,6 +64,11 @@ going_end doc name values found h = h.onward None (subst (NoneNamed (bytes_read 
 abbrev pub nodes_left : ℕ → Option Node → ℕ
 nodes_left n None = 0
 nodes_left n (Some node) = suc (n - node.number)
+
+-- the one after a later one is later
+pub after_on : (first later : Node) (next : Option Node) → IsAfter first later → IfSome next (IsAfter later) → IfSome next (IsAfter first)
+after_on first later None h g = tt
+after_on first later (Some node) h g = omega (arith, h, g)
 
 pub chosen_is : (P : Node → Type 0) (b : Bool) (here found r : Option Node) → r ≡ cond b here found → IfSome here P → IfSome found P → IfSome r P
 chosen_is P true here found r e h f = subst (λ x. IfSome x P) (sym e) h

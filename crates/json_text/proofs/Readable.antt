@@ -1,5 +1,5 @@
 -- Each text and each name that a JSON text holds is UTF-8.
-use Rattle.std.proofs.Common.{◌≡◌, ◌⊎◌, inl, inr, ℕ, zero, suc, ◌+◌, ◌-◌, ◌<◌, Bool, true, false, ◌||◌, cond, eqb, List, [], ◌∷◌, ◌++◌, length, take, drop, get_or, Option, Some, None, refl, sym, ap, subst, ◌∙◌, arith}
+use Rattle.std.proofs.Common.{◌≡◌, ◌⊎◌, inl, inr, ℕ, suc, ◌+◌, ◌-◌, ◌<◌, Bool, true, false, ◌||◌, cond, eqb, List, [], ◌∷◌, ◌++◌, length, take, drop, get_or, Option, Some, None, refl, sym, ap, subst, ◌∙◌, arith}
 use Rattle.std.specs.Prelude.{MatchOption}
 use Rattle.std.specs.Str.{IsUtf8, is_utf8}
 use Rattle.std.proofs.lemmas.Str.{IsUtf8-nil, is_utf8-from_IsUtf8}
@@ -16,14 +16,15 @@ use Rattle.json_text.specs.declared.part.Part.TheVariants.{Start as start, Next 
 use Rattle.json_text.specs.declared.lexeme.Lexeme.{Lexeme}
 use Rattle.json_text.specs.declared.lexeme.Lexeme.TheVariants.{Minus as minus, LeadingZero as leading_zero, Integer as integer, Point as point, Decimals as decimals, Exponent as exponent, ExponentSign as exponent_sign, ExponentDigits as exponent_digits, Letters as letters, Plain as plain, Tail as tail, Escape as escape, Digits as digits, Closed as closed}
 use Rattle.json_text.specs.declared.unescape.Pending.TheVariants.{Between as between}
-use Rattle.json_text.specs.Forest.{Forest, empty, grows, count}
+use Rattle.json_text.specs.Forest.{Forest, count}
 use Rattle.json_text.specs.Lexeme.{next, begins, ends, Spells, done, more, is_digit, literal, next_letter, ends_after_letters, fraction_from, exponent_from}
 use Rattle.json_text.specs.Grammar.{bracket_kind, turns, takes_value, Completes, blank, word, nested, member_name, turn, close, finish}
 use Rattle.json_text.specs.Unescape.{unescaped, content, text_in, name_in}
-use Rattle.json_text.specs.Reading.{entries, Holds}
+use Rattle.json_text.specs.Reading.{Holds}
 use Rattle.json_text.specs.Readable.{IsReadable, TextsAreReadable}
 use Rattle.json_text.proofs.Tables.{none_some}
 use Rattle.json_text.proofs.StringTexts.{inside_of}
+use Rattle.json_text.proofs.Every.{Every, every_kept}
 
 -- ---- numbers and literals are no texts
 
@@ -167,10 +168,6 @@ PartReadable bytes (named span) = SpanReadable bytes span
 PartReadable bytes (member span) = SpanReadable bytes span
 PartReadable bytes other = Unit {0}
 
-abbrev AllReadable : List ℕ → Forest → Type 0
-AllReadable bytes empty = Unit {0}
-AllReadable bytes (grows s children later) = IsReadable bytes s × AllReadable bytes children × AllReadable bytes later
-
 utf8_test : (text : List ℕ) → IsUtf8 text → is_utf8 text ≡ true
 utf8_test text u = is_utf8-from_IsUtf8 text u
 
@@ -246,7 +243,7 @@ word_readable bytes i byte s j t kind first name b sp h = elim (begins_is byte f
   | inr wordy ↦ no_text bytes (record { kind = kind; span = record { start = i; end = j }; name = name }) kind (wordy_spells first (suc i) s j t kind sp wordy)
 ]
 
-values_readable : (bytes : List ℕ) (level : Option Bracket) (here : Part) (i : ℕ) (s : List ℕ) (j : ℕ) (t : List ℕ) (values : Forest) → Completes level here i s j t values → s ≡ drop i bytes → PartReadable bytes here → AllReadable bytes values
+values_readable : (bytes : List ℕ) (level : Option Bracket) (here : Part) (i : ℕ) (s : List ℕ) (j : ℕ) (t : List ℕ) (values : Forest) → Completes level here i s j t values → s ≡ drop i bytes → PartReadable bytes here → Every (IsReadable bytes) values
 values_readable bytes level here i (byte ∷ s) j t values (blank b c) h p = values_readable bytes level here (suc i) s j t values c (drop_tail bytes i byte s h) p
 values_readable bytes level here i (byte ∷ s) j t values (turn {after = after} q c) h p = values_readable bytes level after (suc i) s j t values c (drop_tail bytes i byte s h) (turns_readable bytes level here after byte q p)
 values_readable bytes level here i (byte ∷ s) j t values (close c) h p = tt
@@ -267,24 +264,7 @@ values_readable bytes level here i s j t values (finish e) h p = tt
 
 -- ---- the kept values
 
-abbrev ListReadable : List ℕ → List Entry → Type 0
-ListReadable bytes [] = Unit {0}
-ListReadable bytes (e ∷ es) = IsReadable bytes e.spot × ListReadable bytes es
-
-list_append : (bytes : List ℕ) (xs ys : List Entry) → ListReadable bytes xs → ListReadable bytes ys → ListReadable bytes (xs ++ ys)
-list_append bytes [] ys hx hy = hy
-list_append bytes (x ∷ xs) ys hx hy = (hx.0, list_append bytes xs ys hx.1 hy)
-
-entries_readable : (bytes : List ℕ) (depth : ℕ) (values : Forest) → AllReadable bytes values → ListReadable bytes (entries depth values)
-unfolding entries
-entries_readable bytes depth empty h = tt
-entries_readable bytes depth (grows s children later) h = (h.0, list_append bytes (entries (suc depth) children) (entries depth later) (entries_readable bytes (suc depth) children h.1) (entries_readable bytes depth later h.2))
-
-list_at : (bytes : List ℕ) (xs : List Entry) (k : ℕ) (e : Entry) → k < length xs → ListReadable bytes xs → IsReadable bytes (get_or xs k e).spot
-list_at bytes [] k e lt h = absurd (omega (arith, lt))
-list_at bytes (x ∷ xs) zero e lt h = h.0
-list_at bytes (x ∷ xs) (suc k) e lt h = list_at bytes xs k e (omega (arith, lt)) h.1
-
 pub texts_readable : (bytes : List ℕ) (nodes : List Entry) → Holds bytes nodes → TextsAreReadable bytes nodes
 texts_readable bytes nodes h k e lt =
-    list_at bytes nodes k e lt (subst (ListReadable bytes) (sym h.nodes_are) (entries_readable bytes 0 h.values (values_readable bytes None start 0 bytes (length bytes) [] h.values h.text refl tt)))
+    subst (λ (x : List Entry). k < length x → IsReadable bytes (get_or x k e).spot) (sym h.nodes_are)
+    (every_kept (IsReadable bytes) 0 h.values (values_readable bytes None start 0 bytes (length bytes) [] h.values h.text refl tt) k e) lt

@@ -8,7 +8,7 @@ use Rattle.byte_lanes.specs.Bytes.{is_special}
 use Rattle.byte_lanes.specs.Places.{NonePasses, IsLeastPlace}
 use Rattle.byte_lanes.specs.Spelling.{spelled, spelled_byte}
 
-or_no : (a b : Bool) → (a || b) ≡ false → (a ≡ false) × (b ≡ false)
+pub or_no : (a b : Bool) → (a || b) ≡ false → (a ≡ false) × (b ≡ false)
 or_no true b h = absurd (let bad : ⊥ = cc in bad)
 or_no false b h = (refl, h)
 

@@ -15,10 +15,10 @@ use Rattle.json_text.proofs.Walks.{first_entry, no_entries, grows_some, own_entr
 -- ---- what stands behind a value
 
 module _ (doc : Doc) (n : ℕ) (s : Spot) (c l : Forest) (h : StandAt doc n (grows s c l)) where
-  children_stand : StandAt doc (n + 1) c
+  pub children_stand : StandAt doc (n + 1) c
   children_stand = record { depth = suc h.depth; others = entries h.depth l ++ h.others; are = behind doc n s c l h; end = row_below h.depth (suc h.depth) l h.others (omega arith) h.end }
 
-  later_stand : StandAt doc (n + (1 + count c)) l
+  pub later_stand : StandAt doc (n + (1 + count c)) l
   later_stand = record { depth = h.depth; others = h.others; are = beyond doc n s c l h; end = h.end }
 
 -- ---- one row from the same entries
@@ -46,7 +46,7 @@ row_same d (grows s c l) (grows t b r) o p e ho hp =
     let outer = row_same d l r o p inner.1 ho hp in
     (ap (λ x. grows x c l) spots ∙ ap (λ x. grows t x l) inner.0 ∙ ap (grows t b) outer.0, outer.1)
 
-stands_same : (doc : Doc) (n : ℕ) (s t : Spot) (c b l r : Forest) → StandAt doc n (grows s c l) → StandAt doc n (grows t b r) → (c ≡ b) × (l ≡ r)
+pub stands_same : (doc : Doc) (n : ℕ) (s t : Spot) (c b l r : Forest) → StandAt doc n (grows s c l) → StandAt doc n (grows t b r) → (c ≡ b) × (l ≡ r)
 stands_same doc n s t c b l r h g =
     let some : Entry = record { spot = s; depth = 0; size = 0 } in
     let depth : g.depth ≡ h.depth = sym (ap (λ x. x.depth) (own_entry doc n t b r g some)) ∙ ap (λ x. x.depth) (own_entry doc n s c l h some) in

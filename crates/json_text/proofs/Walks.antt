@@ -92,7 +92,7 @@ is_empty_or : (l : Forest) → (l ≡ empty) ⊎ (l ≢ empty)
 is_empty_or empty = inl refl
 is_empty_or (grows s c l) = inr (grows_some s c l)
 
-own_depth : (doc : Doc) (n : ℕ) (e : Entry) (s : Spot) (c l : Forest) (h : StandAt doc n (grows s c l)) → e ≡ get_or (values_kept doc) n e → e.depth ≡ h.depth
+pub own_depth : (doc : Doc) (n : ℕ) (e : Entry) (s : Spot) (c l : Forest) (h : StandAt doc n (grows s c l)) → e ≡ get_or (values_kept doc) n e → e.depth ≡ h.depth
 own_depth doc n e s c l h is = ap (λ x. x.depth) (is ∙ own_entry doc n s c l h e)
 
 pub own_spot : (doc : Doc) (n : ℕ) (e : Entry) (values : Forest) → e ≡ get_or (values_kept doc) n e → StandAt doc n values → ForFirst values (λ spot children later. e.spot ≡ spot)
@@ -170,3 +170,7 @@ next_past doc n m e (grows s c l) is place past h = elim (is_empty_or l) [
 pub for_first : (values : Forest) (P Q : Spot → Forest → Forest → Type 0) → ForFirst values P → ((s : Spot) (children later : Forest) → P s children later → Q s children later) → ForFirst values Q
 for_first empty P Q h f = tt
 for_first (grows s children later) P Q h f = f s children later h
+
+-- a value stands among those that are kept
+pub stands_inside : (doc : Doc) (n : ℕ) (s : Spot) (c l : Forest) → StandAt doc n (grows s c l) → n < length (values_kept doc)
+stands_inside doc n s c l h = inside_at (values_kept doc) n (record { spot = s; depth = h.depth; size = 1 + count c }) ((entries (suc h.depth) c ++ entries h.depth l) ++ h.others) (whole doc n s c l h)

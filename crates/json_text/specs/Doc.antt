@@ -5,7 +5,7 @@ use Rattle.json_text.specs.declared.spot.Spot.{Spot}
 use Rattle.json_text.specs.declared.spot.Entry.{Entry}
 use Rattle.json_text.specs.declared.doc.Doc.{Doc}
 use Rattle.json_text.specs.declared.doc.Node.{Node}
-use Rattle.json_text.specs.Forest.{Forest, empty, grows}
+use Rattle.json_text.specs.Forest.{Forest, empty, grows, count}
 use Rattle.json_text.specs.Grammar.{IsText}
 use Rattle.json_text.specs.Faults.{IsClean}
 use Rattle.json_text.specs.Reading.{entries}
@@ -82,6 +82,7 @@ pub record Shows (doc : Doc) (bytes : List ℕ) : Type 0 where
   pub clean : IsClean bytes (length bytes + 1)
   pub from_root : (node : Node) → IsRoot node → StandsAt doc node values
   pub same : bytes_read doc ≡ bytes
+  pub all : length (values_kept doc) ≡ count values
 
 -- a fact of the first of some values, if there is one: of itself, of what it holds, and of the values after it
 abbrev pub ForFirst : Forest → (Spot → Forest → Forest → Type 0) → Type 0

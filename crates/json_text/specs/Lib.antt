@@ -17,3 +17,5 @@ pub mod Written
 pub mod Visits
 pub mod Productions
 pub mod Words
+pub mod Shape
+pub mod Levels

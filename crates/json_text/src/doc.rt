@@ -1,19 +1,21 @@
-ghost use Rattle.std.specs.Prelude.{◌≡◌, ◌≢◌, ◌<◌, ◌≤◌, length, slice_index_or, MatchOption, IfSome, IfNone, IfOk, IsTrue, ◌↔◌, slice_get, Some, if◌then◌else◌};
+ghost use Rattle.std.specs.Prelude.{◌≡◌, ◌≢◌, ◌<◌, ◌≤◌, ◌++◌, length, slice_index_or, MatchOption, IfSome, IfNone, IfOk, OnOk, OnErr, IsTrue, ◌↔◌, slice_get, Some, if◌then◌else◌};
 ghost use Rattle.json_text.specs.Forest.{empty};
 ghost use Rattle.json_text.specs.Unescape.{HasText, HasName, text_shown, name_shown};
-ghost use Rattle.json_text.specs.Readable.{TextsAreReadable};
+ghost use Rattle.json_text.specs.Readable.{TextsAreReadable, ValuesAreWithin};
+ghost use Rattle.json_text.specs.Reading.{Holds};
+ghost use Rattle.json_text.specs.Shape.{value_bytes};
 ghost use Rattle.std.specs.Str.{IsUtf8};
 
 use crate::kind::Kind;
-use crate::shown::{has_name, has_text, name_bytes, text_byte_of, text_bytes};
+use crate::shown::{has_name, has_text, push_name_of, push_text_of, text_byte_of};
 use crate::spot::Entry;
-use side_base::{NoMemory, Text, TextErr};
-use std::alloc::{AllocError, Global};
+use side_base::{Blob, NoMemory, Text};
+use std::alloc::Global;
 
 /// The number of a value of a document.
 #[derive(Clone, Copy, Debug, PartialEq, Eq)]
 pub struct Node {
-    number: usize,
+    pub(crate) number: usize,
 }
 
 /// A JSON text that has been read: its bytes, and its values as spans of them.
@@ -23,22 +25,25 @@ pub struct Doc<'a> {
     pub(crate) nodes: Vec<Entry>,
     ghost some: { 0 < length nodes.items },
     ghost readable: { TextsAreReadable bytes.now nodes.items },
+    ghost within: { ValuesAreWithin bytes.now nodes.items },
+    ghost read: { ∥ Holds bytes.now nodes.items ∥₁ },
 }
 
 impl<'a> Doc<'a> {
-    ghost use Rattle.json_text.specs.Doc.{bytes_read, values_kept, IsNode, IsRoot, IsDepthAt, IsAfter, StandsAt, OfNode, IsLastNamed};
+    ghost use Rattle.json_text.specs.Doc.{bytes_read, values_kept, IsNode, IsRoot, IsDepthAt, IsAfter, StandsAt, OfNode, IsLastNamed, Shows};
 
     /// The value that the text is.
     pub fn root(&self) -> Node
         ensures first { IsRoot result }
         ensures node { IsNode self.now result }
+        ensures read { ∥ Shows self.now (bytes_read self.now) ∥₁ }
     {
         let _nodes = &self.nodes;
         Node { number: 0 }
     }
 
     /// The bytes that were read.
-    pub fn bytes(&self) -> &[u8]
+    pub fn bytes(&self) -> &'a [u8]
         ensures { result.now ≡ bytes_read self.now }
     {
         self.bytes
@@ -77,15 +82,27 @@ impl<'a> Doc<'a> {
         requires { IsNode self.now n }
         ensures start { OfNode self.now n (λ spot children later. result.0 ≡ spot.span.start) }
         ensures end { OfNode self.now n (λ spot children later. result.1 ≡ spot.span.end) }
+        ensures some { result.0 < result.1 }
+        ensures within { result.1 ≤ length (bytes_read self.now) }
     {
         let span = self.entry(n).spot.span;
         (span.start, span.end)
+    }
+
+    /// The bytes of the value, without white space round it; those of a text with its quotes.
+    pub fn value_bytes(&self, n: Node) -> &'a [u8]
+        requires { IsNode self.now n }
+        ensures { OfNode self.now n (λ spot children later. result.now ≡ value_bytes (bytes_read self.now) spot) }
+    {
+        let (start, end) = self.span(n);
+        &self.bytes[start..end]
     }
 
     /// The first item of a list, or the value of the first member of a map; `None` exactly where there is none.
     pub fn first(&self, n: Node) -> Option<Node>
         requires { IsNode self.now n }
         ensures node { IfSome result (IsNode self.now) }
+        ensures after { IfSome result (IsAfter n) }
         ensures first { OfNode self.now n (λ spot children later. MatchOption result (children ≡ empty) (λ m. StandsAt self.now m children × (children ≢ empty))) }
     {
         let own = *self.entry(n);
@@ -128,6 +145,7 @@ impl<'a> Doc<'a> {
     pub fn member(&self, n: Node, name: &[u8]) -> Option<Node>
         requires { IsNode self.now n }
         ensures node { IfSome result (IsNode self.now) }
+        ensures after { IfSome result (IsAfter n) }
         ensures last { OfNode self.now n (λ spot children later. IsLastNamed self.now name.now children result) }
     {
         let mut found = None;
@@ -172,8 +190,9 @@ impl<'a> Doc<'a> {
         requires { IsNode self.now n }
         ensures { OfNode self.now n (λ spot children later. IfOk result (λ text. text ≡ text_shown (bytes_read self.now) spot)) }
     {
-        match text_bytes(alloc, self.bytes, self.entry(n).spot) {
-            Ok(bytes) => text_from(alloc, &bytes),
+        let mut out = Blob::new(alloc);
+        match push_text_of(&mut out, self.bytes, self.entry(n).spot) {
+            Ok(()) => text_from(out),
             Err(error) => Err(error),
         }
     }
@@ -183,10 +202,29 @@ impl<'a> Doc<'a> {
         requires { IsNode self.now n }
         ensures { OfNode self.now n (λ spot children later. IfOk result (λ text. text ≡ name_shown (bytes_read self.now) spot)) }
     {
-        match name_bytes(alloc, self.bytes, self.entry(n).spot) {
-            Ok(bytes) => text_from(alloc, &bytes),
+        let mut out = Blob::new(alloc);
+        match push_name_of(&mut out, self.bytes, self.entry(n).spot) {
+            Ok(()) => text_from(out),
             Err(error) => Err(error),
         }
+    }
+
+    /// Appends the text that the value is; nothing for another value. Without memory `out` stays as it was.
+    pub fn push_text(&self, n: Node, out: &mut Blob) -> Result<(), NoMemory>
+        requires { IsNode self.now n }
+        ensures ok { OfNode self.now n (λ spot children later. OnOk result (out.new ≡ out.old ++ text_shown (bytes_read self.now) spot)) }
+        ensures err { OnErr result (out.new ≡ out.old) }
+    {
+        push_text_of(out, self.bytes, self.entry(n).spot)
+    }
+
+    /// Appends the name of a member; nothing for another value. Without memory `out` stays as it was.
+    pub fn push_name(&self, n: Node, out: &mut Blob) -> Result<(), NoMemory>
+        requires { IsNode self.now n }
+        ensures ok { OfNode self.now n (λ spot children later. OnOk result (out.new ≡ out.old ++ name_shown (bytes_read self.now) spot)) }
+        ensures err { OnErr result (out.new ≡ out.old) }
+    {
+        push_name_of(out, self.bytes, self.entry(n).spot)
     }
 }
 
@@ -196,14 +234,13 @@ fn chosen(named: bool, node: Node, found: Option<Node>) -> Option<Node>
     if named { Some(node) } else { found }
 }
 
-// A text of these bytes.
-fn text_from(alloc: Global, bytes: &[u8]) -> Result<Text, NoMemory>
-    requires { IsUtf8 bytes.now }
-    ensures { IfOk result (λ text. text ≡ bytes.now) }
+// The bytes as a text.
+fn text_from(bytes: Blob) -> Result<Text, NoMemory>
+    requires { IsUtf8 bytes }
+    ensures { IfOk result (λ text. text ≡ bytes) }
 {
-    match Text::from_bytes(alloc, bytes) {
+    match bytes.into_text() {
         Ok(text) => Ok(text),
-        Err(TextErr::NoMemory) => Err(AllocError),
-        Err(TextErr::NotUtf8 { at: _ }) => unreachable!(),
+        Err(_) => unreachable!(),
     }
 }

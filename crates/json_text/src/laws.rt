@@ -1,5 +1,5 @@
 //! What holds of the definitions that the contracts cite, as functions whose contract is the law.
-ghost use Rattle.std.specs.Prelude.{◌≡◌, ℕ, ◌<◌, List, ◌↔◌};
+ghost use Rattle.std.specs.Prelude.{◌≡◌, ℕ, ◌<◌, List, ◌↔◌, false, length, ◌+◌, ◌≤◌};
 ghost use Rattle.std.specs.List.{AllByRecursion};
 ghost use Rattle.std.specs.Str.{IsUtf8};
 ghost use Rattle.json_text.specs.declared.doc.Doc.{Doc};
@@ -13,6 +13,9 @@ ghost use Rattle.json_text.specs.Productions.{Char, IsChar, inside_of, text_of};
 ghost use Rattle.json_text.specs.Unescape.{unescaped};
 ghost use Rattle.json_text.specs.Words.{HasWord, HasProduced};
 ghost use Rattle.json_text.specs.Written.{ReadsBack};
+ghost use Rattle.json_text.specs.Grammar.{IsText};
+ghost use Rattle.json_text.specs.Shape.{AreInRow, nesting, IsPlaced};
+ghost use Rattle.json_text.specs.Faults.{IsClean};
 
 /// What `push_string` writes of a text is a JSON text of one string in which nothing is wrong, so that `read` takes it
 /// unless memory runs out; and the text of that string, as `Doc::text_of` tells it, is the text that was written.
@@ -32,4 +35,21 @@ pub fn a_walk_visits_all_items()
 pub fn words_are_those_of_the_productions()
     ensures words { (kind : Kind) (i j : ℕ) (s t : List ℕ) → HasWord kind i s j t ↔ HasProduced kind i s j t }
     ensures texts { (chars : List Char) → AllByRecursion IsChar chars → unescaped (inside_of chars) ≡ text_of chars }
+{}
+
+/// The values of a text stand within it, one behind the other and each within the list or the map that holds it; the values
+/// of maps, and no others, have names; and only lists and maps hold values.
+pub fn values_stand_in_rows()
+    ensures { (bytes : List ℕ) (values : Forest) → IsText bytes values → AreInRow false 0 (length bytes) values }
+{}
+
+/// The values of a text in which nothing is wrong are nested at most 64 deep.
+pub fn values_are_nested_64_deep_at_most()
+    ensures { (bytes : List ℕ) (values : Forest) → IsText bytes values → IsClean bytes (length bytes + 1) → nesting values ≤ 64 }
+{}
+
+/// Each value of a text that was read stands within its bytes, behind its name and round what it holds, and is nested 64 deep
+/// at most.
+pub fn each_value_has_its_place()
+    ensures { (doc : Doc) (bytes : List ℕ) (node : Node) (spot : Spot) (children later : Forest) → Shows doc bytes → StandsAt doc node (grows spot children later) → IsPlaced bytes spot children }
 {}

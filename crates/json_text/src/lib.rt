@@ -1,10 +1,12 @@
 //! JSON read exactly (RFC 8259): where a text goes wrong, and what it holds as spans of its own bytes.
 #![tactic(auto)]
 
+mod copies;
 mod doc;
 mod error;
 mod kind;
 pub mod laws;
+mod levels;
 mod lexeme;
 mod parse;
 mod part;
@@ -24,4 +26,4 @@ pub use doc::{Doc, Node};
 pub use error::JsonErr;
 pub use kind::Kind;
 pub use parse::read;
-pub use write::push_string;
+pub use write::{push_string, push_string_of};

@@ -157,8 +157,8 @@ fn plain_end(bytes: &[u8], at: usize, above: usize) -> usize
     if above <= at {
         return at;
     }
-    match first_special(bytes, at) {
-        Some(place) if place < above => place,
-        _ => above,
+    match first_special(&bytes[..above], at) {
+        Some(place) => place,
+        None => above,
     }
 }

@@ -1,11 +1,12 @@
 // The texts of a value and of its name.
-ghost use Rattle.std.specs.Prelude.{◌≡◌, ◌↔◌, IsTrue, IfOk, slice_get};
+ghost use Rattle.std.specs.Prelude.{◌≡◌, ◌↔◌, ◌++◌, IsTrue, OnOk, OnErr, slice_get};
 ghost use Rattle.json_text.specs.Unescape.{HasText, HasName, text_shown, name_shown};
 
+use crate::copies::push_unescaped;
 use crate::kind::Kind;
 use crate::spot::Spot;
-use crate::texts::{byte_of, content_of, spells, unescape};
-use std::alloc::{AllocError, Global};
+use crate::texts::{byte_of, content_of, spells};
+use side_base::{Blob, NoMemory};
 
 /// Whether the value is this text.
 pub(crate) fn has_text(bytes: &[u8], spot: Spot, text: &[u8]) -> bool
@@ -45,26 +46,28 @@ pub(crate) fn text_byte_of(bytes: &[u8], spot: Spot, number: usize) -> Option<u8
     }
 }
 
-/// The bytes of the text that the value is; none for another value.
-pub(crate) fn text_bytes(alloc: Global, bytes: &[u8], spot: Spot) -> Result<Vec<u8>, AllocError>
-    ensures { IfOk result (λ text. text.items ≡ text_shown bytes.now spot) }
+/// Appends the text that the value is; nothing for another value. Without memory `out` stays as it was.
+pub(crate) fn push_text_of(out: &mut Blob, bytes: &[u8], spot: Spot) -> Result<(), NoMemory>
+    ensures ok { OnOk result (out.new ≡ out.old ++ text_shown bytes.now spot) }
+    ensures err { OnErr result (out.new ≡ out.old) }
 {
     match spot.kind {
-        Kind::Text => unescape(alloc, content_of(bytes, spot.span)),
-        Kind::Null => Ok(Vec::new(alloc)),
-        Kind::Flag { on: _ } => Ok(Vec::new(alloc)),
-        Kind::Number => Ok(Vec::new(alloc)),
-        Kind::List => Ok(Vec::new(alloc)),
-        Kind::Map => Ok(Vec::new(alloc)),
+        Kind::Text => push_unescaped(out, content_of(bytes, spot.span)),
+        Kind::Null => Ok(()),
+        Kind::Flag { on: _ } => Ok(()),
+        Kind::Number => Ok(()),
+        Kind::List => Ok(()),
+        Kind::Map => Ok(()),
     }
 }
 
-/// The bytes of the name of a member; none for another value.
-pub(crate) fn name_bytes(alloc: Global, bytes: &[u8], spot: Spot) -> Result<Vec<u8>, AllocError>
-    ensures { IfOk result (λ name. name.items ≡ name_shown bytes.now spot) }
+/// Appends the name of a member; nothing for another value. Without memory `out` stays as it was.
+pub(crate) fn push_name_of(out: &mut Blob, bytes: &[u8], spot: Spot) -> Result<(), NoMemory>
+    ensures ok { OnOk result (out.new ≡ out.old ++ name_shown bytes.now spot) }
+    ensures err { OnErr result (out.new ≡ out.old) }
 {
     match spot.name {
-        Some(span) => unescape(alloc, content_of(bytes, span)),
-        None => Ok(Vec::new(alloc)),
+        Some(span) => push_unescaped(out, content_of(bytes, span)),
+        None => Ok(()),
     }
 }

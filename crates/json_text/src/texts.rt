@@ -1,12 +1,11 @@
 // The texts that strings spell: compared, told byte by byte, and copied.
-ghost use Rattle.std.specs.Prelude.{◌≡◌, ◌≤◌, ◌<◌, ◌↔◌, ◌++◌, ℕ, List, length, IsTrue, MatchOption, IfOk, slice_get};
+ghost use Rattle.std.specs.Prelude.{◌≡◌, ◌≤◌, ◌<◌, ◌↔◌, ◌++◌, ℕ, List, length, IsTrue, MatchOption, slice_get};
 ghost use Rattle.json_text.specs.Piece.{piece_bytes};
 ghost use Rattle.json_text.specs.Unescape.{unescaped, content};
 
 use crate::piece::Piece;
 use crate::spot::Span;
 use crate::unescape::{Pending, pending_after, piece_after};
-use std::alloc::{AllocError, Global};
 
 /// The bytes between the quotes of a string.
 pub(crate) fn content_of(bytes: &[u8], span: Span) -> &[u8]
@@ -67,18 +66,4 @@ pub(crate) fn byte_of(inside: &[u8], number: usize) -> Option<u8>
         pending = pending_after(pending, *byte);
     }
     None
-}
-
-/// The bytes of the text that the inside of a string spells.
-pub(crate) fn unescape(alloc: Global, inside: &[u8]) -> Result<Vec<u8>, AllocError>
-    ensures { IfOk result (λ text. text.items ≡ unescaped inside.now) }
-{
-    let mut text = Vec::with_capacity(alloc, inside.len())?;
-    let mut pending = Pending::Between { high: 0 };
-    for byte in inside {
-        let piece = piece_after(pending, *byte);
-        text.extend_from_slice(&piece.bytes[..piece.len])?;
-        pending = pending_after(pending, *byte);
-    }
-    Ok(text)
 }

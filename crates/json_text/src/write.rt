@@ -12,7 +12,15 @@ pub fn push_string(out: &mut Blob, text: &Text) -> Result<(), NoMemory>
     ensures ok { OnOk result (out.new ≡ out.old ++ string_of text.now) }
     ensures err { OnErr result (out.new ≡ out.old) }
 {
-    let bytes = text.bytes();
+    push_string_of(out, text.as_str())
+}
+
+/// Appends the text as `push_string` does.
+pub fn push_string_of(out: &mut Blob, text: &str) -> Result<(), NoMemory>
+    ensures ok { OnOk result (out.new ≡ out.old ++ string_of text.now) }
+    ensures err { OnErr result (out.new ≡ out.old) }
+{
+    let bytes = text.as_bytes();
     let inside = match usize::try_from(escaped_len(bytes)) {
         Ok(inside) => inside,
         Err(_) => return Err(AllocError),

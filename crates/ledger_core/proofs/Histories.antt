@@ -5,7 +5,7 @@ use Rattle.std.specs.List.{flat_map, filter}
 use Rattle.std.proofs.lemmas.List.{map-append}
 use Rattle.std.proofs.lemmas.List.Concat.{flat_map-append}
 use Rattle.std.proofs.lemmas.List.Elements.{filter-append}
-use Rattle.std.proofs.lemmas.List.Sums.{fold_push, sum_by_push}
+use Rattle.std.proofs.lemmas.List.Sums.{fold-append, fold_push, sum_by_push}
 use Rattle.std.proofs.lemmas.Bool.{or_parts, or_from, and_left, ne_eqb}
 use Rattle.ledger_core.specs.declared.plan.Aim.{Aim}
 use Rattle.ledger_core.specs.declared.plan.Plan.{Plan}
@@ -14,7 +14,7 @@ use Rattle.ledger_core.specs.declared.command.LedgerCmd.TheVariants.{Accept, Tak
 use Rattle.ledger_core.specs.declared.reply.LedgerReply.{LedgerReply}
 use Rattle.ledger_core.specs.declared.reply.LedgerReply.TheVariants as says
 use Rattle.ledger_core.specs.Message.{Step, Pair, pair_of, pairs_in, is_pair, pair_at, letter_of, made_by, messages_after, messages_of, pairs_of}
-use Rattle.ledger_core.specs.Standing.{Standing, settles, takes, is_settling, is_handling, last_of, last_settling, last_handling, status_in, claim_by, claim_in, due_by, due_in, words_by, standing, standings}
+use Rattle.ledger_core.specs.Standing.{Standing, settles, takes, is_settling, is_handling, last_of, last_settling, last_handling, status_in, claim_by, claim_in, due_by, due_in, words_by, words_with, words_in, standing, standings}
 use Rattle.ledger_core.specs.Course.{Course, is_claim, course_of, standing_at, kept_if, is_held}
 use Rattle.ledger_core.specs.Reply.{IsReply, IsTaken, IsSettled}
 use Rattle.ledger_core.specs.After.{moved, settled_status, fresh, fresh_one, letters, fresh_by, one_if, added_by, course_after}
@@ -48,16 +48,12 @@ due_more : (moment : ℕ) (b : Bool) (e : Step) (o : Option Step) → due_in mom
 due_more moment true e o = refl
 due_more moment false e o = refl
 
-words_more : (test : Step → Bool) (history : List Step) (e : Step) → flat_map (λ (x : Step). words_by x.cmd x.reply) (filter test (history ++ e ∷ []))
-    ≡ (if test e then flat_map (λ (x : Step). words_by x.cmd x.reply) (filter test history) ++ words_by e.cmd e.reply else flat_map (λ (x : Step). words_by x.cmd x.reply) (filter test history))
-words_more test history e = ap (flat_map (λ (x : Step). words_by x.cmd x.reply)) (passing test history e) ∙ by_test (test e)
+words_more : (test : Step → Bool) (history : List Step) (e : Step) → words_in (filter test (history ++ e ∷ [])) ≡ (if test e then words_by e.cmd e.reply ++ words_in (filter test history) else words_in (filter test history))
+words_more test history e = ap words_in (passing test history e) ∙ by_test (test e)
   where
-    by_test : (b : Bool) → flat_map (λ (x : Step). words_by x.cmd x.reply) (filter test history ++ cond b (e ∷ []) [])
-        ≡ (if b then flat_map (λ (x : Step). words_by x.cmd x.reply) (filter test history) ++ words_by e.cmd e.reply else flat_map (λ (x : Step). words_by x.cmd x.reply) (filter test history))
-    by_test true =
-        flat_map-append (λ (x : Step). words_by x.cmd x.reply) (filter test history) (e ∷ [])
-        ∙ ap (λ ws. flat_map (λ (x : Step). words_by x.cmd x.reply) (filter test history) ++ ws) (append-nil (words_by e.cmd e.reply))
-    by_test false = ap (flat_map (λ (x : Step). words_by x.cmd x.reply)) (append-nil (filter test history))
+    by_test : (b : Bool) → words_in (filter test history ++ cond b (e ∷ []) []) ≡ (if b then words_by e.cmd e.reply ++ words_in (filter test history) else words_in (filter test history))
+    by_test true = fold-append words_with [] (filter test history) (e ∷ [])
+    by_test false = ap words_in (append-nil (filter test history))
 
 -- what is said of a pair, with one more entry
 pub standing_more : (history : List Step) (e : Step) (pair : Pair) → standing (history ++ e ∷ []) pair ≡ moved e.cmd e.reply (standing history pair)
@@ -103,7 +99,7 @@ untouched_standing history n event aims hops moment aim e =
       status = status_in aim.path (last_of (settled i));
       claim = claim_in (last_of (e i));
       due = due_in moment (last_of (settled i));
-      words = flat_map (λ (x : Step). words_by x.cmd x.reply) (settled i);
+      words = words_in (settled i);
     }
 
 new_standings : (history : List Step) (n : ℕ) (event : List ℕ) (whole aims : List Aim) (hops moment : ℕ)

@@ -1,11 +1,12 @@
 -- A row that is taken out of the books to be settled, and one that is not there.
-use Rattle.std.proofs.Common.{◌≡◌, ◌∷◌, ◌++◌, ℕ, true, false, cond, List, [], Option, Some, None, refl, sym, ap, subst, ◌∙◌}
+use Rattle.std.proofs.Common.{◌≡◌, ◌∷◌, ℕ, true, false, cond, List, Option, Some, None, refl, sym, ap, subst, ◌∙◌}
 use Rattle.std.specs.Prelude.{option_map}
 use Rattle.std.specs.Ordering.{eq_by_cmp}
 use Rattle.std.specs.FinMap.{find}
 use Rattle.std.proofs.lemmas.Option.{none-some, same_Some}
 use Rattle.retry_core.specs.declared.policy.RetryPolicy.{RetryPolicy}
-use Rattle.retry_core.specs.RetryRun.{Run, run_after}
+use Rattle.retry_core.specs.RetryRun.{Run, run_after, decided_by, run_by}
+use Rattle.retry_core.proofs.Runs.{run_next}
 use Rattle.ledger_core.specs.declared.place.Place.{Place}
 use Rattle.ledger_core.specs.declared.plan.Aim.{Aim}
 use Rattle.ledger_core.specs.declared.plan.Plan.{Plan}
@@ -93,7 +94,7 @@ counts_step plans course books shows = record {
 
 pub record Again (plans : List Plan) (s : Standing) (word : ℕ) (old new : Row) : Type 0 where
   pub row_is : new ≡ next_row old new.run
-  pub run_is : new.run ≡ option_map (λ policy. run_after policy (s.words ++ word ∷ [])) (plan_at plans s.pair.sub).retry
+  pub run_is : new.run ≡ option_map (λ policy. run_after policy (word ∷ s.words)) (plan_at plans s.pair.sub).retry
 
 pub waits_again : (plans : List Plan) (s : Standing) (old new : StoredRow) (word ms : ℕ) → IsOutcome old new word (Wait ms) → row_of old ≡ row_for plans s → Again plans s word (row_of old) (row_of new)
 waits_again plans s old new word ms outcome old_is = by_retry (plan_at plans s.pair.sub).retry refl (sym outcome.1 ∙ ap (λ (r : Row). r.run) old_is)
@@ -102,17 +103,16 @@ waits_again plans s old new word ms outcome old_is = by_retry (plan_at plans s.p
     by_retry None e f = absurd (none-some outcome.0 (sym f))
     by_retry (Some policy) e f =
         let run : outcome.0 ≡ run_after policy s.words = same_Some _ _ f in
-        let same : outcome.0.policy ≡ policy = ap (λ (r : Run). r.policy) run in
-        let made = outcome.4 s.words (run ∙ ap (λ p. run_after p s.words) (sym same)) in
-        let new_run : new.run ≡ Some (run_after policy (s.words ++ word ∷ [])) = ap (λ (r : StoredRow). r.run) made.1 ∙ ap (λ p. Some (run_after p (s.words ++ word ∷ []))) same in
+        let next : run_by outcome.0 word ≡ run_after policy (word ∷ s.words) = ap (λ (r : Run). run_by r word) run ∙ run_next policy s.words word ms (ap (λ (r : Run). decided_by r word) (sym run) ∙ outcome.2) in
+        let new_run : new.run ≡ Some (run_after policy (word ∷ s.words)) = ap (λ (r : StoredRow). r.run) outcome.4 ∙ ap (λ (r : Run). Some r) next in
         record {
-          row_is = ap row_of made.1 ∙ (λ i. next_row (row_of old) (ap (λ (r : StoredRow). r.run) (sym made.1) i));
-          run_is = new_run ∙ sym (ap (option_map (λ policy. run_after policy (s.words ++ word ∷ []))) e);
+          row_is = ap row_of outcome.4 ∙ (λ i. next_row (row_of old) (ap (λ (r : StoredRow). r.run) (sym outcome.4) i));
+          run_is = new_run ∙ sym (ap (option_map (λ policy. run_after policy (word ∷ s.words))) e);
         }
 
-pub unplanned_again : (plans : List Plan) (s : Standing) (old : StoredRow) (word : ℕ) → old.run ≡ None → row_of old ≡ row_for plans s → None ≡ option_map (λ policy. run_after policy (s.words ++ word ∷ [])) (plan_at plans s.pair.sub).retry
+pub unplanned_again : (plans : List Plan) (s : Standing) (old : StoredRow) (word : ℕ) → old.run ≡ None → row_of old ≡ row_for plans s → None ≡ option_map (λ policy. run_after policy (word ∷ s.words)) (plan_at plans s.pair.sub).retry
 unplanned_again plans s old word none old_is = by_retry (plan_at plans s.pair.sub).retry (sym none ∙ ap (λ (r : Row). r.run) old_is)
   where
-    by_retry : (retry : Option RetryPolicy) → None ≡ option_map (λ policy. run_after policy s.words) retry → None ≡ option_map (λ policy. run_after policy (s.words ++ word ∷ [])) retry
+    by_retry : (retry : Option RetryPolicy) → None ≡ option_map (λ policy. run_after policy s.words) retry → None ≡ option_map (λ policy. run_after policy (word ∷ s.words)) retry
     by_retry None e = refl
     by_retry (Some policy) e = absurd (none-some _ e)

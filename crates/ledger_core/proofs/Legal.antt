@@ -7,6 +7,9 @@ use Rattle.std.proofs.lemmas.Option.{none-some, same_Some, cond_some}
 use Rattle.std.proofs.lemmas.List.{length-map}
 use Rattle.std.proofs.lemmas.List.Sums.{sum_by-cons}
 use Rattle.retry_core.specs.declared.policy.RetryPolicy.{RetryPolicy}
+use Rattle.retry_core.specs.declared.run.Next.{Next}
+use Rattle.retry_core.specs.declared.run.Next.TheVariants.{Wait, GiveUp}
+use Rattle.retry_core.specs.RetryPolicy.{decided}
 use Rattle.ledger_core.specs.declared.plan.Aim.{Aim}
 use Rattle.ledger_core.specs.declared.plan.Plan.{Plan}
 use Rattle.ledger_core.specs.declared.books.Books.{Books}
@@ -23,7 +26,7 @@ use Rattle.ledger_core.specs.Size.{exceeds}
 use Rattle.ledger_core.specs.Message.{Step, Pair, pair_at, letter_of, messages_of, pairs_of}
 use Rattle.ledger_core.specs.Standing.{Standing, Status, owed, done, dropped, dead, settles, status_by, standing, standings}
 use Rattle.ledger_core.specs.Course.{Course, course_of, count_of, is_owed, is_done, is_dropped, is_dead, is_waiting, is_held, standing_at, held_at, kept_if}
-use Rattle.ledger_core.specs.Reply.{IsReply, IsSized, IsSettled, IsRetriedBy, IsBuried}
+use Rattle.ledger_core.specs.Reply.{IsReply, IsSized, IsSettled, IsRetriedBy, IsAsDecided, IsBuried}
 use Rattle.ledger_core.specs.Books.{row_for, numbered, slotted, row_at, waiting_slot, held_slot, Shows}
 use Rattle.ledger_core.specs.After.{moved, settled_status, fresh_by, AreDistinct}
 use Rattle.ledger_core.specs.Ledger.{IsStep, IsUntouched}
@@ -32,7 +35,6 @@ use Rattle.ledger_core.proofs.Counts.{unit}
 use Rattle.ledger_core.proofs.Histories.{standing_at_pairs}
 use Rattle.ledger_core.proofs.Lookups.{standing_at-map, standing_at-append, standing_at_key, is_pair_parts, or_else}
 use Rattle.ledger_core.proofs.Steps.{Follows, follows}
-use Rattle.ledger_core.proofs.Waits.{surely_gives_up}
 
 -- ---- each pair has one status
 
@@ -221,8 +223,12 @@ buried_next course s aims new is =
 retried_next : (course : Course) (retry : Option RetryPolicy) (dead_too : Bool) (s : Standing) (now word : ℕ) (aims : List Aim) (new : ℕ) → IsRetriedBy course retry dead_too s now word aims (says.Dead new) → new ≡ course.made + 1
 retried_next course None false s now word aims new is = absurd (not_again new (now + 1000) is)
 retried_next course None true s now word aims new is = buried_next course s aims new is
-retried_next course (Some policy) false s now word aims new is = absurd (not_again new _ (is.again (λ up. not_dropped new _ (is.ends up))))
-retried_next course (Some policy) true s now word aims new is = buried_next course s aims new (is.ends (surely_gives_up policy (length s.words + 1) (λ not_up. not_again new _ (is.again not_up))))
+retried_next course (Some policy) dead_too s now word aims new is = by_next (decided policy (word ∷ s.words)) dead_too is
+  where
+    by_next : (next : Next) (dead_too : Bool) → IsAsDecided course next dead_too s now aims (says.Dead new) → new ≡ course.made + 1
+    by_next (Wait ms) dead_too is = absurd (not_again new (now + ms) is)
+    by_next (GiveUp attempts) false is = absurd (not_dropped new _ is)
+    by_next (GiveUp attempts) true is = buried_next course s aims new is
 
 dead_next : (plans : List Plan) (course : Course) (o : Option Standing) (finish : Finish) (now word : ℕ) (aims : List Aim) (new : ℕ) → IsSettled plans course o finish now word aims (says.Dead new) → (s : Standing) × (o ≡ Some s) × (new ≡ course.made + 1)
 dead_next plans course None finish now word aims new is = absurd (not_nothing new is)

@@ -18,4 +18,3 @@ pub mod Sorted
 pub mod Stays
 pub mod Steps
 pub mod TakeSteps
-pub mod Waits

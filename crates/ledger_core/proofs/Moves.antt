@@ -18,7 +18,7 @@ moved_other cmd reply s e f = λ i. record {
   status = if e i then settled_status s.pair.path reply else s.status;
   claim = if f i || e i then claim_by reply else s.claim;
   due = if e i then due_by s.pair.moment cmd reply else s.due;
-  words = if e i then s.words ++ words_by cmd reply else s.words;
+  words = if e i then words_by cmd reply ++ s.words else s.words;
 }
 
 -- a pair that the entry settles
@@ -28,7 +28,7 @@ settled_to cmd reply s = record {
   status = settled_status s.pair.path reply;
   claim = claim_by reply;
   due = due_by s.pair.moment cmd reply;
-  words = s.words ++ words_by cmd reply;
+  words = words_by cmd reply ++ s.words;
 }
 
 pub moved_settled : (cmd : LedgerCmd) (reply : LedgerReply) (s : Standing) → settles s.pair.no s.pair.sub cmd reply ≡ true → takes s.pair.no s.pair.sub cmd reply ≡ false → moved cmd reply s ≡ settled_to cmd reply s
@@ -37,7 +37,7 @@ moved_settled cmd reply s e f = λ i. record {
   status = if e i then settled_status s.pair.path reply else s.status;
   claim = if f i || e i then claim_by reply else s.claim;
   due = if e i then due_by s.pair.moment cmd reply else s.due;
-  words = if e i then s.words ++ words_by cmd reply else s.words;
+  words = if e i then words_by cmd reply ++ s.words else s.words;
 }
 
 -- one that the entry takes
@@ -50,7 +50,7 @@ moved_taken cmd reply s e f = λ i. record {
   status = if e i then settled_status s.pair.path reply else s.status;
   claim = if f i || e i then claim_by reply else s.claim;
   due = if e i then due_by s.pair.moment cmd reply else s.due;
-  words = if e i then s.words ++ words_by cmd reply else s.words;
+  words = if e i then words_by cmd reply ++ s.words else s.words;
 }
 
 pub map_same : (f : Standing → Standing) → ((s : Standing) → f s ≡ s) → (book : List Standing) → map f book ≡ book

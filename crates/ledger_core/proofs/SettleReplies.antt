@@ -1,5 +1,5 @@
 -- The books after each reply to a `Settle`.
-use Rattle.std.proofs.Common.{◌≡◌, ◌+◌, ◌-◌, ◌^◌, ◌≤◌, min, ℕ, List, [], ◌∷◌, ◌++◌, map, length, Option, Some, None, refl, sym, ap, subst, ◌∙◌, arith, add-zero, append-nil, length-append}
+use Rattle.std.proofs.Common.{◌≡◌, ◌+◌, ◌-◌, ◌^◌, ◌≤◌, min, ℕ, List, [], ◌∷◌, ◌++◌, map, length, Option, Some, None, refl, sym, ap, subst, ◌∙◌, arith, add-zero}
 use Rattle.std.specs.Prelude.{option_map}
 use Rattle.std.specs.FinMap.{put}
 use Rattle.retry_core.specs.RetryRun.{Run, run_after}
@@ -35,7 +35,7 @@ abbrev row_by : List Plan → Pair → List ℕ → Row
 row_by plans pair words = row_for plans (record { pair = pair; status = owed; claim = None; due = 0; words = words })
 
 words_kept : (plans : List Plan) (cmd : LedgerCmd) (reply : LedgerReply) (s : Standing) (row : Row) → row ≡ row_for plans s → words_by cmd reply ≡ [] → row ≡ row_for plans (settled_to cmd reply s)
-words_kept plans cmd reply s row is none = is ∙ sym (ap (row_by plans s.pair) (ap (λ ws. s.words ++ ws) none ∙ append-nil s.words))
+words_kept plans cmd reply s row is none = is ∙ sym (ap (row_by plans s.pair) (ap (λ ws. ws ++ s.words) none))
 
 -- ---- the row is gone
 
@@ -101,7 +101,7 @@ abbrev pub next_row : Row → Option Run → Row
 next_row row run = record row { run = run; attempt = min (row.attempt + 1) (2 ^ 64 - 1) }
 
 pub retry_shows : (plans : List Plan) (course : Course) (place : Place) (row : Row) (run : Option Run) (s : Standing) (mid after : Books) (at moment word : ℕ) (aims : List Aim) → IsBook course → InHand plans course place row s mid
-    → run ≡ option_map (λ policy. run_after policy (s.words ++ word ∷ [])) (plan_at plans s.pair.sub).retry
+    → run ≡ option_map (λ policy. run_after policy (word ∷ s.words)) (plan_at plans s.pair.sub).retry
     → after ≡ record mid { waiting = put place_order (moved_to at place) (next_row row run) mid.waiting }
     → Shows plans (course_after course (Settle place.no place.sub place.at ended.Retry moment word aims) (says.Again at)) after
 retry_shows plans course place row run s mid after at moment word aims is_book hand run_is is =
@@ -111,12 +111,11 @@ retry_shows plans course place row run s mid after at moment word aims is_book h
     held : Held place.at place.no place.sub course.book s
     held = held_parts place.at place.no place.sub course.book s hand.there
 
-    attempt_is : min (row.attempt + 1) (2 ^ 64 - 1) ≡ length (s.words ++ word ∷ []) + 1
+    attempt_is : min (row.attempt + 1) (2 ^ 64 - 1) ≡ length (word ∷ s.words) + 1
     attempt_is =
         let few = is_book.short place.no place.sub s held.there in
         let e = ap (λ (r : Row). r.attempt) hand.row_is in
-        let l = length-append s.words (word ∷ []) in
-        omega (arith, few, e, l)
+        omega (arith, few, e)
 
     row_is : next_row row run ≡ row_for plans (settled_to (Settle place.no place.sub place.at ended.Retry moment word aims) (says.Again at) s)
     row_is = λ i. record {

@@ -1,10 +1,9 @@
 -- One command makes a step.
-use Rattle.std.proofs.Common.{◌≡◌, ◌+◌, ◌<◌, ◌≤◌, ◌^◌, ℕ, Bool, true, List, [], ◌∷◌, ◌++◌, map, length, Option, Some, None, refl, sym, ap, subst, ◌∙◌, arith, length-append, ⊎_elim}
+use Rattle.std.proofs.Common.{fold, ◌≡◌, ◌+◌, ◌<◌, ◌≤◌, ◌^◌, ℕ, Bool, true, List, [], ◌∷◌, ◌++◌, map, length, Option, Some, None, refl, sym, ap, subst, ◌∙◌, arith, length-append, ⊎_elim}
 use Rattle.std.specs.Prelude.{option_map}
-use Rattle.std.specs.List.{flat_map, filter}
+use Rattle.std.specs.List.{filter}
 use Rattle.std.proofs.lemmas.Bool.{cases_eq, false≢true}
 use Rattle.std.proofs.lemmas.Option.{none-some, same_Some}
-use Rattle.std.proofs.lemmas.List.Concat.{flat_map-cons}
 use Rattle.std.proofs.lemmas.List.Sums.{length-filter, count_by-le-length}
 use Rattle.ledger_core.specs.declared.plan.Plan.{Plan}
 use Rattle.ledger_core.specs.declared.books.Books.{Books}
@@ -15,7 +14,7 @@ use Rattle.ledger_core.specs.declared.reply.LedgerReply.{LedgerReply}
 use Rattle.ledger_core.specs.declared.reply.LedgerReply.TheVariants as says
 use Rattle.ledger_core.specs.Aims.{IsGiven}
 use Rattle.ledger_core.specs.Message.{Step, Pair, pair_at, messages_of, pairs_of}
-use Rattle.ledger_core.specs.Standing.{Standing, words_by, status_in, is_settling, standing, standings}
+use Rattle.ledger_core.specs.Standing.{Standing, words_by, words_with, status_in, is_settling, standing, standings}
 use Rattle.ledger_core.specs.Course.{Course, is_owed, course_of, standing_at}
 use Rattle.ledger_core.specs.Reply.{IsReply}
 use Rattle.ledger_core.specs.Books.{Shows}
@@ -31,14 +30,13 @@ one_word : (cmd : LedgerCmd) (reply : LedgerReply) → length (words_by cmd repl
 one_word (Settle n s claim ended.Retry now word aims) (says.Again at) = omega arith
 one_word cmd reply = omega arith
 
-words_few : (xs : List Step) → length (flat_map (λ (x : Step). words_by x.cmd x.reply) xs) ≤ length xs
-words_few [] = omega arith
-words_few (x ∷ xs) =
-    let e = ap length (flat_map-cons (λ (y : Step). words_by y.cmd y.reply) x xs) in
-    let l = length-append (words_by x.cmd x.reply) (flat_map (λ (y : Step). words_by y.cmd y.reply) xs) in
+words_few : (words : List ℕ) (xs : List Step) → length (fold words_with words xs) ≤ length words + length xs
+words_few words [] = omega arith
+words_few words (x ∷ xs) =
+    let l = length-append (words_by x.cmd x.reply) words in
     let o = one_word x.cmd x.reply in
-    let r = words_few xs in
-    omega (arith, e, l, o, r)
+    let r = words_few (words_with words x) xs in
+    omega (arith, l, o, r)
 
 filter_few : (test : Step → Bool) (xs : List Step) → length (filter test xs) ≤ length xs
 filter_few test xs = let e = length-filter test xs in let l = count_by-le-length test xs in omega (arith, e, l)
@@ -65,7 +63,7 @@ is_book history made distinct short = record {
   distinct = distinct;
   short = λ m sub s e.
       let pair = said history m sub s e in
-      let w = words_few (filter (is_settling pair.0) history) in
+      let w = words_few [] (filter (is_settling pair.0) history) in
       let f = filter_few (is_settling pair.0) history in
       let l = ap (λ (t : Standing). length t.words) pair.1 in
       omega (arith, w, f, l, short);

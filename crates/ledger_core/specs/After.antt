@@ -28,7 +28,7 @@ moved cmd reply s = record {
   status = if settles s.pair.no s.pair.sub cmd reply then settled_status s.pair.path reply else s.status;
   claim = if takes s.pair.no s.pair.sub cmd reply || settles s.pair.no s.pair.sub cmd reply then claim_by reply else s.claim;
   due = if settles s.pair.no s.pair.sub cmd reply then due_by s.pair.moment cmd reply else s.due;
-  words = if settles s.pair.no s.pair.sub cmd reply then s.words ++ words_by cmd reply else s.words;
+  words = if settles s.pair.no s.pair.sub cmd reply then words_by cmd reply ++ s.words else s.words;
 }
 
 -- ---- pairs of a new message

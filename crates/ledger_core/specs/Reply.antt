@@ -1,8 +1,10 @@
 -- The reply to a command after a history.
-use Rattle.std.specs.Prelude.{◌≡◌, ◌⊎◌, ◌<◌, ◌≤◌, ℕ, ◌+◌, ◌-◌, Bool, true, false, List, [], ◌∷◌, ◌++◌, length, Option, Some, None}
+use Rattle.std.specs.Prelude.{◌≡◌, ◌⊎◌, ◌<◌, ◌≤◌, ℕ, ◌+◌, ◌-◌, Bool, true, false, List, ◌∷◌, length, Option, Some, None}
 use Rattle.std.specs.Ordering.{is_gt}
 use Rattle.retry_core.specs.declared.policy.RetryPolicy.{RetryPolicy}
-use Rattle.retry_core.specs.RetryPolicy.{GivesUp, wait_after}
+use Rattle.retry_core.specs.declared.run.Next.{Next}
+use Rattle.retry_core.specs.declared.run.Next.TheVariants.{Wait, GiveUp}
+use Rattle.retry_core.specs.RetryPolicy.{decided}
 use Rattle.ledger_core.specs.declared.plan.Aim.{Aim}
 use Rattle.ledger_core.specs.declared.plan.Plan.{Plan}
 use Rattle.ledger_core.specs.declared.command.Finish.{Finish}
@@ -72,16 +74,21 @@ pub record IsBuried (course : Course) (s : Standing) (aims : List Aim) (reply : 
   pub hops : 8 ≤ s.pair.hops → reply ≡ says.Dropped reason.Hops
   pub sized : s.pair.hops < 8 → IsSized ((rows_in course.book - 1) + new_rows aims) ((bytes_in course.book - row_bytes s) + new_bytes (length s.pair.event) aims) (says.Dead (course.made + 1)) reply
 
--- a policy gives a wait by all words of the row, or gives up
-pub record IsPlanned (course : Course) (policy : RetryPolicy) (s : Standing) (now word : ℕ) (reply : LedgerReply) (gives_up : Type 0) : Type 0 where
-  pub again : (GivesUp policy (length s.words + 1) → ⊥) → reply ≡ says.Again (now + wait_after policy.kind (s.words ++ word ∷ []))
-  pub ends : GivesUp policy (length s.words + 1) → gives_up
+-- a row that gets no further attempt goes to its dead-letter topic, if it has one
+abbrev pub IsGivenUp : Course → Bool → Standing → List Aim → LedgerReply → Type 0
+IsGivenUp course false s aims reply = reply ≡ says.Dropped reason.UsedUp
+IsGivenUp course true s aims reply = IsBuried course s aims reply
 
+-- as the policy decides
+abbrev pub IsAsDecided : Course → Next → Bool → Standing → ℕ → List Aim → LedgerReply → Type 0
+IsAsDecided course (Wait ms) dead s now aims reply = reply ≡ says.Again (now + ms)
+IsAsDecided course (GiveUp attempts) dead s now aims reply = IsGivenUp course dead s aims reply
+
+-- by the words of the attempts that were made again, and this one
 abbrev pub IsRetriedBy : Course → Option RetryPolicy → Bool → Standing → ℕ → ℕ → List Aim → LedgerReply → Type 0
 IsRetriedBy course None false s now word aims reply = reply ≡ says.Again (now + 1000)
 IsRetriedBy course None true s now word aims reply = IsBuried course s aims reply
-IsRetriedBy course (Some policy) false s now word aims reply = IsPlanned course policy s now word reply (reply ≡ says.Dropped reason.UsedUp)
-IsRetriedBy course (Some policy) true s now word aims reply = IsPlanned course policy s now word reply (IsBuried course s aims reply)
+IsRetriedBy course (Some policy) dead s now word aims reply = IsAsDecided course (decided policy (word ∷ s.words)) dead s now aims reply
 
 abbrev pub IsRetried : Course → Plan → Standing → ℕ → ℕ → List Aim → LedgerReply → Type 0
 IsRetried course plan s now word aims reply = IsRetriedBy course plan.retry plan.dead s now word aims reply

@@ -1,6 +1,6 @@
 -- What a history says of a pair, by the entries that took or settled it.
-use Rattle.std.specs.Prelude.{ℕ, ◌+◌, ◌==◌, ◌&&◌, ◌||◌, Bool, false, List, [], ◌∷◌, map, fold, Option, Some, None}
-use Rattle.std.specs.List.{flat_map, filter}
+use Rattle.std.specs.Prelude.{ℕ, ◌+◌, ◌==◌, ◌&&◌, ◌||◌, Bool, false, List, [], ◌∷◌, ◌++◌, map, fold, Option, Some, None}
+use Rattle.std.specs.List.{filter}
 use Rattle.ledger_core.specs.declared.command.Finish.TheVariants as ended
 use Rattle.ledger_core.specs.declared.command.LedgerCmd.{LedgerCmd}
 use Rattle.ledger_core.specs.declared.command.LedgerCmd.TheVariants.{Take, Settle}
@@ -79,6 +79,13 @@ abbrev pub words_by : LedgerCmd → LedgerReply → List ℕ
 words_by (Settle number sub claim ended.Retry now word dead_aims) (says.Again at) = word ∷ []
 words_by cmd reply = []
 
+-- with those before it, the latest first
+abbrev pub words_with : List ℕ → Step → List ℕ
+words_with words entry = words_by entry.cmd entry.reply ++ words
+
+abbrev pub words_in : List Step → List ℕ
+words_in settlings = fold words_with [] settlings
+
 -- what a history says of a pair; its next attempt has the number 1 and that of its words
 pub record Standing : Type 0 where
   pub pair : Pair
@@ -93,7 +100,7 @@ standing history pair = record {
   status = status_in pair.path (last_settling history pair);
   claim = claim_in (last_handling history pair);
   due = due_in pair.moment (last_settling history pair);
-  words = flat_map (λ entry. words_by entry.cmd entry.reply) (filter (is_settling pair) history);
+  words = words_in (filter (is_settling pair) history);
 }
 
 -- what a history says of all its pairs

@@ -2,9 +2,8 @@
 use Rattle.std.proofs.Common.{◌≡◌, ◌+◌, ◌∷◌, ℕ, Bool, true, false, List, length, refl, ap, ◌∙◌, arith}
 use Rattle.std.specs.Prelude.{if◌then◌else◌}
 use Rattle.retry_core.specs.declared.policy.RetryPolicy.{RetryPolicy}
-use Rattle.retry_core.specs.declared.run.Next.{Next}
 use Rattle.retry_core.specs.declared.run.Next.TheVariants.{GiveUp, Wait}
-use Rattle.retry_core.specs.RetryPolicy.{next_wait, wait_after, gives_up, GivesUp, decision, decided}
+use Rattle.retry_core.specs.RetryPolicy.{wait_after, gives_up, decision, decided}
 use Rattle.retry_core.specs.RetryRun.{Run, run_after, decided_by, run_by}
 
 one_more : (words : List ℕ) (word : ℕ) → length words + 1 ≡ length (word ∷ words)

@@ -1,4 +1,7 @@
 pub mod DiskNotes
+pub mod MemoryAcceptor
+pub mod MemoryClock
 pub mod MemoryDisk
+pub mod MemoryLink
 pub mod MemorySink
 pub mod MemorySource

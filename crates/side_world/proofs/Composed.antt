@@ -1,6 +1,7 @@
 -- Two calls, one after the other: what a source, a sink or a list of calls tells, moments, pauses and drawn words.
-use Rattle.std.proofs.Common.{◌≡◌, ◌≤◌, ◌<◌, ◌+◌, ◌-◌, ◌^◌, min, ℕ, List, [], ◌∷◌, ◌++◌, length, take, Option, Some, None, refl, ap, sym, subst, ◌∙◌, arith, append_assoc, length-append}
-use Rattle.std.proofs.lemmas.List.{append-nil, append_cancel_right, take-append-le}
+use Rattle.std.proofs.Common.{◌≡◌, ◌≤◌, ◌<◌, ◌+◌, ◌-◌, ◌^◌, min, ℕ, List, [], ◌∷◌, ◌++◌, length, take, Option, Some, None, map, refl, ap, sym, subst, ◌∙◌, arith, append_assoc, length-append}
+use Rattle.std.specs.Prelude.{option_map}
+use Rattle.std.proofs.lemmas.List.{map-append, append-nil, append_cancel_right, take-append-le}
 use Rattle.std.proofs.Math.Seq.{take-append-add, take-length}
 use Rattle.side_world.specs.Told.{Told, Took, SentSome, Tells}
 use Rattle.side_world.specs.Answer.{Answer, Back, conn, Returns, AddsConn}
@@ -118,3 +119,12 @@ adds_conn before between after came accepted returned = λ all is.
     let out = accepted (back.0 ++ conn None ∷ []) back.2 in
     let same : back.0 ≡ out.0 = append_cancel_right back.0 out.0 (conn None ∷ []) out.2 in
     (out.0, back.1, out.1, back.3 ∙ ap (λ (z : List Answer). z ++ conn (Some back.1) ∷ []) same, back.4)
+
+-- what is told of each item by a function of it
+pub tells_map : {X Y : Type 0} (f : X → Y) (before after : Option (List X)) (added : List X) → Tells before after added → Tells (option_map (map f) before) (option_map (map f) after) (map f added)
+tells_map f before None added tells = λ all is. absurd (cc)
+tells_map {X} {Y} f before (Some items) added tells = λ all is.
+    let from = tells items refl in
+    (map f from.0, ap (option_map (map f)) from.1, sym (same all is) ∙ (ap (map f) from.2 ∙ map-append f from.0 added)) where
+  same : (all : List Y) → Some (map f items) ≡ Some all → map f items ≡ all
+  same all is = cc

@@ -4,7 +4,7 @@ ghost use Rattle.side_world.specs.Told.{Tells};
 use crate::{Sink, Source};
 
 /// What an acceptor answers.
-#[derive(Debug)]
+#[derive(Debug, Drop)]
 pub enum Accepted<S, N> {
     /// A connection came: what its peer sends, and what is sent to it.
     Conn { source: S, sink: N },

@@ -6,7 +6,7 @@ use crate::{Acceptor, Clock, Disk, Failed, Link};
 use side_base::Blob;
 
 /// What a worker has of the outside for itself.
-#[derive(Debug)]
+#[derive(Debug, Drop)]
 pub struct WorkerParts<A, L, C> {
     pub acceptor: A,
     pub link: L,

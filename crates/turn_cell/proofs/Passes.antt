@@ -1,5 +1,5 @@
 -- Whole passes, put together seat by seat: started, split, grown, met.
-use Rattle.std.proofs.Common.{◌≡◌, ◌≢◌, ◌⊎◌, ℕ, zero, suc, ◌+◌, ◌<◌, ◌≤◌, true, false, List, [], ◌∷◌, ◌++◌, length, map, take, drop, set, All, refl, sym, ap, ◌∙◌, subst, inl, inr, ⊎_elim, arith, append-nil, length-append, length-set}
+use Rattle.std.proofs.Common.{◌≡◌, ◌≢◌, ℕ, zero, suc, ◌+◌, ◌<◌, ◌≤◌, true, false, List, [], ◌∷◌, ◌++◌, length, map, take, drop, set, refl, sym, ap, ◌∙◌, subst, ⊎_elim, arith, append-nil, length-append, length-set}
 use Rattle.std.proofs.lemmas.List.{length-map}
 use Rattle.std.proofs.lemmas.List.Elements.{All-nil, All-weaker}
 use mathlib.Core.Logic.{dite}
@@ -25,6 +25,12 @@ step_at f g zero (x ∷ l) a e = let same : x ≡ a = some-injective x a e in (a
 step_at f g (suc n) [] a e = absurd (some-ne-none a (sym e))
 step_at f g (suc n) (x ∷ l) a e = let t = step_at f g n l a e in (ap (λ z. f x ∷ z) t.0, ap (λ z. g x ∷ z) t.1)
 
+-- the next element is as it was
+next_at : {A : Type 0} (f : A → A) (n : ℕ) (l : List A) → get_elem? (map f (take n l) ++ drop n l) n ≡ get_elem? l n
+next_at f zero l = refl
+next_at f (suc n) [] = refl
+next_at f (suc n) (x ∷ l) = next_at f n l
+
 from_map : {A B : Type 0} (f : A → B) (l : List A) (k : ℕ) (b : B) → get_elem? (map f l) k ≡ some b → (a : A) × (get_elem? l k ≡ some a) × (f a ≡ b)
 from_map f l k b e = let n : k < length l = omega (arith, in_range (map f l) k b e, length-map l f) in let a = there l k n in (a.0, a.1, one_place (map f l) k (f a.0) b (at_map f l k a.0 a.1) e)
 
@@ -44,6 +50,7 @@ module _ {O C R : Type 0} where
           (λ (last : (k ≡ length cells) × (cell ≡ cell')). ⊎_elim (λ (low' : get_elem? seats k ≡ some seat'). absurd (omega (arith, in_range seats k seat' low', last.0, all.wide)))
           (λ (last' : (k ≡ length seats) × (seat ≡ seat')). subst (λ (z : Begun O × Sitting O C R). P z.0 z.1) (λ i. (last.1 i, last'.1 i)) one) (at_end seats seat seat' k here)) (at_end cells cell cell' k at);
     }
+
     -- what each has, each has of the weaker kind
     pub each_weaker : (Q : Begun O → Sitting O C R → Type 0) (cells : List (Begun O)) (seats : List (Sitting O C R)) → ((cell : Begun O) (seat : Sitting O C R) → P cell seat → Q cell seat) → EachSeat P cells seats → EachSeat Q cells seats
     each_weaker Q cells seats weaker all = record { wide = all.wide; each = λ k cell seat at here. weaker cell seat (all.each k cell seat at here) }
@@ -60,10 +67,14 @@ module _ {O C R : Type 0} where
   pub split_none : (roots : List (Sitting O C R)) → SplitTo 0 roots roots []
   split_none roots = (refl, refl)
 
+  -- the next root is as it was
+  pub split_next : (n : ℕ) (roots after pass : List (Sitting O C R)) → SplitTo n roots after pass → get_elem? after n ≡ get_elem? roots n
+  split_next n roots after pass done = ap (λ (l : List (Sitting O C R)). get_elem? l n) done.0 ∙ next_at parent_of n roots
+
   -- the next root was split
-  pub split_more : (n : ℕ) (roots after pass : List (Sitting O C R)) (root : Sitting O C R) → SplitTo n roots after pass → get_elem? after n ≡ some root → SplitTo (suc n) roots (set after n (parent_of root)) (pass ++ child_of root ∷ [])
+  pub split_more : (n : ℕ) (roots after pass : List (Sitting O C R)) (root : Sitting O C R) → SplitTo n roots after pass → get_elem? after n ≡ some root → SplitTo (n + 1) roots (set after n (parent_of root)) (pass ++ child_of root ∷ [])
   split_more n roots after pass root done at = let t = step_at parent_of child_of n roots root (subst (λ (l : List (Sitting O C R)). get_elem? l n ≡ some root) done.0 at) in
-      (ap (λ (l : List (Sitting O C R)). set l n (parent_of root)) done.0 ∙ t.0, ap (λ (l : List (Sitting O C R)). l ++ child_of root ∷ []) done.1 ∙ t.1)
+      let more : suc n ≡ n + 1 = omega arith in subst (λ (k : ℕ). SplitTo k roots (set after n (parent_of root)) (pass ++ child_of root ∷ [])) more (ap (λ (l : List (Sitting O C R)). set l n (parent_of root)) done.0 ∙ t.0, ap (λ (l : List (Sitting O C R)). l ++ child_of root ∷ []) done.1 ∙ t.1)
 
   -- all were
   pub split_all : (n : ℕ) (roots after pass : List (Sitting O C R)) → length roots ≤ n → SplitTo n roots after pass → EachSplit roots after pass
@@ -154,7 +165,7 @@ module _ {O C R : Type 0} (object : Ghosts O C R) where
 
     -- the next root met its seat
     pub met_more : (n : ℕ) (after : List (Sitting O C R)) (cell : Begun O) (root other root' : Sitting O C R) → MetTo object n cells roots others after → get_elem? cells n ≡ some cell → get_elem? after n ≡ some root → get_elem? others n ≡ some other → Meets object cell.first root other root'
-        → MetTo object (suc n) cells roots others (set after n root')
+        → MetTo object (n + 1) cells roots others (set after n root')
     met_more n after cell root other root' done at here there meets = record {
       wide = length-set after n root' ∙ done.wide;
       met = λ k cell' was with root'' low at' here' there' after'. dite (ℕ_discrete k n)

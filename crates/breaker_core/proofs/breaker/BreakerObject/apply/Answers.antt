@@ -22,7 +22,7 @@ pub returns-clause-step : goal.returns-clause-step
 returns-clause-step c = λ first history seat stands takes.
     let made =
     goes first.policy c.args.self.now.policy history c.args.self.now.latest c.args.self.now.present c.args.cmd.now c.max-now.result c.found-present.result c.answered-reply.result.1 c.answered-reply.result.0 seat
-    stands.policy stands.latest stands.present
+    (omega (arith, c.moment_of.ensures.moment, c.moment_of.ensures.limit)) stands.policy stands.latest stands.present
     (c.max-now.ensures ∙ ap (λ n. max c.args.self.now.latest n) c.moment_of.ensures.moment)
     c.found-present.ensures.found c.answered-reply.ensures.reply c.answered-reply.ensures.after in (
       made.step,
