@@ -1,5 +1,5 @@
 -- What asking the breaker, and telling it, does.
-use Rattle.std.proofs.Common.{◌≡◌, ℕ, ◌≤◌, Bool, true, List, [], ◌∷◌, Result, Ok, Err, refl, sym, ap, subst, ◌∙◌, arith}
+use Rattle.std.proofs.Common.{◌≡◌, ℕ, ◌≤◌, Bool, true, List, [], ◌∷◌, Ok, Err, refl, sym, subst, arith}
 use Rattle.breaker_core.specs.declared.command.BreakerCmd.TheVariants.{Admit, Report}
 use Rattle.breaker_core.specs.declared.command.BreakerReply.{BreakerReply}
 use Rattle.breaker_core.specs.declared.command.BreakerReply.TheVariants.{Admitted, Opened, TooMany, Counted, Stale}
@@ -7,7 +7,6 @@ use Rattle.breaker_core.specs.Course.{Step}
 use Rattle.turn_cell.specs.declared.error.Exhausted.{Exhausted}
 use Rattle.policy_run.specs.declared.turn.Admission.{Admission}
 use Rattle.policy_run.specs.declared.turn.Admission.TheVariants as admission
-use Rattle.policy_run.specs.declared.outcome.Refusal.TheVariants as refusal
 use Rattle.policy_run.specs.Event.{Event, guarded, moment}
 use Rattle.policy_run.specs.Effects.{Clocked, Effects}
 use Rattle.policy_run.specs.Turn.{Answers, IsAdmittedBy, IsAdmission, IsReport}

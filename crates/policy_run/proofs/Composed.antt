@@ -1,12 +1,12 @@
 -- The effects of events, put together from part to part.
-use Rattle.std.proofs.Common.{◌≡◌, ℕ, ◌+◌, ◌≤◌, List, [], ◌∷◌, ◌++◌, flat_map, refl, sym, ap, subst, ◌∙◌, append-nil, arith}
+use Rattle.std.proofs.Common.{◌≡◌, ℕ, List, [], ◌++◌, flat_map, sym, ap, subst, ◌∙◌, append-nil, arith}
 use Rattle.std.specs.List.{sum_by}
 use Rattle.std.proofs.lemmas.Grind.{flat_map-append}
 use Rattle.std.proofs.lemmas.List.Sums.{sum_by-append}
 use Rattle.breaker_core.specs.Course.{Step}
 use Rattle.side_world.specs.Moments.{Between, Rises}
 use Rattle.side_world.proofs.Composed.{between_on, rises_on}
-use Rattle.policy_run.specs.Event.{Event, own, guarded, word, moment, pause, own_of, step_of, word_of, moment_in, pause_of}
+use Rattle.policy_run.specs.Event.{Event, own_of, step_of, word_of, moment_in, pause_of}
 use Rattle.policy_run.specs.Effects.{Clocked, Effects}
 
 module _ {E : Type 0} where

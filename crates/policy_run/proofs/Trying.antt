@@ -1,5 +1,5 @@
 -- The turns of a call under a retry policy, from turn to turn.
-use Rattle.std.proofs.Common.{◌≡◌, ℕ, Bool, true, false, List, [], ◌∷◌, ◌++◌, ◌≤◌, Option, Some, None, refl, sym, ap, subst, ◌∙◌, append-nil, append_assoc, arith}
+use Rattle.std.proofs.Common.{◌≡◌, ℕ, Bool, true, false, List, [], ◌∷◌, ◌++◌, ◌≤◌, Option, Some, None, refl, sym, ap, subst, append_assoc, arith}
 use Rattle.rand_core.specs.Stream.{Stream, next_u64}
 use Rattle.breaker_core.specs.Course.{Step}
 use Rattle.retry_core.specs.declared.policy.RetryPolicy.{RetryPolicy}
@@ -9,7 +9,6 @@ use Rattle.retry_core.specs.declared.run.Next.TheVariants.{GiveUp, Wait}
 use Rattle.side_world.specs.Moments.{Drawn, Rises}
 use Rattle.side_world.proofs.Composed.{drawn_on, drawn_one}
 use Rattle.policy_run.specs.declared.operation.Attempt.{Attempt}
-use Rattle.policy_run.specs.declared.operation.Attempt.TheVariants as attempt
 use Rattle.policy_run.specs.declared.outcome.Outcome.{Outcome}
 use Rattle.policy_run.specs.declared.outcome.Outcome.TheVariants.{Good, Bad, Refused, Exhausted, NoMemory}
 use Rattle.policy_run.specs.declared.turn.Turned.{Turned}
@@ -17,7 +16,7 @@ use Rattle.policy_run.specs.declared.turn.Turned.TheVariants.{Failed, Ended}
 use Rattle.policy_run.specs.Event.{Event, word, pause}
 use Rattle.policy_run.specs.Effects.{Clocked, Effects}
 use Rattle.policy_run.specs.Attempts.{Tried, TurnsTo, Ends, Decides, Attempted, last_outcome}
-use Rattle.policy_run.proofs.Composed.{effects_on, nothing_before, nothing_after}
+use Rattle.policy_run.proofs.Composed.{effects_on, nothing_after}
 
 -- so far: turns that failed with these words, and what they did
 pub record Trying {E G B : Type 0} (policy : RetryPolicy) (there : Bool) (makes : Attempt G B → List (Event E) → Type 0) (did : List E → Type 0) (held : List Step → Type 0) (clock clock' : Clocked) (drawn : List ℕ → Type 0) (run : Run) : Type 0 where
@@ -68,9 +67,11 @@ module _ {E G B : Type 0} (policy : RetryPolicy) (there : Bool) (makes : Attempt
       -- a turn that failed, and a word after which none follows
       pub given_up : (run' : Run) → ((after : List (Event E)) × Decides policy so-far.words false run' after × Effects after (λ xs. xs ≡ []) (λ xs. xs ≡ []) clock' clock'' (λ ws. Drawn next_u64 stream' ws stream''))
           → (events : List (Event E)) × Attempted (Some policy) there makes (Bad bad) events × Effects events did-all held-all clock clock'' (λ ws. Drawn next_u64 stream ws stream'')
-      given_up run' a = ((so-far.events ++ t.0) ++ a.0,
-          record { words = so-far.words; before = so-far.events; last = t.0 ++ a.0; tried = so-far.tried; ends = (t.0, a.1.0, a.1.1, t.1, a.1.2, ap (λ z. t.0 ++ z) a.1.3); whole = append_assoc so-far.events t.0 a.0 },
-          decided_so a.0 a.2)
+      given_up run' a = (
+        (so-far.events ++ t.0) ++ a.0,
+        record { words = so-far.words; before = so-far.events; last = t.0 ++ a.0; tried = so-far.tried; ends = (t.0, a.1.0, a.1.1, t.1, a.1.2, ap (λ z. t.0 ++ z) a.1.3); whole = append_assoc so-far.events t.0 a.0 },
+        decided_so a.0 a.2,
+      )
 
 -- what was decided, where it is known
 module _ {E : Type 0} (policy : RetryPolicy) (words : List ℕ) (run : Run) (clock clock' : Clocked) (drawn : List ℕ → Type 0) where
@@ -102,6 +103,8 @@ module _ {E G B : Type 0} (there : Bool) (makes : ℕ → Attempt G B → List (
   pub once : (retry : Option RetryPolicy) (did : List E → Type 0) (held : List Step → Type 0) (clock clock' : Clocked) (drawn : List ℕ → Type 0) (turned : Turned G B) (outcome : Outcome G B) → retry ≡ None → drawn [] → outcome ≡ last_outcome turned
       → ((turn : List (Event E)) × TurnsTo there (makes taken) turned turn × Effects turn did held clock clock' (λ xs. xs ≡ []))
       → (events : List (Event E)) × Attempted retry there (makes limit) outcome events × Effects events did held clock clock' drawn
-  once retry did held clock clock' drawn turned outcome none-is none-drawn is t = (t.0,
-      subst (λ z. Attempted z there (makes limit) outcome t.0) (sym none-is) (subst (λ z. Attempted None there (makes limit) z t.0) (sym is) (record { words = []; before = []; last = t.0; tried = refl; ends = only_turn there (makes limit) turned t.0 (subst (λ n. TurnsTo there (makes n) turned t.0) same t.1); whole = refl })),
-      record { owned = t.2.owned; guards = t.2.guards; times = t.2.times; pauses = t.2.pauses; words = subst drawn (sym t.2.words) none-drawn })
+  once retry did held clock clock' drawn turned outcome none-is none-drawn is t = (
+    t.0,
+    subst (λ z. Attempted z there (makes limit) outcome t.0) (sym none-is) (subst (λ z. Attempted None there (makes limit) z t.0) (sym is) (record { words = []; before = []; last = t.0; tried = refl; ends = only_turn there (makes limit) turned t.0 (subst (λ n. TurnsTo there (makes n) turned t.0) same t.1); whole = refl })),
+    record { owned = t.2.owned; guards = t.2.guards; times = t.2.times; pauses = t.2.pauses; words = subst drawn (sym t.2.words) none-drawn },
+  )

@@ -1,5 +1,5 @@
 -- One turn, put together from its parts.
-use Rattle.std.proofs.Common.{◌≡◌, ℕ, Bool, true, List, [], ◌∷◌, ◌++◌, Result, Ok, Err, refl, sym, ap, subst, ◌∙◌, append_assoc}
+use Rattle.std.proofs.Common.{◌≡◌, ℕ, Bool, true, List, [], ◌++◌, Ok, Err, refl, sym, ap, subst, append_assoc}
 use Rattle.breaker_core.specs.Course.{Step}
 use Rattle.turn_cell.specs.declared.error.Exhausted.{Exhausted}
 use Rattle.policy_run.specs.declared.turn.Admission.TheVariants as admission
@@ -47,11 +47,12 @@ module _ {E G B : Type 0} (there : Bool) (makes : Attempt G B → List (Event E)
   pub let_through : (there' : Bool) (generation : ℕ) (ending : Turned G B) → there' ≡ there → ((events : List (Event E)) × IsAdmission there (admission.LetThrough generation) events × Effects events (λ xs. xs ≡ []) held clock between (λ xs. xs ≡ []))
       → ((made report : List (Event E)) × (answer : Attempt G B) × makes answer made × IsRest there' generation answer ending report × Effects (made ++ report) did held-then between clock' (λ xs. xs ≡ []))
       → (events : List (Event E)) × TurnsTo there makes ending events × Effects events did held-all clock clock' (λ xs. xs ≡ [])
-  let_through there' generation ending same admits then =
-      ((admits.0 ++ then.0) ++ then.1,
-      turned there makes generation admits.0 then.0 then.1 admits.1 then.2 ending then.3 (subst (λ z. IsRest z generation then.2 ending then.1) same then.4),
-      subst (λ z. Effects z did held-all clock clock' (λ xs. xs ≡ [])) (sym (append_assoc admits.0 then.0 then.1))
-          (effects_on admits.0 (then.0 ++ then.1) (λ xs. xs ≡ []) did did held held-then held-all clock between clock' (λ xs. xs ≡ []) (λ xs. xs ≡ []) (λ xs. xs ≡ []) (nothing_before did) held-on nothing_at_all admits.2 then.5))
+  let_through there' generation ending same admits then = (
+    (admits.0 ++ then.0) ++ then.1,
+    turned there makes generation admits.0 then.0 then.1 admits.1 then.2 ending then.3 (subst (λ z. IsRest z generation then.2 ending then.1) same then.4),
+    subst (λ z. Effects z did held-all clock clock' (λ xs. xs ≡ [])) (sym (append_assoc admits.0 then.0 then.1))
+        (effects_on admits.0 (then.0 ++ then.1) (λ xs. xs ≡ []) did did held held-then held-all clock between clock' (λ xs. xs ≡ []) (λ xs. xs ≡ []) (λ xs. xs ≡ []) (nothing_before did) held-on nothing_at_all admits.2 then.5),
+  )
 
 -- a turn that was not let through
 module _ {E G B : Type 0} (there : Bool) (makes : Attempt G B → List (Event E) → Type 0) (did : List E → Type 0) (held : List Step → Type 0) (clock clock' : Clocked) where

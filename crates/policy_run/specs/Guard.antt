@@ -1,5 +1,5 @@
 -- What a guard without a breaker does: nothing.
-use Rattle.std.specs.Prelude.{◌≡◌, List, [], ◌++◌, refl}
+use Rattle.std.specs.Prelude.{◌≡◌, List, [], ◌++◌}
 use Rattle.std.proofs.Common.{ap, ◌∙◌}
 
 -- nothing, and then nothing, is nothing

@@ -1,10 +1,11 @@
 -- One turn of a call: an attempt is let through, made, and reported.
-use Rattle.std.specs.Prelude.{◌≡◌, ◌⊎◌, ℕ, Bool, true, false, List, [], ◌∷◌, ◌++◌, Result, Ok, Err}
+use Rattle.std.specs.Prelude.{◌≡◌, ℕ, Bool, true, false, List, [], ◌∷◌, ◌++◌, Result, Ok, Err}
 use Rattle.breaker_core.specs.declared.command.BreakerCmd.{BreakerCmd}
 use Rattle.breaker_core.specs.declared.command.BreakerCmd.TheVariants.{Admit, Report}
 use Rattle.breaker_core.specs.declared.command.BreakerReply.{BreakerReply}
 use Rattle.breaker_core.specs.declared.command.BreakerReply.TheVariants.{Admitted, Opened, TooMany, Counted, Stale}
 use Rattle.breaker_core.specs.Course.{Step}
+use Rattle.breaker_core.specs.Fits.{Fits}
 use Rattle.turn_cell.specs.declared.error.Exhausted.{Exhausted}
 use Rattle.policy_run.specs.declared.operation.Attempt.{Attempt}
 use Rattle.policy_run.specs.declared.operation.Attempt.TheVariants.{Good, Bad, NoMemory}
@@ -14,20 +15,7 @@ use Rattle.policy_run.specs.declared.turn.Admission.{Admission}
 use Rattle.policy_run.specs.declared.turn.Admission.TheVariants as admission
 use Rattle.policy_run.specs.Event.{Event, guarded, moment}
 
--- an admission is answered by itself or by one of the two refusals, a report by one of the other two answers
-abbrev pub Fits : BreakerCmd → BreakerReply → Type 0
-Fits (Admit now) (Admitted generation half) = Unit {0}
-Fits (Admit now) (Opened until) = Unit {0}
-Fits (Admit now) (TooMany out) = Unit {0}
-Fits (Admit now) Counted = ⊥
-Fits (Admit now) (Stale current) = ⊥
-Fits (Report generation now good) (Admitted g half) = ⊥
-Fits (Report generation now good) (Opened until) = ⊥
-Fits (Report generation now good) (TooMany out) = ⊥
-Fits (Report generation now good) Counted = Unit {0}
-Fits (Report generation now good) (Stale current) = Unit {0}
-
--- the step answers this reply to this command
+-- the step answers this reply to this command, which is one that fits it
 pub record Answers (step : Step) (asked : BreakerCmd) (answer : BreakerReply) : Type 0 where
   pub cmd : step.cmd ≡ asked
   pub reply : step.reply ≡ answer

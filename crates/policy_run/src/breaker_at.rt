@@ -1,4 +1,5 @@
 use crate::Guard;
+use breaker_core::laws::replies_fit_their_commands;
 use breaker_core::{Breaker, BreakerCmd, BreakerReply};
 use std::sync::Wait;
 use turn_cell::{Exhausted, Object, Seat, TurnCell};
@@ -27,6 +28,7 @@ impl Guard for BreakerAt<'_> {
     }
 
     fn step<W: Wait>(&mut self, rt: &W, cmd: &BreakerCmd) -> Result<BreakerReply, Exhausted> {
+        replies_fit_their_commands();
         self.cell.call(rt, self.seat, cmd)
     }
 

@@ -85,11 +85,7 @@ fn run_with<P: Operation, G: Guard, C: Clock, R: Rng, W: Wait>(
 }
 
 /// Decides after a failing attempt by one random word: waits before the next one, or says that none follows.
-fn goes_on<P: Operation, C: Clock, R: Rng>(
-    run: &mut RetryRun,
-    clock: &mut C,
-    rng: &mut R,
-) -> bool
+fn goes_on<P: Operation, C: Clock, R: Rng>(run: &mut RetryRun, clock: &mut C, rng: &mut R) -> bool
     ensures { (policy : RetryPolicy) (words : List ℕ) → run.old ≡ run_after policy words → (events : List (Event P.Own)) × Decides policy words result run.new events × Effects events (λ xs. xs ≡ []) (λ xs. xs ≡ []) (clocked C.Clock clock.old) (clocked C.Clock clock.new) (λ ws. Drawn next_u64 (R.stream rng.old) ws (R.stream rng.new)) }
 {
     match run.next(rng.next_u64()) {

@@ -1,10 +1,10 @@
 ghost use Rattle.std.specs.Prelude.{◌≡◌, ℕ, List, [], ◌++◌, true, IfErr};
 ghost use Rattle.breaker_core.specs.declared.command.BreakerCmd.TheVariants.{Admit};
-ghost use Rattle.breaker_core.specs.Course.{Step};
+ghost use Rattle.breaker_core.specs.Fits.{Fits};
 ghost use Rattle.policy_run.specs.declared.operation.Attempt.{Attempt};
 ghost use Rattle.policy_run.specs.Event.{Event};
 ghost use Rattle.policy_run.specs.Effects.{Effects, clocked};
-ghost use Rattle.policy_run.specs.Turn.{Fits, IsAdmission, IsAdmittedBy, IsReport, is_good};
+ghost use Rattle.policy_run.specs.Turn.{IsAdmission, IsAdmittedBy, IsReport, is_good};
 ghost use Rattle.policy_run.specs.Attempts.{TurnsTo, IsRest, turned_by};
 
 use crate::{Attempt, Guard, Operation, Outcome, Refusal};
@@ -142,7 +142,8 @@ fn report<P: Operation, G: Guard, C: Clock, W: Wait>(
     ensures there { G.there guard.new ≡ G.there guard.old }
     ensures shows { IfErr result (λ e. G.shows guard.new e.count) }
 {
-    if !guard.is_there() {
+    let there = guard.is_there();
+    if !there {
         return Ok(());
     }
     let now = clock.now();

@@ -1,4 +1,4 @@
-use Rattle.std.proofs.Common.{rules, ◌≡◌, ◌∙◌, sym, ap}
+use Rattle.std.proofs.Common.{rules}
 use Rattle.policy_run.specs.Effects.{clocked}
 use Rattle.policy_run.proofs.Trying.{gives_up, waits}
 use Rattle.policy_run.proofs.run.goes_on.Goals as goal

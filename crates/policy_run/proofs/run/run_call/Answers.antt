@@ -1,4 +1,4 @@
-use Rattle.std.proofs.Common.{◌≡◌, refl, rules}
+use Rattle.std.proofs.Common.{refl}
 use Rattle.rand_core.specs.Stream.{next_u64}
 use Rattle.side_world.specs.Moments.{Drawn}
 use Rattle.policy_run.specs.Attempts.{limit_of}
