@@ -18,7 +18,9 @@ pub fn format<D: Disk>(disk: &mut D) -> Result<(), JournalErr>
     ensures formatted { OnOk result (Shows D.Disk disk.new (λ bytes. bytes ≡ header ++ 0 ∷ [])) }
     ensures image { OnOk result (Shows D.Disk disk.new (λ bytes. IsImage bytes [])) }
     ensures size { OnOk result (D.size disk.new ≡ 17) }
+    ensures no_longer { D.size disk.new ≤ 17 }
     ensures failed { OnErr result (Rose (D.faults disk.old) (D.faults disk.new)) }
+    ensures no_fault { OnOk result (D.faults disk.new ≡ D.faults disk.old) }
     ensures only_failed { OnErr result (IsErrOf result JournalErr.Failed) }
     ensures no_fewer { D.faults disk.old ≤ D.faults disk.new }
 {

@@ -1,11 +1,15 @@
 ghost use Rattle.std.specs.Prelude.{◌+◌, ◌<◌, ◌≤◌, ◌^◌};
 
+use crate::formatting::format;
 use crate::loading::read_all;
 use crate::parsing::bodies_of;
 use crate::writing::{set_gate, stage};
 use crate::{Bodies, JournalErr};
 use side_world::Disk;
 use std::alloc::Global;
+
+/// How many bytes stand before the first gate.
+const HEADER_BYTES: u64 = 16;
 
 /// A list of byte strings, the bodies, in the file of a disk. An append is acknowledged once its body is on the disk.
 ///
@@ -25,13 +29,38 @@ pub struct Journal<D: Disk> {
 }
 
 impl<D: Disk> Journal<D> {
-    ghost use Rattle.std.specs.Prelude.{◌≡◌, ◌⊎◌, ◌↔◌, ◌<◌, ◌+◌, ◌≤◌, true, false, ℕ, List, [], ◌∷◌, ◌++◌, length, Some, None, Err, IfOk, IfErr, IsOk, OnOk, OnErr};
+    ghost use Rattle.std.specs.Prelude.{◌≡◌, ◌⊎◌, ◌↔◌, ◌<◌, ◌+◌, ◌≤◌, max, true, false, ℕ, List, [], ◌∷◌, ◌++◌, length, Some, None, Err, IfOk, IfErr, IsOk, OnOk, OnErr};
     ghost use Rattle.side_world.specs.Faults.{Rose};
-    ghost use Rattle.disk_journal.specs.Image.{IsImage, IsWithOrWithout, end_of};
+    ghost use Rattle.disk_journal.specs.Image.{header, IsImage, IsWithOrWithout, end_of};
     ghost use Rattle.disk_journal.specs.Journal.{disk_of, len_of, limit_of, torn_of, Holds};
-    ghost use Rattle.disk_journal.specs.Moments.{Reads, AtEachMoment, ChangesNothing};
+    ghost use Rattle.disk_journal.specs.Moments.{Reads, Shows, AtEachMoment, ChangesNothing};
     ghost use Rattle.disk_journal.specs.Refusal.{IsNoJournal};
     ghost use Rattle.disk_journal.specs.declared.error.JournalErr.TheVariants.{Failed, NotAJournal, Full};
+
+    /// Makes an empty disk a journal of no bodies, as `format` does, and opens it. Takes no memory. `limit` is as for `load`.
+    ///
+    /// Where the disk fails it is given back; a crash before `Ok`, or a failure, may leave a file that is refused.
+    pub fn create(mut disk: D, limit: u64) -> Result<Journal<D>, (D, JournalErr)>
+        requires { D.size disk ≡ 0 }
+        ensures holds { IfOk result (λ journal. Holds D.Disk journal [] None) }
+        ensures formatted { IfOk result (λ journal. Shows D.Disk (disk_of journal) (λ bytes. bytes ≡ header ++ 0 ∷ [])) }
+        ensures limit { IfOk result (λ journal. limit_of journal ≡ limit) }
+        ensures size { IfOk result (λ journal. D.size (disk_of journal) ≡ 17) }
+        ensures failed { IfErr result (λ e. (e.1 ≡ Failed) × Rose (D.faults disk) (D.faults e.0)) }
+        ensures no_fault { IfOk result (λ journal. D.faults (disk_of journal) ≡ D.faults disk) }
+        ensures no_longer { IfErr result (λ e. D.size e.0 ≤ 17) }
+        ensures no_fewer_given_back { IfErr result (λ e. D.faults disk ≤ D.faults e.0) }
+    {
+        match format(&mut disk) {
+            Ok(()) => Ok(Journal {
+                disk,
+                end: HEADER_BYTES,
+                limit,
+                torn: false,
+            }),
+            Err(error) => Err((disk, error)),
+        }
+    }
 
     /// Opens the journal of a disk, and gives its bodies; has all that was written reach the disk first. `limit` is the greatest length
     /// of the file, in bytes, that an append may lead to.
@@ -57,8 +86,9 @@ impl<D: Disk> Journal<D> {
         ensures given_back { IfErr result (λ e. ChangesNothing D.Disk disk e.0) }
 
         ensures failed { IfErr result (λ e. e.1 ≡ Failed → Rose (D.faults disk) (D.faults e.0)) }
+        ensures no_fault { IfOk result (λ opened. D.faults (disk_of opened.0) ≡ D.faults disk) }
+        ensures no_fault_given_back { IfErr result (λ e. (e.1 ≡ Failed → ⊥) → D.faults e.0 ≡ D.faults disk) }
         ensures not_full { IfErr result (λ e. (len : ℕ) → e.1 ≡ Full len → ⊥) }
-        ensures no_fewer { IfOk result (λ opened. D.faults disk ≤ D.faults (disk_of opened.0)) }
         ensures no_fewer_given_back { IfErr result (λ e. D.faults disk ≤ D.faults e.0) }
     {
         let bytes = match read_all(alloc, &mut disk) {
@@ -94,10 +124,15 @@ impl<D: Disk> Journal<D> {
         ensures full { (len : ℕ) → (result ≡ Err (Full len)) ↔ ((len ≡ len_of self.old + 9 + length body.now) × (limit_of self.old < len)) }
         ensures unchanged { (len : ℕ) → result ≡ Err (Full len) → self.new ≡ self.old }
         ensures failed { result ≡ Err JournalErr.Failed → Rose (D.faults (disk_of self.old)) (D.faults (disk_of self.new)) }
+        ensures no_fault { OnOk result (D.faults (disk_of self.new) ≡ D.faults (disk_of self.old)) }
         ensures causes { OnErr result ((result ≡ Err JournalErr.Failed) ⊎ ((len : ℕ) × (result ≡ Err (Full len)))) }
 
         ensures ok { OnOk result ((torn_of self.new ≡ false) × (len_of self.new ≡ len_of self.old + 9 + length body.now)) }
         ensures err { OnErr result (len_of self.new ≡ len_of self.old) }
+
+        // The file never grows further than the record needs.
+        ensures no_longer { D.size (disk_of self.new) ≤ max (D.size (disk_of self.old)) (len_of self.old + 9 + length body.now) }
+
         ensures limit { limit_of self.new ≡ limit_of self.old }
         ensures no_fewer { D.faults (disk_of self.old) ≤ D.faults (disk_of self.new) }
     {
@@ -125,7 +160,9 @@ impl<D: Disk> Journal<D> {
         ensures ok { OnOk result (torn_of self.new ≡ false) }
         ensures err { OnErr result (torn_of self.new ≡ true) }
         ensures failed { OnErr result ((result ≡ Err JournalErr.Failed) × Rose (D.faults (disk_of self.old)) (D.faults (disk_of self.new))) }
+        ensures no_fault { OnOk result (D.faults (disk_of self.new) ≡ D.faults (disk_of self.old)) }
         ensures len { len_of self.new ≡ len_of self.old }
+        ensures size { D.size (disk_of self.new) ≡ D.size (disk_of self.old) }
         ensures limit { limit_of self.new ≡ limit_of self.old }
         ensures no_fewer { D.faults (disk_of self.old) ≤ D.faults (disk_of self.new) }
     {

@@ -16,6 +16,7 @@ pub(crate) fn read_all<D: Disk>(alloc: Global, disk: &mut D) -> Result<Vec<u8>, 
     ensures durable { OnOk result (LeavesOnly (D.contents disk.old) (D.leaves disk.new)) }
     ensures same { ChangesNothing D.Disk disk.old disk.new }
     ensures failed { result ≡ Err JournalErr.Failed → Rose (D.faults disk.old) (D.faults disk.new) }
+    ensures no_fault { (result ≡ Err JournalErr.Failed → ⊥) → D.faults disk.new ≡ D.faults disk.old }
     ensures no_other { (at : ℕ) → result ≡ Err (NotAJournal at) → ⊥ }
     ensures not_full { (len : ℕ) → result ≡ Err (Full len) → ⊥ }
     ensures no_fewer { D.faults disk.old ≤ D.faults disk.new }

@@ -19,6 +19,7 @@ pub(crate) fn sync<D: Disk>(disk: &mut D) -> Result<(), JournalErr>
     ensures crash { NoNew (D.leaves disk.old) (D.leaves disk.new) }
     ensures time { GoesOn (D.moment disk.old) (D.moment disk.new) (D.left_since disk.old) (D.left_since disk.new) (D.leaves disk.new) }
     ensures failed { OnErr result (Rose (D.faults disk.old) (D.faults disk.new)) }
+    ensures no_fault { OnOk result (D.faults disk.new ≡ D.faults disk.old) }
     ensures only_failed { OnErr result (result ≡ Err Failed) }
     ensures no_fewer { D.faults disk.old ≤ D.faults disk.new }
 {
@@ -34,8 +35,10 @@ fn write_behind<D: Disk>(disk: &mut D, at: u64, piece: &[u8]) -> Result<(), Jour
     ensures begun { (first : D) (bodies : List (List ℕ)) (begun : List ℕ) → HasBegun D.Disk first disk.old bodies begun → at ≡ end_of bodies + 1 + length begun → OnOk result (HasBegun D.Disk first disk.new bodies (begun ++ piece.now)) }
     ensures whole { (first : D) (bodies : List (List ℕ)) (begun : List ℕ) → HasBegun D.Disk first disk.old bodies begun → at ≡ end_of bodies + 1 + length begun → OnErr result (HasBegun D.Disk first disk.new bodies begun) }
     ensures size { OnOk result (at + length piece.now ≤ D.size disk.new) }
+    ensures no_longer { D.size disk.new ≤ max (D.size disk.old) (at + length piece.now) }
     ensures no_shorter { D.size disk.old ≤ D.size disk.new }
     ensures failed { OnErr result (Rose (D.faults disk.old) (D.faults disk.new)) }
+    ensures no_fault { OnOk result (D.faults disk.new ≡ D.faults disk.old) }
     ensures only_failed { OnErr result (result ≡ Err Failed) }
     ensures no_fewer { D.faults disk.old ≤ D.faults disk.new }
 {
@@ -53,8 +56,10 @@ pub(crate) fn stage<D: Disk>(disk: &mut D, end: u64, body: &[u8]) -> Result<(), 
     ensures staged { (bodies : List (List ℕ)) → end ≡ end_of bodies → Shows D.Disk disk.old (IsFile bodies None) → OnOk result (Shows D.Disk disk.new (IsFile bodies (Some body.now))) }
     ensures whole { (bodies : List (List ℕ)) → end ≡ end_of bodies → Shows D.Disk disk.old (IsFile bodies None) → (begun : List ℕ) × HasBegun D.Disk disk.old disk.new bodies begun }
     ensures size { OnOk result (end + 10 + length body.now ≤ D.size disk.new) }
+    ensures no_longer { D.size disk.new ≤ max (D.size disk.old) (end + 10 + length body.now) }
     ensures no_shorter { D.size disk.old ≤ D.size disk.new }
     ensures failed { OnErr result (Rose (D.faults disk.old) (D.faults disk.new)) }
+    ensures no_fault { OnOk result (D.faults disk.new ≡ D.faults disk.old) }
     ensures only_failed { OnErr result (result ≡ Err Failed) }
     ensures no_fewer { D.faults disk.old ≤ D.faults disk.new }
 {
@@ -70,8 +75,9 @@ pub(crate) fn set_gate<D: Disk>(disk: &mut D, end: u64, gate: u8) -> Result<(), 
     requires within { end + 1 ≤ D.size disk.old }
     ensures set { (bodies : List (List ℕ)) (body : List ℕ) → end ≡ end_of bodies → Shows D.Disk disk.old (IsFile bodies (Some body)) → OnOk result (Shows D.Disk disk.new (λ bytes. IsRecorded bytes bodies gate body)) }
     ensures doubt { (bodies : List (List ℕ)) (body : List ℕ) → end ≡ end_of bodies → Shows D.Disk disk.old (IsFile bodies (Some body)) → IsInDoubt D.Disk disk.old disk.new bodies body }
-    ensures no_shorter { D.size disk.old ≤ D.size disk.new }
+    ensures size { D.size disk.new ≡ D.size disk.old }
     ensures failed { OnErr result (Rose (D.faults disk.old) (D.faults disk.new)) }
+    ensures no_fault { OnOk result (D.faults disk.new ≡ D.faults disk.old) }
     ensures only_failed { OnErr result (result ≡ Err Failed) }
     ensures no_fewer { D.faults disk.old ≤ D.faults disk.new }
 {

@@ -33,3 +33,4 @@ pub mod CopiedRuns
 pub mod ValueFacts
 pub mod LevelFacts
 pub mod FirstHolders
+pub mod TextLengths

@@ -2,6 +2,7 @@
 #![tactic(auto)]
 
 mod copies;
+mod cursor;
 mod doc;
 mod error;
 mod kind;
@@ -22,6 +23,7 @@ mod texts;
 mod unescape;
 mod write;
 
+pub use cursor::TextBytes;
 pub use doc::{Doc, Node};
 pub use error::JsonErr;
 pub use kind::Kind;

@@ -1,6 +1,6 @@
 // The texts of a value and of its name.
 ghost use Rattle.std.specs.Prelude.{◌≡◌, ◌↔◌, ◌++◌, IsTrue, OnOk, OnErr, slice_get};
-ghost use Rattle.json_text.specs.Unescape.{HasText, HasName, text_shown, name_shown};
+ghost use Rattle.json_text.specs.Unescape.{HasText, HasName, unescaped, text_shown, name_shown};
 
 use crate::copies::push_unescaped;
 use crate::kind::Kind;
@@ -32,18 +32,37 @@ pub(crate) fn has_name(bytes: &[u8], spot: Spot, name: &[u8]) -> bool
     }
 }
 
+/// What spells the text that the value is; nothing for another value.
+#[tactic(auto, unfolding(crate::specs::Unescape::unescaped_from))]
+pub(crate) fn text_inside(bytes: &[u8], spot: Spot) -> &[u8]
+    ensures { unescaped result.now ≡ text_shown bytes.now spot }
+{
+    match spot.kind {
+        Kind::Text => content_of(bytes, spot.span),
+        Kind::Null => b"",
+        Kind::Flag { on: _ } => b"",
+        Kind::Number => b"",
+        Kind::List => b"",
+        Kind::Map => b"",
+    }
+}
+
+/// What spells the name of a member; nothing for another value.
+#[tactic(auto, unfolding(crate::specs::Unescape::unescaped_from))]
+pub(crate) fn name_inside(bytes: &[u8], spot: Spot) -> &[u8]
+    ensures { unescaped result.now ≡ name_shown bytes.now spot }
+{
+    match spot.name {
+        Some(span) => content_of(bytes, span),
+        None => b"",
+    }
+}
+
 /// The byte of this number of the text that the value is.
 pub(crate) fn text_byte_of(bytes: &[u8], spot: Spot, number: usize) -> Option<u8>
     ensures { result ≡ slice_get (text_shown bytes.now spot) number }
 {
-    match spot.kind {
-        Kind::Text => byte_of(content_of(bytes, spot.span), number),
-        Kind::Null => None,
-        Kind::Flag { on: _ } => None,
-        Kind::Number => None,
-        Kind::List => None,
-        Kind::Map => None,
-    }
+    byte_of(text_inside(bytes, spot), number)
 }
 
 /// Appends the text that the value is; nothing for another value. Without memory `out` stays as it was.
@@ -51,14 +70,7 @@ pub(crate) fn push_text_of(out: &mut Blob, bytes: &[u8], spot: Spot) -> Result<(
     ensures ok { OnOk result (out.new ≡ out.old ++ text_shown bytes.now spot) }
     ensures err { OnErr result (out.new ≡ out.old) }
 {
-    match spot.kind {
-        Kind::Text => push_unescaped(out, content_of(bytes, spot.span)),
-        Kind::Null => Ok(()),
-        Kind::Flag { on: _ } => Ok(()),
-        Kind::Number => Ok(()),
-        Kind::List => Ok(()),
-        Kind::Map => Ok(()),
-    }
+    push_unescaped(out, text_inside(bytes, spot))
 }
 
 /// Appends the name of a member; nothing for another value. Without memory `out` stays as it was.
@@ -66,8 +78,5 @@ pub(crate) fn push_name_of(out: &mut Blob, bytes: &[u8], spot: Spot) -> Result<(
     ensures ok { OnOk result (out.new ≡ out.old ++ name_shown bytes.now spot) }
     ensures err { OnErr result (out.new ≡ out.old) }
 {
-    match spot.name {
-        Some(span) => push_unescaped(out, content_of(bytes, span)),
-        None => Ok(()),
-    }
+    push_unescaped(out, name_inside(bytes, spot))
 }

@@ -1,4 +1,5 @@
 pub mod Changes
+pub mod Commits
 pub mod EndTable
 pub mod Ends
 pub mod Growth

@@ -1,5 +1,4 @@
 ghost use Rattle.std.specs.Prelude.{◌≡◌, ◌≤◌, ◌↔◌, ◌+◌, ◌-◌, ◌^◌, min, IsTrue, Contains};
-ghost use Rattle.side_world.specs.Faults.{Rose};
 
 use side_base::Places;
 
@@ -29,7 +28,7 @@ impl FailingCommits {
     pub(crate) fn fail(&mut self)
         ensures places { self.new.places ≡ self.old.places }
         ensures commits { self.new.commits ≡ min (self.old.commits + 1) (2 ^ 64 - 1) }
-        ensures failed { Rose self.old.faults self.new.faults }
+        ensures faults { self.new.faults ≡ min (self.old.faults + 1) (2 ^ 64 - 1) }
         ensures no_fewer { self.old.faults ≤ self.new.faults }
     {
         self.commits = self.commits.saturating_add(1);

@@ -16,6 +16,7 @@ pub struct MemoryKeeper {
     size: u64,
     limit: u64,
     failing: FailingCommits,
+    secret: [u8; 16],
     ghost sized: { size ≡ bytes_in table.rows },
     ghost counted: { IsCounted table.rows next },
 }
@@ -26,8 +27,8 @@ impl MemoryKeeper {
     ghost use Rattle.keeper_core.specs.MemoryKeeper.{rows_in, next_of, limit_of, faults_of, failing_of, commits_of};
 
     /// No rows, and a next version of 1; takes no memory. `failing` are the commits, counted from 0, that fail. A commit that
-    /// finds no memory is not counted.
-    pub fn new(alloc: Global, limit: u64, failing: Places) -> MemoryKeeper
+    /// finds no memory is not counted. `secret` are random bytes, for the hash of keys.
+    pub fn new(alloc: Global, limit: u64, failing: Places, secret: [u8; 16]) -> MemoryKeeper
         ensures rows { rows_in result ≡ empty }
         ensures next { next_of result ≡ 1 }
         ensures limit { limit_of result ≡ limit }
@@ -46,12 +47,13 @@ impl MemoryKeeper {
                 commits: 0,
                 faults: 0,
             },
+            secret,
         }
     }
 }
 
 impl Keeper for MemoryKeeper {
-    ghost use Rattle.std.specs.Prelude.{◌≡◌, ◌≤◌, ◌<◌, ◌^◌, ◌↔◌, ℕ, OnOk, OnErr};
+    ghost use Rattle.std.specs.Prelude.{◌≡◌, ◌≤◌, ◌<◌, ◌+◌, ◌-◌, ◌^◌, ◌↔◌, min, ℕ, Err, OnOk, OnErr};
     ghost use Rattle.side_world.specs.Faults.{Rose};
     ghost use Rattle.keeper_core.specs.Rows.{bytes_in};
     ghost use Rattle.keeper_core.specs.Faults.{has_some, Rises};
@@ -71,6 +73,9 @@ impl Keeper for MemoryKeeper {
     ghost may_fail = { λ keeper. has_some (failing_of keeper) };
 
     ghost size_after = { λ keeper rows size changes. bytes_in (after_changes rows changes) };
+
+    // Its rows are gone with the process, so that nothing is to be said of where they are kept.
+    ghost leads = { λ old answers new. Unit {0} };
 
     fn find(&self, key: &[u8]) -> Option<RowView<'_>> {
         self.table.find(key)
@@ -101,6 +106,8 @@ impl Keeper for MemoryKeeper {
         ensures unchanged { OnErr result ((rows_in self.new ≡ rows_in self.old) × (next_of self.new ≡ next_of self.old)) }
         ensures stays { (limit_of self.new ≡ limit_of self.old) × (failing_of self.new ≡ failing_of self.old) }
         ensures rises { Rises (has_some (failing_of self.old)) (faults_of self.old) (faults_of self.new) }
+        ensures steady { (result ≡ Err KeepErr.Failed → ⊥) → faults_of self.new ≡ faults_of self.old }
+        ensures faults { result ≡ Err KeepErr.Failed → faults_of self.new ≡ min (faults_of self.old + 1) (2 ^ 64 - 1) }
     {
         if self.failing.is_next() {
             self.failing.fail();
@@ -124,4 +131,8 @@ impl Keeper for MemoryKeeper {
     }
 
     ghost counted = { λ keeper. keeper.counted };
+
+    ghost at_rest = { λ keeper. tt };
+
+    ghost goes_on = { λ first mid last before behind led goes. tt };
 }

@@ -8,6 +8,9 @@ use std::alloc::Global;
 use std::process::Abort;
 use std::test::Fail;
 
+/// The secret bytes of a test.
+const SECRET: [u8; 16] = [7; 16];
+
 /// A change as a table has it: a put has its key, its value, its version and its `until`.
 #[derive(Clone, Copy)]
 enum Told {
@@ -68,7 +71,7 @@ fn keeper(alloc: Global, limit: u64, failing: &[u32]) -> Result<MemoryKeeper, No
         Err(_) => failing.to_vec(alloc)?,
     };
     let failing: Places = Sequence::from_vec(places);
-    Ok(MemoryKeeper::new(alloc, limit, failing))
+    Ok(MemoryKeeper::new(alloc, limit, failing, SECRET))
 }
 
 /// Whether a change puts a version below `next`.

@@ -1,18 +1,20 @@
 -- Which commits a keeper keeps, from what its journal holds.
-use Rattle.std.proofs.Common.{◌≡◌, ◌⊎◌, inl, inr, ◌≤◌, ◌^◌, ℕ, List, [], ◌∷◌, ◌++◌, Option, Some, None, sym, ◌∙◌, ap, subst}
+use Rattle.std.proofs.Common.{◌≡◌, ◌⊎◌, inl, inr, ◌≤◌, ◌<◌, ◌^◌, ℕ, List, [], ◌∷◌, ◌++◌, Option, Some, None, sym, ◌∙◌, ap, subst}
+use Rattle.std.proofs.Props.{props}
 use Rattle.std.specs.FinMap.{empty}
 use Rattle.side_world.specs.declared.disk.Disk.{Ghosts}
-use Rattle.keeper_core.specs.Rows.{Rows}
+use Rattle.keeper_core.specs.Rows.{Rows, IsCounted}
 use Rattle.keeper_core.specs.Changes.{after_changes, VersionsAreBelow}
 use Rattle.keeper_core.specs.declared.changes.Change.{Change}
 use Rattle.keeper_core.specs.declared.changes.Changes.{Changes}
 use Rattle.disk_journal.specs.Image.{IsImage, IsFile}
-use Rattle.disk_journal.specs.Journal.{Holds}
+use Rattle.disk_journal.specs.Journal.{Holds, limit_of}
 use Rattle.disk_journal.specs.declared.journal.Journal.{Journal}
 use Rattle.keeper_journal.specs.Body.{IsBodyOf}
 use Rattle.keeper_journal.specs.History.{Say, MayFollow, next_of, IsHistory, HasOneMore, IsWithOneAtMost}
 use Rattle.keeper_journal.specs.Kept.{SaysDoubt, KeptAs}
 use Rattle.keeper_journal.specs.Storing as storing
+use Rattle.keeper_journal.specs.declared.journal_keeper.JournalKeeper.{JournalKeeper}
 use Rattle.keeper_journal.proofs.Files.{with_doubt}
 use Rattle.keeper_journal.proofs.Histories.{say_more, rows-more, next-more}
 
@@ -46,6 +48,19 @@ pub kept_says : (bodies : List (List ℕ)) (doubted : Option (List ℕ)) (commit
     → IsFile bodies doubted bytes → IsWithOneAtMost commits doubt commit bytes
 kept_says bodies doubted commits doubt commit bytes say in_doubt file = elim (kept_file bodies doubted commits doubt bytes say in_doubt file) [ inl same ↦ inl same | inr old ↦ inr (inl old) ]
 
+pub doubt_says : (bodies : List (List ℕ)) (doubted : Option (List ℕ)) (commits : List Changes) (doubt : Option Changes) (commit : Changes) (bytes : List ℕ) → Say bodies commits → SaysDoubt (next_of commits) doubted doubt
+    → storing.IsWithDoubt bodies doubted bytes → IsWithOneAtMost commits doubt commit bytes
+doubt_says bodies doubted commits doubt commit bytes say in_doubt (inl same) = inl (record { bodies = bodies; image = same; say = say })
+doubt_says bodies doubted commits doubt commit bytes say in_doubt (inr old) = inr (inl (doubted_more bodies doubted commits doubt bytes say in_doubt old))
+
+-- a journal with what another held, whose doubt is over or stays
+module _ {D : Type 0} (disking : Ghosts D) (old new : Journal D disking) (rows : Rows) (next : ℕ) (commits : List Changes) (doubt : Option Changes) (kept : KeptAs disking old rows next commits doubt) where
+  pub kept_whole : Holds disking new kept.bodies None → KeptAs disking new rows next commits None
+  kept_whole holds = record { bodies = kept.bodies; doubted = None; holds = holds; say = kept.say; in_doubt = tt; rows_are = kept.rows_are; next_is = kept.next_is }
+
+  pub kept_in_doubt : Holds disking new kept.bodies kept.doubted → KeptAs disking new rows next commits doubt
+  kept_in_doubt holds = record { bodies = kept.bodies; doubted = kept.doubted; holds = holds; say = kept.say; in_doubt = kept.in_doubt; rows_are = kept.rows_are; next_is = kept.next_is }
+
 pub may_be_next : (next : ℕ) (commits : List Changes) (commit : Changes) → next ≡ next_of commits → next ≤ commit.next → commit.next ≤ 2 ^ 62 → VersionsAreBelow commit.next commit.list → MayFollow (next_of commits) commit
 may_be_next next commits commit is grows most below = record { grows = subst (λ (n : ℕ). n ≤ commit.next) is grows; most = most; below = below }
 
@@ -64,9 +79,25 @@ module _ {D : Type 0} (disking : Ghosts D) (old new : Journal D disking) (rows :
 
   pub kept_still : Holds disking new kept.bodies kept.doubted ⊎ Holds disking new kept.bodies None ⊎ Holds disking new kept.bodies (Some body)
       → KeptAs disking new rows next commits doubt ⊎ KeptAs disking new rows next commits None ⊎ KeptAs disking new rows next commits (Some commit)
-  kept_still (inl holds) = inl (record { bodies = kept.bodies; doubted = kept.doubted; holds = holds; say = kept.say; in_doubt = kept.in_doubt; rows_are = kept.rows_are; next_is = kept.next_is })
-  kept_still (inr (inl holds)) = inr (inl (record { bodies = kept.bodies; doubted = None; holds = holds; say = kept.say; in_doubt = tt; rows_are = kept.rows_are; next_is = kept.next_is }))
+  kept_still (inl holds) = inl (kept_in_doubt disking old new rows next commits doubt kept holds)
+  kept_still (inr (inl holds)) = inr (inl (kept_whole disking old new rows next commits doubt kept holds))
   kept_still (inr (inr holds)) = inr (inr (record { bodies = kept.bodies; doubted = Some body; holds = holds; say = kept.say; in_doubt = (is, may); rows_are = kept.rows_are; next_is = kept.next_is }))
+
+-- a keeper made again of its parts is the same
+pub made_again : {D : Type 0} {disking : Ghosts D} (keeper : JournalKeeper D disking) (counted : IsCounted keeper.table.rows keeper.next) (short : limit_of keeper.journal < 2 ^ 32)
+    → (let again : JournalKeeper D disking = record { alloc = keeper.alloc; journal = keeper.journal; table = keeper.table; next = keeper.next; secret = keeper.secret; counted = counted; short = short } in again ≡ keeper)
+made_again keeper counted short =
+    let counted_prop : IsProp (IsCounted keeper.table.rows keeper.next) = hlevel props in
+    let short_prop : IsProp (limit_of keeper.journal < 2 ^ 32) = hlevel props in
+    λ i. record {
+      alloc = keeper.alloc;
+      journal = keeper.journal;
+      table = keeper.table;
+      next = keeper.next;
+      secret = keeper.secret;
+      counted = counted_prop counted keeper.counted i;
+      short = short_prop short keeper.short i;
+    }
 
 -- the body of a list of changes that went through other hands
 pub still_body : (bytes body : List ℕ) (list slice : List Change) (commit : Changes) → bytes ≡ body → slice ≡ list → list ≡ commit.list → IsBodyOf body (record { list = slice; next = commit.next }) → IsBodyOf bytes commit

@@ -1,24 +1,20 @@
 -- What a start gives, from what opening gives of the disk as it then is.
-use Rattle.std.proofs.Common.{◌≡◌, ◌≢◌, ℕ, List, [], ◌∷◌, ◌++◌, None, Result, Ok, Err, sym, ap, ◌∙◌}
+use Rattle.std.proofs.Common.{◌≡◌, ◌≢◌, ℕ, List, [], None, Result, Ok, Err, sym, ap, ◌∙◌, subst}
 use Rattle.std.specs.Prelude.{IfOk, IfErr}
+use Rattle.std.specs.FinMap.{empty}
 use Rattle.keeper_core.specs.Rows.{Rows}
 use Rattle.keeper_core.specs.declared.changes.Changes.{Changes}
 use Rattle.side_world.specs.declared.disk.Disk.{Ghosts}
-use Rattle.disk_journal.specs.Image.{header}
 use Rattle.disk_journal.specs.Journal.{Holds}
-use Rattle.disk_journal.specs.Moments.{Reads, Shows, ChangesNothing}
+use Rattle.disk_journal.specs.Moments.{Reads}
 use Rattle.disk_journal.specs.declared.error.JournalErr.{JournalErr}
 use Rattle.disk_journal.specs.declared.error.JournalErr.TheVariants.{NotAJournal}
 use Rattle.disk_journal.specs.declared.journal.Journal.{Journal}
 use Rattle.keeper_journal.specs.History.{Say, IsHistory, rows_of, next_of}
-use Rattle.keeper_journal.specs.JournalKeeper.{disk_in}
+use Rattle.keeper_journal.specs.JournalKeeper.{rows_in, next_in}
 use Rattle.keeper_journal.specs.Kept.{Kept, KeptAs}
 use Rattle.keeper_journal.specs.declared.journal_keeper.JournalKeeper.{JournalKeeper}
-use Rattle.keeper_journal.proofs.Files.{of_none}
 use Rattle.keeper_journal.proofs.Histories.{one_history}
-
-none_said : (bytes : List ℕ) → bytes ≡ header ++ 0 ∷ [] → IsHistory bytes []
-none_said bytes formatted = record { bodies = []; image = of_none bytes formatted; say = tt }
 
 module _ {D : Type 0} (disking : Ghosts D) where
   abbrev Opened : Type 0
@@ -42,20 +38,17 @@ module _ {D : Type 0} (disking : Ghosts D) where
   still_refused_only old mid same (Ok keeper) h = tt
   still_refused_only old mid same (Err e) h = λ at is bytes told. h at is bytes (same ∙ told)
 
-  -- on a formatted disk
-  pub fresh_kept : (disk : D) → Shows disking disk (λ bytes. bytes ≡ header ++ 0 ∷ []) → (r : Opened)
-      → IfOk r (λ keeper. Reads disking disk (λ bytes. (commits : List Changes) → IsHistory bytes commits → Kept disking keeper commits None))
-      → IfOk r (λ keeper. ChangesNothing disking disk (disk_in keeper))
-      → IfOk r (λ keeper. Reads disking (disk_in keeper) (λ bytes. Kept disking keeper [] None))
-  fresh_kept disk formatted (Ok keeper) only nothing = λ bytes told. only bytes (sym nothing.contents ∙ told) [] (none_said bytes (formatted.read bytes (sym nothing.contents ∙ told)))
-  fresh_kept disk formatted (Err e) only nothing = tt
-
-  pub fresh_not_refused : (disk : D) → Shows disking disk (λ bytes. bytes ≡ header ++ 0 ∷ []) → (r : Opened)
-      → IfErr r (λ e. (at : ℕ) → e.1 ≡ NotAJournal at → Reads disking disk (λ bytes. (commits : List Changes) → IsHistory bytes commits → ⊥))
-      → IfErr r (λ e. ChangesNothing disking disk e.0)
-      → IfErr r (λ e. (at : ℕ) → e.1 ≡ NotAJournal at → Reads disking e.0 (λ bytes. ⊥))
-  fresh_not_refused disk formatted (Ok keeper) only nothing = tt
-  fresh_not_refused disk formatted (Err e) only nothing = λ at is bytes told. only at is bytes (sym nothing.contents ∙ told) [] (none_said bytes (formatted.read bytes (sym nothing.contents ∙ told)))
+  -- over a journal that was just created
+  pub fresh_kept : (keeper : JournalKeeper D disking) (journal : Journal D disking) → Holds disking journal [] None → keeper.journal ≡ journal → rows_in keeper ≡ empty → next_in keeper ≡ 1 → Kept disking keeper [] None
+  fresh_kept keeper journal holds is rows next = record {
+    bodies = [];
+    doubted = None;
+    holds = subst (λ (j : Journal D disking). Holds disking j [] None) (sym is) holds;
+    say = tt;
+    in_doubt = tt;
+    rows_are = rows;
+    next_is = next;
+  }
 
   -- the keeper of the bodies of a journal keeps what they say
   pub kept_of : (journal : Journal D disking) (bodies : List (List ℕ)) (rows : Rows) (next : ℕ) (commits others : List Changes) → Holds disking journal bodies None → Say bodies commits → Say bodies others → rows ≡ rows_of commits → next ≡ next_of commits

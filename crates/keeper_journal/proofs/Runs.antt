@@ -1,17 +1,21 @@
 -- Runs of commits of a keeper.
-use Rattle.std.proofs.Common.{◌≡◌, ◌≢◌, ◌⊎◌, inl, inr, ℕ, suc, List, [], ◌∷◌, ◌++◌, length, take, Option, Some, None, Result, Ok, Err, sym, ◌∙◌, ap, subst, arith, append_assoc, length-append}
+use Rattle.std.proofs.Common.{◌≡◌, ◌≢◌, ◌⊎◌, inl, inr, ℕ, suc, List, [], ◌∷◌, ◌++◌, length, take, Option, Some, None, Result, Ok, Err, refl, sym, ◌∙◌, ap, subst, arith, append_assoc, length-append}
 use Rattle.std.specs.Prelude.{IfOk, IfErr, OnOk, OnErr}
 use Rattle.std.proofs.lemmas.List.{append-nil}
 use Rattle.side_world.specs.declared.disk.Disk.{Ghosts}
 use Rattle.keeper_core.specs.declared.changes.Changes.{Changes}
+use Rattle.keeper_core.specs.Commits.{made_by, acknowledged}
 use Rattle.disk_journal.specs.Image.{front, IsFile}
 use Rattle.disk_journal.specs.Moments.{Reads, AtEachMoment}
 use Rattle.disk_journal.specs.declared.error.JournalErr.{JournalErr}
 use Rattle.disk_journal.specs.declared.error.JournalErr.TheVariants.{NotAJournal}
 use Rattle.keeper_journal.specs.History.{Say, next_of, IsHistory, HasOneMore, IsWithOneAtMost}
-use Rattle.keeper_journal.specs.JournalKeeper.{disk_in}
-use Rattle.keeper_journal.specs.Kept.{Kept, SaysDoubt}
-use Rattle.keeper_journal.specs.Run.{commits_of, acknowledged, HasAtMostOneMore, IsCall, Leads, IsOfRun, IsLeftByRun, KeepsOfRun}
+use Rattle.keeper_core.specs.Rows.{Rows}
+use Rattle.disk_journal.specs.Journal.{disk_of}
+use Rattle.disk_journal.specs.declared.journal.Journal.{Journal}
+use Rattle.keeper_journal.specs.JournalKeeper.{rows_in, next_in, disk_in}
+use Rattle.keeper_journal.specs.Kept.{Kept, KeptAs, SaysDoubt}
+use Rattle.keeper_journal.specs.Run.{HasAtMostOneMore, IsCall, Leads, IsOfRun, IsLeftByRun, KeepsOfRun}
 use Rattle.keeper_journal.specs.declared.journal_keeper.JournalKeeper.{JournalKeeper}
 use Rattle.keeper_journal.proofs.Keeping.{kept_file}
 use Rattle.keeper_journal.proofs.Moments.{OnlyNow, more_likely, at_rest, calls_go_on}
@@ -60,11 +64,31 @@ module _ {D : Type 0} (disking : Ghosts D) where
       moments = moments;
     }
 
-  one_call_more : (commits : List Changes) (answer : Option Changes) (answers : List (Option Changes)) (bytes : List ℕ) → IsOfRun (commits ++ commits_of answer) answers bytes → IsOfRun commits (answer ∷ answers) bytes
+  -- a call that leads from one state to another
+  pub led : (old new : JournalKeeper D disking) (answer : Option Changes) → IsCall disking old new answer → Leads disking old (answer ∷ []) new
+  led old new answer call = (new, call, refl)
+
+  -- a call that leaves journal, rows and next version as they were
+  module _ (old new : JournalKeeper D disking) (journal : new.journal ≡ old.journal) (rows : rows_in new ≡ rows_in old) (next : next_in new ≡ next_in old) where
+    still_kept : (commits : List Changes) (doubt : Option Changes) → Kept disking old commits doubt → Kept disking new commits doubt
+    still_kept commits doubt kept =
+        subst (λ (j : Journal D disking). KeptAs disking j (rows_in new) (next_in new) commits doubt) (sym journal)
+        (subst (λ (r : Rows). KeptAs disking old.journal r (next_in new) commits doubt) (sym rows)
+        (subst (λ (n : ℕ). KeptAs disking old.journal (rows_in old) n commits doubt) (sym next) kept))
+
+    pub idle_call : OnlyNow disking → IsCall disking old new None
+    idle_call only = record {
+      kept = λ commits doubt kept. (doubt, same_commits new commits doubt (still_kept commits doubt kept));
+      moments = λ commits doubt kept.
+          subst (λ (j : Journal D disking). AtEachMoment disking (disk_in old) (disk_of j) (HasAtMostOneMore commits)) (sym journal)
+          (at_rest disking only (disk_in old) (HasAtMostOneMore commits) (λ bytes c told left. of_file kept.bodies kept.doubted commits doubt c kept.say kept.in_doubt (kept.holds.file.left bytes c told left)));
+    }
+
+  one_call_more : (commits : List Changes) (answer : Option Changes) (answers : List (Option Changes)) (bytes : List ℕ) → IsOfRun (commits ++ made_by answer) answers bytes → IsOfRun commits (answer ∷ answers) bytes
   one_call_more commits answer answers bytes run = record {
     count = suc run.count;
     within = omega (arith, run.within);
-    file = subst (λ (cs : List Changes). HasAtMostOneMore cs bytes) (append_assoc commits (commits_of answer) (acknowledged (take run.count answers))) run.file;
+    file = subst (λ (cs : List Changes). HasAtMostOneMore cs bytes) (append_assoc commits (made_by answer) (acknowledged (take run.count answers))) run.file;
   }
 
   no_call : (commits : List Changes) (answers : List (Option Changes)) (bytes : List ℕ) → HasAtMostOneMore commits bytes → IsOfRun commits answers bytes
@@ -76,8 +100,8 @@ module _ {D : Type 0} (disking : Ghosts D) where
   kept_behind first last [] commits doubt same kept = (doubt, subst (λ (k : JournalKeeper D disking). Kept disking k (commits ++ []) doubt) (sym same) (same_commits first commits doubt kept))
   kept_behind first last (answer ∷ answers) commits doubt run kept =
       let next = run.1.kept commits doubt kept in
-      let all = kept_behind run.0 last answers (commits ++ commits_of answer) next.0 run.2 next.1 in
-      (all.0, subst (λ (cs : List Changes). Kept disking last cs all.0) (append_assoc commits (commits_of answer) (acknowledged answers)) all.1)
+      let all = kept_behind run.0 last answers (commits ++ made_by answer) next.0 run.2 next.1 in
+      (all.0, subst (λ (cs : List Changes). Kept disking last cs all.0) (append_assoc commits (made_by answer) (acknowledged answers)) all.1)
 
   pub run_moments : OnlyNow disking → (first last : JournalKeeper D disking) (answers : List (Option Changes)) (commits : List Changes) (doubt : Option Changes)
       → Leads disking first answers last → Kept disking first commits doubt → AtEachMoment disking (disk_in first) (disk_in last) (IsOfRun commits answers)
@@ -88,8 +112,8 @@ module _ {D : Type 0} (disking : Ghosts D) where
       let next = run.1.kept commits doubt kept in
       calls_go_on disking (disk_in first) (disk_in run.0) (disk_in last) (IsOfRun commits (answer ∷ answers))
       (more_likely disking (disk_in first) (disk_in run.0) (HasAtMostOneMore commits) (IsOfRun commits (answer ∷ answers)) (λ c most. no_call commits (answer ∷ answers) c most) (run.1.moments commits doubt kept))
-      (more_likely disking (disk_in run.0) (disk_in last) (IsOfRun (commits ++ commits_of answer) answers) (IsOfRun commits (answer ∷ answers)) (λ c of_rest. one_call_more commits answer answers c of_rest)
-      (run_moments only run.0 last answers (commits ++ commits_of answer) next.0 run.2 next.1))
+      (more_likely disking (disk_in run.0) (disk_in last) (IsOfRun (commits ++ made_by answer) answers) (IsOfRun commits (answer ∷ answers)) (λ c of_rest. one_call_more commits answer answers c of_rest)
+      (run_moments only run.0 last answers (commits ++ made_by answer) next.0 run.2 next.1))
 
   -- what a crash in a run leaves
   pub left_of_run : OnlyNow disking → (commits : List Changes) (before behind : List (Option Changes)) (c : List ℕ) → IsLeftByRun disking commits before behind c → IsOfRun (commits ++ acknowledged before) behind c

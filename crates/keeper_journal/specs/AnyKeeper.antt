@@ -1,12 +1,14 @@
 -- What a keeper of either kind shows.
-use Rattle.std.specs.Prelude.{ℕ, Bool, true, List}
+use Rattle.std.specs.Prelude.{ℕ, Bool, true, List, [], ◌++◌, Option, refl}
 use Rattle.side_world.specs.declared.disk.Disk.{Ghosts}
 use Rattle.keeper_core.specs.Rows.{Rows, bytes_in, IsCounted}
 use Rattle.keeper_core.specs.Changes.{after_changes}
 use Rattle.keeper_core.specs.Faults.{has_some}
 use Rattle.keeper_core.specs.MemoryKeeper as memory
 use Rattle.keeper_core.specs.declared.changes.Change.{Change}
+use Rattle.keeper_core.specs.declared.changes.Changes.{Changes}
 use Rattle.keeper_journal.specs.JournalKeeper as journal
+use Rattle.keeper_journal.specs.Run.{Leads, leads_on}
 use Rattle.keeper_journal.specs.declared.any_keeper.AnyKeeper.{AnyKeeper}
 use Rattle.keeper_journal.specs.declared.any_keeper.AnyKeeper.TheVariants.{Memory, Journal}
 
@@ -41,3 +43,22 @@ any_size_after (Journal keeper) rows size changes = journal.size_with size chang
 pub any_counted : {D : Type 0} {disking : Ghosts D} (keeper : AnyKeeper D disking) → IsCounted (any_rows keeper) (any_next keeper)
 any_counted (Memory keeper) = keeper.counted
 any_counted (Journal keeper) = keeper.counted
+
+-- a keeper stays of its kind, and the calls of one over a journal are a run
+abbrev pub any_leads : {D : Type 0} {disking : Ghosts D} → AnyKeeper D disking → List (Option Changes) → AnyKeeper D disking → Type 0
+any_leads (Memory old) answers (Memory new) = Unit {0}
+any_leads {disking = disking} (Journal old) answers (Journal new) = Leads disking old answers new
+any_leads (Memory old) answers (Journal new) = ⊥
+any_leads (Journal old) answers (Memory new) = ⊥
+
+pub any_at_rest : {D : Type 0} {disking : Ghosts D} (keeper : AnyKeeper D disking) → any_leads keeper [] keeper
+any_at_rest (Memory keeper) = tt
+any_at_rest (Journal keeper) = refl
+
+pub any_goes_on : {D : Type 0} {disking : Ghosts D} (first mid last : AnyKeeper D disking) (before behind : List (Option Changes)) → any_leads first before mid → any_leads mid behind last → any_leads first (before ++ behind) last
+any_goes_on (Memory first) (Memory mid) (Memory last) before behind led goes = tt
+any_goes_on (Journal first) (Journal mid) (Journal last) before behind led goes = leads_on first mid last before behind led goes
+any_goes_on (Memory first) (Memory mid) (Journal last) before behind led goes = absurd goes
+any_goes_on (Memory first) (Journal mid) last before behind led goes = absurd led
+any_goes_on (Journal first) (Memory mid) last before behind led goes = absurd led
+any_goes_on (Journal first) (Journal mid) (Memory last) before behind led goes = absurd goes

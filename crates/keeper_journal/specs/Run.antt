@@ -1,22 +1,14 @@
 -- A run of commits of one keeper, and what a crash at some moment of it leaves.
 use Rattle.std.specs.Prelude.{◌≡◌, ◌≤◌, ℕ, List, [], ◌∷◌, ◌++◌, length, take, Option, Some, None}
+use Rattle.std.proofs.Common.{subst}
 use Rattle.side_world.specs.declared.disk.Disk.{Ghosts}
 use Rattle.keeper_core.specs.declared.changes.Changes.{Changes}
+use Rattle.keeper_core.specs.Commits.{made_by, acknowledged}
 use Rattle.disk_journal.specs.Moments.{AtEachMoment}
 use Rattle.keeper_journal.specs.History.{IsHistory}
 use Rattle.keeper_journal.specs.JournalKeeper.{disk_in}
 use Rattle.keeper_journal.specs.Kept.{Kept}
 use Rattle.keeper_journal.specs.declared.journal_keeper.JournalKeeper.{JournalKeeper}
-
--- what a call acknowledged: its changes, or none
-abbrev pub commits_of : Option Changes → List Changes
-commits_of None = []
-commits_of (Some commit) = commit ∷ []
-
--- the commits that some calls acknowledged, in order
-abbrev pub acknowledged : List (Option Changes) → List Changes
-acknowledged [] = []
-acknowledged (answer ∷ answers) = commits_of answer ++ acknowledged answers
 
 -- a file of these commits, and at most one more
 pub record HasAtMostOneMore (commits : List Changes) (bytes : List ℕ) : Type 0 where
@@ -27,13 +19,18 @@ pub record HasAtMostOneMore (commits : List Changes) (bytes : List ℕ) : Type 0
 -- A call of a keeper with this answer: it then keeps what it kept, and what was acknowledged. A crash at any moment of the call leaves what
 -- it kept, and at most one more.
 pub record IsCall {D : Type 0} (disking : Ghosts D) (old new : JournalKeeper D disking) (answer : Option Changes) : Type 0 where
-  pub kept : (commits : List Changes) (doubt : Option Changes) → Kept disking old commits doubt → (then : Option Changes) × Kept disking new (commits ++ commits_of answer) then
+  pub kept : (commits : List Changes) (doubt : Option Changes) → Kept disking old commits doubt → (then : Option Changes) × Kept disking new (commits ++ made_by answer) then
   pub moments : (commits : List Changes) (doubt : Option Changes) → Kept disking old commits doubt → AtEachMoment disking (disk_in old) (disk_in new) (HasAtMostOneMore commits)
 
 -- calls with these answers lead from one state of a keeper to another
 abbrev pub Leads : {D : Type 0} (disking : Ghosts D) → JournalKeeper D disking → List (Option Changes) → JournalKeeper D disking → Type 0
 Leads disking old [] new = new ≡ old
 Leads {D} disking old (answer ∷ answers) new = (mid : JournalKeeper D disking) × IsCall disking old mid answer × Leads disking mid answers new
+
+-- calls that go on where others have led
+pub leads_on : {D : Type 0} {disking : Ghosts D} (first mid last : JournalKeeper D disking) (before behind : List (Option Changes)) → Leads disking first before mid → Leads disking mid behind last → Leads disking first (before ++ behind) last
+leads_on {D} {disking} first mid last [] behind same goes = subst (λ (k : JournalKeeper D disking). Leads disking k behind last) same goes
+leads_on first mid last (answer ∷ before) behind led goes = (led.0, led.1, leads_on led.0 mid last before behind led.2 goes)
 
 -- a file of these commits, then those that the first of some calls acknowledged, then at most one more
 pub record IsOfRun (commits : List Changes) (answers : List (Option Changes)) (bytes : List ℕ) : Type 0 where

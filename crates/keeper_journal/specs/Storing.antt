@@ -10,3 +10,7 @@ HasOneMore bodies (Some body) bytes = IsImage bytes (bodies ++ body ∷ [])
 -- a file of these bodies, or of them and of one of two others
 abbrev pub IsWithOneAtMost : List (List ℕ) → Option (List ℕ) → List ℕ → List ℕ → Type 0
 IsWithOneAtMost bodies doubt body bytes = IsImage bytes bodies ⊎ HasOneMore bodies doubt bytes ⊎ HasOneMore bodies (Some body) bytes
+
+-- a file of these bodies, or of them and of the one in doubt
+abbrev pub IsWithDoubt : List (List ℕ) → Option (List ℕ) → List ℕ → Type 0
+IsWithDoubt bodies doubt bytes = IsImage bytes bodies ⊎ HasOneMore bodies doubt bytes

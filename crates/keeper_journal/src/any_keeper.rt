@@ -12,7 +12,7 @@ pub enum AnyKeeper<D: Disk> {
 }
 
 impl<D: Disk> Keeper for AnyKeeper<D> {
-    ghost use Rattle.keeper_journal.specs.AnyKeeper.{any_rows, any_next, any_size, any_limit, any_faults, any_may_fail, any_size_after, any_counted};
+    ghost use Rattle.keeper_journal.specs.AnyKeeper.{any_rows, any_next, any_size, any_limit, any_faults, any_may_fail, any_size_after, any_leads, any_counted, any_at_rest, any_goes_on};
 
     ghost rows = { any_rows };
 
@@ -27,6 +27,8 @@ impl<D: Disk> Keeper for AnyKeeper<D> {
     ghost may_fail = { any_may_fail };
 
     ghost size_after = { any_size_after };
+
+    ghost leads = { any_leads };
 
     fn find(&self, key: &[u8]) -> Option<RowView<'_>> {
         match self {
@@ -57,4 +59,8 @@ impl<D: Disk> Keeper for AnyKeeper<D> {
     }
 
     ghost counted = { any_counted };
+
+    ghost at_rest = { any_at_rest };
+
+    ghost goes_on = { any_goes_on };
 }

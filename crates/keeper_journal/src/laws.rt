@@ -2,6 +2,7 @@
 ghost use Rattle.std.specs.Prelude.{◌≡◌, ◌≤◌, ◌<◌, ◌^◌, ℕ, List, ◌++◌, Option, Some, None, Err, IfOk, IfErr, OnOk, OnErr};
 ghost use Rattle.side_world.specs.Faults.{Rose};
 ghost use Rattle.keeper_core.specs.Changes.{VersionsAreBelow};
+ghost use Rattle.keeper_core.specs.Commits.{acknowledged};
 ghost use Rattle.keeper_core.specs.declared.changes.Changes.{Changes};
 ghost use Rattle.disk_journal.specs.Moments.{AtEachMoment};
 ghost use Rattle.disk_journal.specs.declared.error.JournalErr.TheVariants.{NotAJournal};
@@ -9,7 +10,7 @@ ghost use Rattle.keeper_journal.specs.Body.{IsBodyOf};
 ghost use Rattle.keeper_journal.specs.History.{IsHistory, IsRefusedAt};
 ghost use Rattle.keeper_journal.specs.JournalKeeper.{disk_in, next_in, size_in, limit_in, size_with};
 ghost use Rattle.keeper_journal.specs.Kept.{Kept};
-ghost use Rattle.keeper_journal.specs.Run.{acknowledged, IsCall, Leads, IsOfRun, IsLeftByRun, KeepsOfRun};
+ghost use Rattle.keeper_journal.specs.Run.{IsCall, Leads, IsOfRun, IsLeftByRun, KeepsOfRun};
 ghost use Rattle.keeper_journal.specs.declared.journal_keeper.JournalKeeper.{JournalKeeper};
 
 use crate::JournalKeeper;
@@ -61,6 +62,7 @@ pub fn start_after_a_crash<D: Disk, E: Disk>(
     alloc: Global,
     disk: E,
     limit: u64,
+    secret: [u8; 16],
 ) -> Result<JournalKeeper<E>, (E, JournalErr)>
     requires { limit < 2 ^ 32 }
     ensures limit { IfOk result (λ keeper. limit_in keeper ≡ limit) }
@@ -68,5 +70,5 @@ pub fn start_after_a_crash<D: Disk, E: Disk>(
     ensures not_refused { IfErr result (λ e. (commits : List Changes) (front back : List (Option Changes)) (c : List ℕ) → IsLeftByRun D.Disk commits front back c → E.contents disk ≡ Some c → (at : ℕ) → e.1 ≡ NotAJournal at → ⊥) }
     ensures failed { IfErr result (λ e. e.1 ≡ JournalErr.Failed → Rose (E.faults disk) (E.faults e.0)) }
 {
-    JournalKeeper::start(alloc, disk, limit)
+    JournalKeeper::start(alloc, disk, limit, secret)
 }

@@ -1,5 +1,5 @@
 use crate::JournalKeeper;
-use crate::tests::{LIMIT, disk_of, save, shows, started};
+use crate::tests::{LIMIT, SECRET, disk_of, save, shows, started};
 use keeper_core::Keeper;
 use side_base::NoMemory;
 use side_memory::MemoryDisk;
@@ -9,7 +9,7 @@ use std::test::Fail;
 
 /// Starts, and starts again where memory or the disk failed.
 fn started_again(alloc: Global, disk: MemoryDisk) -> Option<JournalKeeper<MemoryDisk>> {
-    match JournalKeeper::start(alloc, disk, LIMIT) {
+    match JournalKeeper::start(alloc, disk, LIMIT, SECRET) {
         Ok(keeper) => Some(keeper),
         Err((disk, _)) => started(alloc, disk),
     }

@@ -18,6 +18,7 @@ pub(crate) fn opened<D: Disk>(
     alloc: Global,
     disk: D,
     limit: u64,
+    secret: [u8; 16],
 ) -> Result<JournalKeeper<D>, (D, JournalErr)>
     requires { limit < 2 ^ 32 }
     ensures kept { IfOk result (λ keeper. (commits : List Changes) × Kept D.Disk keeper commits None × Reads D.Disk disk (λ bytes. IsHistory bytes commits)) }
@@ -29,7 +30,8 @@ pub(crate) fn opened<D: Disk>(
     ensures given_back { IfErr result (λ e. ChangesNothing D.Disk disk e.0) }
     ensures failed { IfErr result (λ e. e.1 ≡ Failed → Rose (D.faults disk) (D.faults e.0)) }
     ensures not_full { IfErr result (λ e. (len : ℕ) → e.1 ≡ Full len → ⊥) }
-    ensures no_fewer { IfOk result (λ keeper. D.faults disk ≤ D.faults (disk_in keeper)) }
+    ensures no_fault { IfOk result (λ keeper. D.faults (disk_in keeper) ≡ D.faults disk) }
+    ensures no_fault_given_back { IfErr result (λ e. (e.1 ≡ Failed → ⊥) → D.faults e.0 ≡ D.faults disk) }
     ensures no_fewer_given_back { IfErr result (λ e. D.faults disk ≤ D.faults e.0) }
 {
     let (journal, bodies) = match Journal::load(alloc, disk, limit) {
@@ -37,7 +39,7 @@ pub(crate) fn opened<D: Disk>(
         Err(error) => return Err(error),
     };
     match replay(alloc, bodies) {
-        Ok(replay) => Ok(JournalKeeper::over(alloc, journal, replay)),
+        Ok(replay) => Ok(JournalKeeper::over(alloc, journal, replay, secret)),
         Err(error) => Err((journal.into_disk(), error)),
     }
 }

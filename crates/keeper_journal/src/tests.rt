@@ -11,6 +11,9 @@ use std::test::Fail;
 /// The greatest length of a journal in the program.
 pub(crate) const LIMIT: u64 = 402_653_184;
 
+/// The secret bytes of a test.
+pub(crate) const SECRET: [u8; 16] = [7; 16];
+
 /// The file of one commit: the key `a||a` has the value `"x"`, stored by write 1, and never lapses; the next write gets 2.
 const FIRST_SAVE: [u8; 70] = *b"SIDEJNL2\0\0\0\0\0\0\0\0\
     \x01\x2c\0\0\0\0\0\0\0\
@@ -35,7 +38,7 @@ fn started_within(
     if limit >= 1 << 32 {
         return None;
     }
-    JournalKeeper::start(alloc, disk, limit).ok()
+    JournalKeeper::start(alloc, disk, limit, SECRET).ok()
 }
 
 pub(crate) fn started(alloc: Global, disk: MemoryDisk) -> Option<JournalKeeper<MemoryDisk>> {
@@ -50,7 +53,7 @@ fn formatted(alloc: Global) -> Result<Option<MemoryDisk>, NoMemory> {
 
 /// Why a file is refused.
 fn refusal(alloc: Global, bytes: &[u8]) -> Result<Option<JournalErr>, NoMemory> {
-    match JournalKeeper::start(alloc, disk_of(alloc, bytes, &[])?, LIMIT) {
+    match JournalKeeper::start(alloc, disk_of(alloc, bytes, &[])?, LIMIT, SECRET) {
         Ok(_) => Ok(None),
         Err((_, error)) => Ok(Some(error)),
     }
@@ -477,6 +480,7 @@ fn either_keeper_keeps_rows(rt: HostRuntime) -> Result<(), Fail> {
         alloc,
         100,
         Sequence::new(alloc),
+        SECRET,
     ));
     saves_and_shows(&rt, alloc, memory)?;
     let keeper = started(alloc, disk_of(alloc, &[], &[])?).ok_or("no start")?;

@@ -69,15 +69,15 @@ pub record Known (history : List Step) : Type 0 where
   pub distinct : AreDistinct (standings history)
   pub untouched : IsUntouched history
 
-nothing_known : Known []
+pub nothing_known : Known []
 nothing_known = record { made = λ m sub s e. absurd (none-some s e); distinct = tt; untouched = λ m sub e. refl }
 
-next_known : (plans : List Plan) (history before after : List Step) (e : Step) → EachSteps plans history → history ≡ before ++ e ∷ after → Known before → Follows before e
+pub next_known : (plans : List Plan) (history before after : List Step) (e : Step) → EachSteps plans history → history ≡ before ++ e ∷ after → Known before → Follows before e
 next_known plans history before after e each is known =
     let step = each before after e is in
     follows plans before e step.0 step.1.reply known.made known.distinct known.untouched
 
-known_on : (plans : List Plan) (history before after : List Step) → EachSteps plans history → history ≡ before ++ after → Known before → Known (before ++ after)
+pub known_on : (plans : List Plan) (history before after : List Step) → EachSteps plans history → history ≡ before ++ after → Known before → Known (before ++ after)
 known_on plans history before [] each is known = subst Known (sym (append-nil before)) known
 known_on plans history before (e ∷ after) each is known =
     let follow = next_known plans history before after e each is known in
@@ -85,7 +85,7 @@ known_on plans history before (e ∷ after) each is known =
     (known_on plans history (before ++ e ∷ []) after each (is ∙ sym (append_assoc before (e ∷ []) after)) (record { made = follow.made; distinct = follow.distinct; untouched = follow.untouched }))
 
 -- a front of a legal history
-front_steps : (plans : List Plan) (history before after : List Step) → EachSteps plans history → history ≡ before ++ after → EachSteps plans before
+pub front_steps : (plans : List Plan) (history before after : List Step) → EachSteps plans history → history ≡ before ++ after → EachSteps plans before
 front_steps plans history before after each is front rest e split = each front (rest ++ after) e (is ∙ ap (λ xs. xs ++ after) split ∙ append_assoc front (e ∷ rest) after)
 
 pub known_of : (plans : List Plan) (history before after : List Step) → EachSteps plans history → history ≡ before ++ after → Known before
@@ -98,7 +98,7 @@ settles_parts m sub n j claim finish now word aims says.NotTaken e = absurd (fal
 settles_parts m sub n j claim finish now word aims reply e = let parts = and_parts (m == n) (sub == j) e in (eqb-true m n parts.0, eqb-true sub j parts.1)
 
 -- no entry settles a pair that is not owed
-settles_owed : (plans : List Plan) (course : Course) (cmd : LedgerCmd) (reply : LedgerReply) (m sub : ℕ) (s : Standing) → IsReply plans course cmd reply → standing_at m sub course.book ≡ Some s → is_owed s.status ≡ false → settles m sub cmd reply ≡ true → ⊥
+pub settles_owed : (plans : List Plan) (course : Course) (cmd : LedgerCmd) (reply : LedgerReply) (m sub : ℕ) (s : Standing) → IsReply plans course cmd reply → standing_at m sub course.book ≡ Some s → is_owed s.status ≡ false → settles m sub cmd reply ≡ true → ⊥
 settles_owed plans course (Accept event aims now) reply m sub s is there settled e = false≢true e
 settles_owed plans course (Take now) reply m sub s is there settled e = false≢true e
 settles_owed plans course (Settle n j claim finish now word aims) reply m sub s is there settled e =

@@ -1,6 +1,8 @@
 pub mod AcceptSteps
 pub mod Adds
+pub mod Claims
 pub mod Counts
+pub mod Fitting
 pub mod Found
 pub mod Grown
 pub mod Histories

@@ -3,6 +3,7 @@ pub mod Aims
 pub mod Books
 pub mod Course
 pub mod Empty
+pub mod Fits
 pub mod Laws
 pub mod Ledger
 pub mod Message

@@ -4,7 +4,7 @@ ghost use Rattle.turn_cell.specs.History.{IsLegal};
 ghost use Rattle.ledger_core.specs.declared.ledger.Ledger.{Ledger};
 ghost use Rattle.ledger_core.specs.Message.{Step};
 ghost use Rattle.ledger_core.specs.Ledger.{Stands, plans_of, books_of};
-ghost use Rattle.ledger_core.specs.Laws.{AreCountedOnce, StaysSettled, IsSettledOnce, AreLetters, RowsAreOwed};
+ghost use Rattle.ledger_core.specs.Laws.{AreCountedOnce, StaysSettled, IsSettledOnce, AreLetters, RowsAreOwed, AreFitting, ArePlanned, ClaimsRise, IsSettledBetween, IsLetGo, CountsAddUp};
 
 use crate::Ledger;
 use turn_cell::Object;
@@ -29,4 +29,27 @@ pub fn a_dead_letter_is_one_message()
 /// The pairs of the four statuses are all pairs.
 pub fn the_counts_are_all_pairs()
     ensures { (history : List Step) → AreCountedOnce history }
+{}
+
+/// The numbers that a `Counts` answers add up to the number of pairs.
+pub fn counts_add_up()
+    ensures { (first : Ledger) (history : List Step) → IsLegal ⟦<Ledger as Object>⟧ first history → CountsAddUp history }
+{}
+
+/// Each reply fits its command.
+pub fn replies_fit_their_commands()
+    ensures { (first : Ledger) (history : List Step) → IsLegal ⟦<Ledger as Object>⟧ first history → AreFitting history }
+{}
+
+/// A pair that is given out is of a subscription that has a plan.
+pub fn what_is_taken_has_a_plan()
+    ensures { (first : Ledger) (history : List Step) → IsLegal ⟦<Ledger as Object>⟧ first history → ArePlanned (plans_of first) history }
+{}
+
+/// Claims rise, and a pair is given out again only after it was settled. A settling under a claim that was given out ends it,
+/// whatever its reply.
+pub fn a_claim_is_one_holder()
+    ensures rise { (first : Ledger) (history : List Step) → IsLegal ⟦<Ledger as Object>⟧ first history → ClaimsRise history }
+    ensures between { (first : Ledger) (history : List Step) → IsLegal ⟦<Ledger as Object>⟧ first history → IsSettledBetween history }
+    ensures ends { (first : Ledger) (history : List Step) → IsLegal ⟦<Ledger as Object>⟧ first history → IsLetGo history }
 {}

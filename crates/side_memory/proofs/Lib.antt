@@ -1,2 +1,4 @@
+pub mod Backs
 pub mod Disks
+pub mod Places
 pub mod Returned

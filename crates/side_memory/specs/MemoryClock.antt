@@ -1,5 +1,5 @@
 -- What contracts see of a clock in memory.
-use Rattle.std.specs.Prelude.{◌+◌, ℕ, min, List, [], ◌∷◌, drop}
+use Rattle.std.specs.Prelude.{◌+◌, ℕ, min, List, [], ◌∷◌}
 
 pub record ClockState : Type 0 where
   -- the moment

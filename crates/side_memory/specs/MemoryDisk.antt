@@ -1,5 +1,5 @@
 -- What contracts say of a disk in memory.
-use Rattle.std.specs.Prelude.{◌≡◌, ◌⊎◌, ℕ, List, ◌∷◌, reverse, Contains}
+use Rattle.std.specs.Prelude.{◌≡◌, ◌⊎◌, ℕ, List, [], ◌∷◌, reverse, Contains}
 use Rattle.side_memory.specs.declared.memory_disk.MemoryDisk.{MemoryDisk}
 use Rattle.side_memory.specs.declared.note.Note.{Note}
 use Rattle.side_memory.specs.declared.note.Note.TheVariants.{Lost}
@@ -36,3 +36,10 @@ HasLost at piece old new = HasNoted (Lost at piece) old new ⊎ HasNotedNothing 
 -- the next call is one that is to fail
 abbrev pub FailsNow : MemoryDisk → Type 0
 FailsNow disk = Contains disk.schedule.failing disk.schedule.calls
+
+-- a disk of these bytes, all of them on it, of which no call was noted and none has failed
+pub record IsOpened (bytes : List ℕ) (disk : MemoryDisk) : Type 0 where
+  pub opening : opening_of disk ≡ bytes
+  pub same : bytes_of disk ≡ bytes
+  pub unused : notes_of disk ≡ []
+  pub no_faults : faults_of disk ≡ 0

@@ -2,10 +2,12 @@
 #![tactic(auto)]
 
 mod copying;
+mod disk_places;
 mod memory_acceptor;
 mod memory_clock;
 mod memory_disk;
 mod memory_link;
+mod memory_outside;
 mod memory_sink;
 mod memory_source;
 mod note;
@@ -13,6 +15,8 @@ mod notes;
 mod noting;
 mod overwriting;
 mod schedule;
+mod worker_backs;
+mod worker_script;
 
 pub use memory_acceptor::{
     AcceptorAnswer, AcceptorAnswers, AcceptorNote, MemoryAcceptor, Visit, Visited,
@@ -20,10 +24,12 @@ pub use memory_acceptor::{
 pub use memory_clock::{MemoryClock, Steps};
 pub use memory_disk::MemoryDisk;
 pub use memory_link::{LinkAnswers, MemoryLink};
+pub use memory_outside::{MemoryOutside, Numbers};
 pub use memory_sink::MemorySink;
 pub use memory_source::MemorySource;
 pub use overwriting::Tear;
 pub use schedule::Sizes;
+pub use worker_script::{MemoryParts, WorkerScript};
 
 #[cfg(test)]
 mod tests;

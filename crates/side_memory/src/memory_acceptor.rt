@@ -114,7 +114,13 @@ impl MemoryAcceptor {
         }
         match self.answers.take_first() {
             Some(AcceptorAnswer::Conn(visit)) => {
-                let Visit { input, read_sizes, failing_reads, write_sizes, failing_writes } = visit;
+                let Visit {
+                    input,
+                    read_sizes,
+                    failing_reads,
+                    write_sizes,
+                    failing_writes,
+                } = visit;
                 Accepted::Conn {
                     source: MemorySource::new(input, read_sizes, failing_reads),
                     sink: MemorySink::new(self.alloc, write_sizes, failing_writes),
@@ -128,6 +134,7 @@ impl MemoryAcceptor {
 
 impl Acceptor for MemoryAcceptor {
     type From = MemorySource;
+
     type Into = MemorySink;
 
     ghost use Rattle.std.specs.Prelude.{map, option_map};
@@ -146,7 +153,8 @@ impl Acceptor for MemoryAcceptor {
     fn end(&mut self, source: MemorySource, sink: MemorySink) {
         match self.notes.take_last() {
             Some(AcceptorNote::Conn(None)) => {
-                self.notes.add(AcceptorNote::Conn(Some(Visited { source, sink })));
+                self.notes
+                    .add(AcceptorNote::Conn(Some(Visited { source, sink })));
             }
             _ => self.notes.stop(),
         }

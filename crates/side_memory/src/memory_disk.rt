@@ -26,14 +26,13 @@ pub struct MemoryDisk {
 }
 
 impl MemoryDisk {
-    ghost use Rattle.std.specs.Prelude.{◌≡◌, ◌≤◌, [], length, reverse, take, IfOk};
+    ghost use Rattle.std.specs.Prelude.{◌≡◌, ◌≤◌, length, reverse, take, IfOk};
     ghost use Rattle.side_memory.specs.DiskNotes.{MayLeave};
-    ghost use Rattle.side_memory.specs.MemoryDisk.{opening_of, notes_of, bytes_of, faults_of};
+    ghost use Rattle.side_memory.specs.MemoryDisk.{opening_of, notes_of, bytes_of, faults_of, HasNotedNothing, IsOpened};
 
     /// A disk of `bytes`, all of them on it; `failing` are the calls that fail, counted from 0 over all calls.
     pub fn new(alloc: Global, bytes: &[u8], failing: Places) -> Result<Self, AllocError>
-        ensures bytes { IfOk result (λ disk. opening_of disk ≡ bytes.now) }
-        ensures unused { IfOk result (λ disk. (notes_of disk ≡ []) × (faults_of disk ≡ 0)) }
+        ensures { IfOk result (IsOpened bytes.now) }
     {
         Ok(MemoryDisk {
             alloc,
@@ -42,6 +41,23 @@ impl MemoryDisk {
             bytes: bytes.to_vec(alloc)?,
             schedule: Schedule::new(Sizes::new(alloc), failing),
         })
+    }
+
+    /// The calls that fail from now on, counted from 0.
+    pub(crate) fn fail_at(&mut self, failing: Places)
+        ensures notes { HasNotedNothing self.old self.new }
+        ensures bytes { bytes_of self.new ≡ bytes_of self.old }
+        ensures faults { faults_of self.new ≡ faults_of self.old }
+    {
+        self.schedule.failing = failing;
+        self.schedule.calls = 0;
+    }
+
+    /// How often a call has failed.
+    pub fn faults(&self) -> u64
+        ensures { result ≡ faults_of self.now }
+    {
+        self.schedule.faults
     }
 
     /// What a read gives.

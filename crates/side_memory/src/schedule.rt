@@ -1,5 +1,5 @@
 ghost use Rattle.std.specs.Prelude.{◌≡◌, ◌<◌, ◌≤◌, ◌↔◌, IsTrue, IsErr, IfOk, OnOk, OnErr, Contains};
-ghost use Rattle.side_world.specs.Faults.{Rose};
+ghost use Rattle.side_world.specs.Faults.{Rose, RoseWith};
 
 use side_base::{Places, Sequence};
 use side_world::Failed;
@@ -62,6 +62,16 @@ impl Schedule {
             return Err(Failed);
         }
         Ok(())
+    }
+
+    /// Counts a fault where what came back has some.
+    pub(crate) fn count_back(&mut self, faults: u64)
+        ensures rose { RoseWith faults self.old.faults self.new.faults }
+        ensures no_fewer { self.old.faults ≤ self.new.faults }
+    {
+        if faults > 0 {
+            self.fail();
+        }
     }
 
     /// Counts a fault of the device itself.

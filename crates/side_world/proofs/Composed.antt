@@ -126,5 +126,5 @@ tells_map f before None added tells = λ all is. absurd (cc)
 tells_map {X} {Y} f before (Some items) added tells = λ all is.
     let from = tells items refl in
     (map f from.0, ap (option_map (map f)) from.1, sym (same all is) ∙ (ap (map f) from.2 ∙ map-append f from.0 added)) where
-  same : (all : List Y) → Some (map f items) ≡ Some all → map f items ≡ all
-  same all is = cc
+      same : (all : List Y) → Some (map f items) ≡ Some all → map f items ≡ all
+      same all is = cc

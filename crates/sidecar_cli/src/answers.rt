@@ -13,6 +13,9 @@ use turn_cell::Object;
 /// The most bytes that the rows of the store take: of each, its key, its value and 8.
 pub const STORE_LIMIT: u64 = 268_435_456;
 
+/// What stands in place of random bytes for the hash of keys, as long as the program asks for none.
+const NO_SECRET: [u8; 16] = [0; 16];
+
 /// The bytes of the responses to requests over a new store, up to the first request that closes the connection.
 pub(crate) fn answers(
     alloc: Global,
@@ -22,7 +25,7 @@ pub(crate) fn answers(
     requires { length requests < 2 ^ 62 }
     ensures { IfOk result (λ out. IsOutputOf app.now requests out) }
 {
-    let keeper = MemoryKeeper::new(alloc, STORE_LIMIT, Places::new(alloc));
+    let keeper = MemoryKeeper::new(alloc, STORE_LIMIT, Places::new(alloc), NO_SECRET);
     let mut store = Store::new(alloc, keeper);
     let mut out = Blob::new(alloc);
     while let Some(request) = requests.take_first() {

@@ -2,6 +2,7 @@
 use Rattle.std.proofs.Common.{◌≡◌, inl, ◌<◌, ◌∷◌, [], ℕ, Bool, true, false, List, Option, None, map, refl, ap, sym, subst, ◌∙◌, arith, cond}
 use Rattle.std.specs.List.{All}
 use Rattle.std.proofs.lemmas.List.{get_or-map, length-map}
+use Rattle.keeper_core.specs.declared.changes.Changes.{Changes}
 use Rattle.state_core.specs.declared.command.Mode.{Mode}
 use Rattle.state_core.specs.declared.command.Mode.TheVariants.{LastWrite}
 use Rattle.state_core.specs.declared.command.Item.{Item}
@@ -33,41 +34,43 @@ ttl_as_ops items all = λ k d within.
     let blank : Item = record { key = []; value = []; etag = None; mode = LastWrite; ttl = None } in
     subst HasTtl (sym (get_or-map (λ item. Upsert item) items k blank d short)) (all k blank short)
 
-module _ (h after : Held) (faults faults_after moment : ℕ) where
+module _ (commits : List Changes → Type 0) (h after : Held) (faults faults_after moment : ℕ) where
   pub answered_save : (items : List Item) (now : ℕ) (reply : Reply)
-      → IsCommitted h after faults faults_after moment (judged h moment (Save items now)).writes (verdict (Save items now) (judged h moment (Save items now)).refused) reply
-      → IsAnswered h after faults faults_after moment (Save items now) reply
-  answered_save items now reply made = record { reply_is = made.reply_is; held_is = made.held_is; faults = made.faults }
+      → IsCommitted commits h after faults faults_after moment (judged h moment (Save items now)).writes (verdict (Save items now) (judged h moment (Save items now)).refused) reply
+      → IsAnswered commits h after faults faults_after moment (Save items now) reply
+  answered_save items now reply made = record { reply_is = made.reply_is; held_is = made.held_is; faults = made.faults; steady = made.steady; commits = made.commits }
 
   pub answered_transact : (ops : List Op) (now : ℕ) (reply : Reply) → (judged h moment (Transact ops now)).refused ≡ []
-      → IsCommitted h after faults faults_after moment (judged h moment (Transact ops now)).writes Committed reply
-      → IsAnswered h after faults faults_after moment (Transact ops now) reply
+      → IsCommitted commits h after faults faults_after moment (judged h moment (Transact ops now)).writes Committed reply
+      → IsAnswered commits h after faults faults_after moment (Transact ops now) reply
   answered_transact ops now reply none made =
       let j = judged h moment (Transact ops now) in
       let whole =
-      subst (λ r. IsCommitted h after faults faults_after moment (unless_refused r j.writes) (verdict (Transact ops now) r) reply) (sym none) made in
-      record { reply_is = whole.reply_is; held_is = whole.held_is; faults = whole.faults }
+      subst (λ r. IsCommitted commits h after faults faults_after moment (unless_refused r j.writes) (verdict (Transact ops now) r) reply) (sym none) made in
+      record { reply_is = whole.reply_is; held_is = whole.held_is; faults = whole.faults; steady = whole.steady; commits = whole.commits }
 
   pub answered_delete : (key : List ℕ) (etag : Option (List ℕ)) (mode : Mode) (now : ℕ) (reply : Reply) (here : Bool)
       → here ≡ passes (Remove key etag mode) (version_in h.rows h.next moment [] key) → here ≡ true
-      → IsCommitted h after faults faults_after moment (cond here (write_of moment (Remove key etag mode) (version_in h.rows h.next moment [] key)) []) Deleted reply
-      → IsAnswered h after faults faults_after moment (Delete key etag mode now) reply
+      → IsCommitted commits h after faults faults_after moment (cond here (write_of moment (Remove key etag mode) (version_in h.rows h.next moment [] key)) []) Deleted reply
+      → IsAnswered commits h after faults faults_after moment (Delete key etag mode now) reply
   answered_delete key etag mode now reply here is passing made =
       let w = write_of moment (Remove key etag mode) (version_in h.rows h.next moment [] key) in
       let taken : judged h moment (Delete key etag mode now) ≡ passed unjudged w = ap (λ b. cond b (passed unjudged w) (refused unjudged)) (sym is ∙ passing) in
-      let one = subst (λ b. IsCommitted h after faults faults_after moment (cond b w []) Deleted reply) passing made in
-      let whole = subst (λ (j : Judged). IsCommitted h after faults faults_after moment j.writes (verdict (Delete key etag mode now) j.refused) reply) (sym taken) one in
-      record { reply_is = whole.reply_is; held_is = whole.held_is; faults = whole.faults }
+      let one = subst (λ b. IsCommitted commits h after faults faults_after moment (cond b w []) Deleted reply) passing made in
+      let whole = subst (λ (j : Judged). IsCommitted commits h after faults faults_after moment j.writes (verdict (Delete key etag mode now) j.refused) reply) (sym taken) one in
+      record { reply_is = whole.reply_is; held_is = whole.held_is; faults = whole.faults; steady = whole.steady; commits = whole.commits }
 
 -- a removal that does not pass
-pub refused_delete : (h : Held) (faults moment : ℕ) (key : List ℕ) (etag : Option (List ℕ)) (mode : Mode) (now : ℕ) (here : Bool)
+pub refused_delete : (commits : List Changes → Type 0) → commits [] → (h : Held) (faults moment : ℕ) (key : List ℕ) (etag : Option (List ℕ)) (mode : Mode) (now : ℕ) (here : Bool)
     → here ≡ passes (Remove key etag mode) (version_in h.rows h.next moment [] key) → here ≡ false
-    → IsAnswered h h faults faults moment (Delete key etag mode now) (Mismatch 0)
-refused_delete h faults moment key etag mode now here is failing =
+    → IsAnswered commits h h faults faults moment (Delete key etag mode now) (Mismatch 0)
+refused_delete commits none_made h faults moment key etag mode now here is failing =
     let w = write_of moment (Remove key etag mode) (version_in h.rows h.next moment [] key) in
     let taken : judged h moment (Delete key etag mode now) ≡ refused unjudged = ap (λ b. cond b (passed unjudged w) (refused unjudged)) (sym is ∙ failing) in
     record {
       reply_is = inl (ap (λ (j : Judged). outcome h moment j.writes (verdict (Delete key etag mode now) j.refused)) (sym taken));
       held_is = held_with-none h;
       faults = record { no_fewer = omega arith; steady = λ none. refl };
+      steady = λ other. refl;
+      commits = none_made;
     }

@@ -1,10 +1,11 @@
 -- What a commit answers and leaves.
-use Rattle.std.proofs.Common.{◌≡◌, inl, inr, ◌+◌, ◌++◌, ◌≤◌, ◌<◌, ◌^◌, ◌∷◌, [], ℕ, true, false, List, nat_lt, refl, ap, sym, ◌∙◌, subst, arith, cond}
+use Rattle.std.proofs.Common.{◌≡◌, inl, inr, ◌+◌, ◌++◌, ◌≤◌, ◌<◌, ◌^◌, ◌∷◌, [], ℕ, true, false, List, Some, None, Result, Ok, Err, nat_lt, refl, ap, sym, ◌∙◌, subst, arith, cond}
 use Rattle.std.proofs.lemmas.Bool.Decides.{nat_tests}
 use Rattle.side_world.specs.Faults.{Rose}
 use Rattle.keeper_core.specs.Faults.{Rises}
 use Rattle.keeper_core.specs.Rows.{Rows}
 use Rattle.keeper_core.specs.Changes.{after_changes, VersionsAreBelow}
+use Rattle.keeper_core.specs.Commits.{acknowledged, HasMade}
 use Rattle.keeper_core.specs.declared.changes.Change.{Change}
 use Rattle.keeper_core.specs.declared.keeper.Keeper.{Ghosts}
 use Rattle.keeper_core.specs.declared.keeper.KeepErr.{KeepErr}
@@ -14,7 +15,7 @@ use Rattle.state_core.specs.declared.reply.Reply.{Reply}
 use Rattle.state_core.specs.declared.reply.Reply.TheVariants.{Full, Spent}
 use Rattle.state_core.specs.Write.{Write, upserts, numbered, rows_after, sweep}
 use Rattle.state_core.specs.Reply.{Held, held, is_spent, size_with, outcome, has_commit}
-use Rattle.state_core.specs.Written.{stores, size_in, held_with, refusal_of, IsCommitted}
+use Rattle.state_core.specs.Written.{stores, size_in, held_with, commit_of, refusal_of, IsCommitted}
 use Rattle.state_core.specs.Batch.{IsBatch, changes_of}
 use Rattle.state_core.proofs.Sweeps.{upserts-swept, versions_below}
 
@@ -33,6 +34,11 @@ held_with-none h = ap (λ n. record { rows = h.rows; next = n; size = h.size; li
 size_in-swept : (h : Held) (a : List Write) (write : Write) (writes : List Write) → size_in h (a ++ write ∷ writes) ≡ h.size_after h.rows h.size (numbered h.next (a ++ write ∷ writes))
 size_in-swept h [] write writes = refl
 size_in-swept h (w ∷ a) write writes = refl
+
+one_commit : (h : Held) (a : List Write) (write : Write) (writes : List Write) (list : List Change) (next : ℕ) → list ≡ numbered h.next (a ++ write ∷ writes) → next ≡ h.next + upserts (a ++ write ∷ writes)
+    → acknowledged (Some (record { list = list; next = next }) ∷ []) ≡ commit_of h (a ++ write ∷ writes)
+one_commit h [] write writes list next list_is next_is = λ i. record { list = list_is i; next = next_is i } ∷ []
+one_commit h (w ∷ a) write writes list next list_is next_is = λ i. record { list = list_is i; next = next_is i } ∷ []
 
 module _ {K : Type 0} (keeping : Ghosts K) (old new : K) where
   -- where nothing changed but the count of faults
@@ -85,6 +91,18 @@ outcome_full h moment write writes done few fits =
     ap (λ b. cond b (Full (size_with h moment (write ∷ writes))) done) (sym over)
     ∙ ap (λ b. cond b (Spent h.next) (cond (nat_lt h.limit (size_with h moment (write ∷ writes))) (Full (size_with h moment (write ∷ writes))) done)) (sym (not_spent h.next (write ∷ writes) few))
 
+pub no_error : {X E : Type 0} {x : X} {e : E} → Ok x ≡ Err e → ⊥
+no_error is = cc
+
+pub same_error : {X E : Type 0} {a b : E} → (let first : Result X E = Err a in first ≡ Err b) → a ≡ b
+same_error is = cc
+
+no_fault : {len : ℕ} → keep.Full len ≡ keep.Failed → ⊥
+no_fault is = cc
+
+no_memory : keep.NoMemory ≡ keep.Failed → ⊥
+no_memory is = cc
+
 -- a batch with changes that the versions suffice for
 pub record IsFull (rows : Rows) (next moment : ℕ) (writes : List Write) (batch : Batch) : Type 0 where
   pub batch_is : IsBatch rows next moment writes batch
@@ -99,10 +117,12 @@ module _ {K : Type 0} (keeping : Ghosts K) (old new : K) (moment : ℕ) (batch :
       → keeping.limit new ≡ keeping.limit old
       → ((rows : Rows) (size : ℕ) (changes : List Change) → keeping.size_after new rows size changes ≡ keeping.size_after old rows size changes)
       → keeping.may_fail new ≡ keeping.may_fail old
-      → Rises (keeping.may_fail old) (keeping.faults old) (keeping.faults new) → stores done ≡ true
-      → IsCommitted (held keeping old) (held keeping new) (keeping.faults old) (keeping.faults new) moment writes done done
-  made [] done full list_is rows next size fits limit size_after may_fail faults stored = absurd (full.some full.batch_is.changes)
-  made (write ∷ writes) done full list_is rows next size fits limit size_after may_fail faults stored =
+      → Rises (keeping.may_fail old) (keeping.faults old) (keeping.faults new) → keeping.faults new ≡ keeping.faults old
+      → (to_next : ℕ) → to_next ≡ batch.next → keeping.leads old (Some (record { list = list; next = to_next }) ∷ []) new
+      → stores done ≡ true
+      → IsCommitted (HasMade keeping old new) (held keeping old) (held keeping new) (keeping.faults old) (keeping.faults new) moment writes done done
+  made [] done full list_is rows next size fits limit size_after may_fail faults steady to_next to_next_is leads stored = absurd (full.some full.batch_is.changes)
+  made (write ∷ writes) done full list_is rows next size fits limit size_after may_fail faults steady to_next to_next_is leads stored =
       let to = keeping.size_after old (keeping.rows old) (keeping.size old) in
       let few : keeping.next old + upserts (write ∷ writes) ≤ 2 ^ 62 = omega (arith, full.few, full.batch_is.next_is) in
       let fitting : size_with (held keeping old) moment (write ∷ writes) ≤ keeping.limit old = subst (λ n. n ≤ keeping.limit old) (ap to list_is) fits in
@@ -115,6 +135,9 @@ module _ {K : Type 0} (keeping : Ghosts K) (old new : K) (moment : ℕ) (batch :
             (size ∙ ap to list_is) limit size_after may_fail
             ∙ ap (λ b. held_with (held keeping old) (cond b (sweep (keeping.rows old) moment ++ write ∷ writes) [])) (sym stored);
         faults = faults;
+        steady = λ other. steady;
+        commits = subst (λ b. HasMade keeping old new (commit_of (held keeping old) (cond b (sweep (keeping.rows old) moment ++ write ∷ writes) []))) (sym stored)
+            (record { answers = Some (record { list = list; next = to_next }) ∷ []; leads = leads; made = one_commit (held keeping old) (sweep (keeping.rows old) moment) write writes list to_next list_is (omega (arith, to_next_is, full.batch_is.next_is, upserts-swept (keeping.rows old) moment (write ∷ writes))) });
       }
 
   has_commit-full : (writes : List Write) → IsFull (keeping.rows old) (keeping.next old) moment writes batch → has_commit (keeping.next old) writes ≡ true
@@ -133,19 +156,22 @@ module _ {K : Type 0} (keeping : Ghosts K) (old new : K) (moment : ℕ) (batch :
       → list ≡ numbered (keeping.next old) (sweep (keeping.rows old) moment ++ writes)
       → held keeping new ≡ held keeping old → Rises (keeping.may_fail old) (keeping.faults old) (keeping.faults new)
       → (error ≡ keep.Failed → Rose (keeping.faults old) (keeping.faults new))
+      → ((error ≡ keep.Failed → ⊥) → keeping.faults new ≡ keeping.faults old) → keeping.leads old (None ∷ []) new
       → ((len : ℕ) → error ≡ keep.Full len → (len ≡ keeping.size_after old (keeping.rows old) (keeping.size old) list) × (keeping.limit old < len))
       → reply ≡ refusal_of error
-      → IsCommitted (held keeping old) (held keeping new) (keeping.faults old) (keeping.faults new) moment writes done reply
-  refused writes done keep.Failed reply full list_is same faults failed over is =
-      subst (IsCommitted (held keeping old) (held keeping new) (keeping.faults old) (keeping.faults new) moment writes done) (sym is)
-      (record { reply_is = inr (inr (refl, has_commit-full writes full, failed refl)); held_is = same ∙ held_with-none (held keeping old); faults = faults })
-  refused writes done (keep.Full len) reply full list_is same faults failed over is =
-      subst (IsCommitted (held keeping old) (held keeping new) (keeping.faults old) (keeping.faults new) moment writes done) (sym is)
+      → IsCommitted (HasMade keeping old new) (held keeping old) (held keeping new) (keeping.faults old) (keeping.faults new) moment writes done reply
+  refused writes done keep.Failed reply full list_is same faults failed steady leads over is =
+      subst (IsCommitted (HasMade keeping old new) (held keeping old) (held keeping new) (keeping.faults old) (keeping.faults new) moment writes done) (sym is)
+      (record { reply_is = inr (inr (refl, has_commit-full writes full, failed refl)); held_is = same ∙ held_with-none (held keeping old); faults = faults; steady = λ other. absurd (other refl); commits = record { answers = None ∷ []; leads = leads; made = refl } })
+  refused writes done (keep.Full len) reply full list_is same faults failed steady leads over is =
+      subst (IsCommitted (HasMade keeping old new) (held keeping old) (held keeping new) (keeping.faults old) (keeping.faults new) moment writes done) (sym is)
       (record {
         reply_is = inl (full_is writes done len full ((over len refl).0 ∙ ap (keeping.size_after old (keeping.rows old) (keeping.size old)) list_is) (over len refl).1);
         held_is = same ∙ held_with-none (held keeping old);
         faults = faults;
+        steady = λ other. steady (λ is. no_fault is);
+        commits = record { answers = None ∷ []; leads = leads; made = refl };
       })
-  refused writes done keep.NoMemory reply full list_is same faults failed over is =
-      subst (IsCommitted (held keeping old) (held keeping new) (keeping.faults old) (keeping.faults new) moment writes done) (sym is)
-      (record { reply_is = inr (inl refl); held_is = same ∙ held_with-none (held keeping old); faults = faults })
+  refused writes done keep.NoMemory reply full list_is same faults failed steady leads over is =
+      subst (IsCommitted (HasMade keeping old new) (held keeping old) (held keeping new) (keeping.faults old) (keeping.faults new) moment writes done) (sym is)
+      (record { reply_is = inr (inl refl); held_is = same ∙ held_with-none (held keeping old); faults = faults; steady = λ other. steady (λ is. no_memory is); commits = record { answers = None ∷ []; leads = leads; made = refl } })

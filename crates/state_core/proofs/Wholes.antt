@@ -120,12 +120,15 @@ alike_removals moment rows next (key ∷ keys) all q =
     (all_map (λ k. live_at rows moment k ≡ None) (λ k. live_at (after_change rows (Remove key)) moment k ≡ None) keys (λ k dead. without k ∙ dead) all.1) q
     ∙ without q
 
-alike_with_sweep : (h : Held) (moment : ℕ) (writes : List Write) → AreAlike moment (rows_after h.rows h.next (with_sweep h moment writes)) (rows_after h.rows h.next writes)
+pub alike_swept : (moment : ℕ) (rows : Rows) (next : ℕ) → AreAlike moment (rows_after rows next (sweep rows moment)) rows
+alike_swept moment rows next = alike_removals moment rows next (take 1024 (lapsed rows moment)) (dead_lapsed rows moment)
+
+pub alike_with_sweep : (h : Held) (moment : ℕ) (writes : List Write) → AreAlike moment (rows_after h.rows h.next (with_sweep h moment writes)) (rows_after h.rows h.next writes)
 alike_with_sweep h moment [] q = refl
 alike_with_sweep h moment (write ∷ writes) q =
     ap (λ rows. live_at rows moment q) (rows_after-append h.rows h.next (sweep h.rows moment) (write ∷ writes))
     ∙ ap (λ n. live_at (rows_after (rows_after h.rows h.next (sweep h.rows moment)) n (write ∷ writes)) moment q) (omega (arith, upserts-removals (take 1024 (lapsed h.rows moment))))
-    ∙ alike_writes moment (rows_after h.rows h.next (sweep h.rows moment)) h.rows h.next (write ∷ writes) (alike_removals moment h.rows h.next (take 1024 (lapsed h.rows moment)) (dead_lapsed h.rows moment)) q
+    ∙ alike_writes moment (rows_after h.rows h.next (sweep h.rows moment)) h.rows h.next (write ∷ writes) (alike_swept moment h.rows h.next) q
 
 -- ---- the operations
 

@@ -3,7 +3,9 @@ pub mod Write
 pub mod Judged
 pub mod Reply
 pub mod Written
+pub mod Fits
 pub mod History
+pub mod Moved
 pub mod Pending
 pub mod Batch
 pub mod Laws

@@ -2,6 +2,7 @@
 use Rattle.std.specs.Prelude.{◌≡◌, ◌⊎◌, ℕ, ◌+◌, Bool, true, false, List, [], ◌∷◌, ◌++◌, ⊤, Result, Ok, Err, if◌then◌else◌}
 use Rattle.side_world.specs.Faults.{Rose}
 use Rattle.keeper_core.specs.Faults.{Rises}
+use Rattle.keeper_core.specs.declared.changes.Changes.{Changes}
 use Rattle.keeper_core.specs.declared.keeper.KeepErr.{KeepErr}
 use Rattle.keeper_core.specs.declared.keeper.KeepErr.TheVariants as keep
 use Rattle.state_core.specs.declared.command.Cmd.{Cmd}
@@ -50,6 +51,11 @@ held_with h writes = record {
   may_fail = h.may_fail;
 }
 
+-- the commit that writes are: none without a write
+abbrev pub commit_of : Held → List Write → List Changes
+commit_of h [] = []
+commit_of h (write ∷ writes) = record { list = numbered h.next (write ∷ writes); next = h.next + upserts (write ∷ writes) } ∷ []
+
 -- the reply where a keeper refuses changes
 abbrev pub refusal_of : KeepErr → Reply
 refusal_of keep.Failed = Failed
@@ -61,14 +67,19 @@ abbrev pub done_or : Reply → Result ⊤ Reply → Reply
 done_or done (Ok made) = done
 done_or done (Err reply) = reply
 
--- the reply to a command that is to make these writes and then to answer `done`, and what the keeper holds after it
-pub record IsCommitted (before after : Held) (faults_before faults_after moment : ℕ) (writes : List Write) (done reply : Reply) : Type 0 where
+-- the reply to a command that is to make these writes and then to answer `done`, and what the keeper holds after it; `made` is so of the
+-- commits that it made
+pub record IsCommitted (made : List Changes → Type 0) (before after : Held) (faults_before faults_after moment : ℕ) (writes : List Write) (done reply : Reply) : Type 0 where
   pub reply_is : (reply ≡ outcome before moment writes done) ⊎ (reply ≡ NoMemory) ⊎ ((reply ≡ Failed) × (has_commit before.next writes ≡ true) × Rose faults_before faults_after)
   pub held_is : after ≡ held_with before (if stores reply then with_sweep before moment writes else [])
   pub faults : Rises before.may_fail faults_before faults_after
+  pub steady : (reply ≡ Failed → ⊥) → faults_after ≡ faults_before
+  pub commits : made (commit_of before (if stores reply then with_sweep before moment writes else []))
 
--- the reply to a command, and what the keeper holds after it
-pub record IsAnswered (before after : Held) (faults_before faults_after moment : ℕ) (cmd : Cmd) (reply : Reply) : Type 0 where
+-- the reply to a command, and what the keeper holds after it; `made` is so of the commits that it made
+pub record IsAnswered (made : List Changes → Type 0) (before after : Held) (faults_before faults_after moment : ℕ) (cmd : Cmd) (reply : Reply) : Type 0 where
   pub reply_is : IsReply before moment cmd (Rose faults_before faults_after) reply
   pub held_is : after ≡ held_with before (written before moment cmd reply)
   pub faults : Rises before.may_fail faults_before faults_after
+  pub steady : (reply ≡ Failed → ⊥) → faults_after ≡ faults_before
+  pub commits : made (commit_of before (written before moment cmd reply))

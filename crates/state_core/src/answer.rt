@@ -3,6 +3,7 @@ ghost use Rattle.std.specs.Prelude.{◌≡◌, ◌<◌};
 ghost use Rattle.side_base.specs.declared.moment.TheConstants.{MOMENT_LIMIT};
 ghost use Rattle.state_core.specs.Taken.{IsTaken};
 ghost use Rattle.state_core.specs.Reply.{held};
+ghost use Rattle.keeper_core.specs.Commits.{HasMade};
 ghost use Rattle.state_core.specs.Written.{IsAnswered};
 ghost use Rattle.state_core.specs.History.{moment_of};
 
@@ -16,7 +17,7 @@ use std::alloc::Global;
 pub(crate) fn answered<K: Keeper>(alloc: Global, keeper: &mut K, cmd: &Cmd, now: u64) -> Reply
     requires moment { now < MOMENT_LIMIT }
     requires taken { IsTaken cmd.now }
-    ensures { IsAnswered (held K.Keeper keeper.old) (held K.Keeper keeper.new) (K.faults keeper.old) (K.faults keeper.new) now cmd.now result }
+    ensures { IsAnswered (HasMade K.Keeper keeper.old keeper.new) (held K.Keeper keeper.old) (held K.Keeper keeper.new) (K.faults keeper.old) (K.faults keeper.new) now cmd.now result }
 {
     match cmd {
         Cmd::Get { key, .. } => get(alloc, keeper, key, now),

@@ -1,3 +1,7 @@
+ghost use Rattle.std.specs.Prelude.{◌≡◌};
+ghost use Rattle.state_core.specs.Moved.{at_moment};
+ghost use Rattle.state_core.specs.Taken.{IsTaken};
+
 use side_base::{Blob, Moment, Sequence, Text};
 
 /// What stands before the key of a request in the key under which its row is stored.
@@ -87,4 +91,20 @@ pub enum Cmd {
         ops: Ops,
         now: Moment,
     },
+}
+
+impl Cmd {
+    /// Moves the command to another moment, as before it is given once more. All else stays. Takes no memory.
+    pub fn set_now(&mut self, moment: Moment)
+        ensures moved { self.new ≡ at_moment moment self.old }
+        ensures taken { IsTaken self.old → IsTaken self.new }
+    {
+        match self {
+            Cmd::Get { now, .. } => *now = moment,
+            Cmd::Save { now, .. } => *now = moment,
+            Cmd::Delete { now, .. } => *now = moment,
+            Cmd::Bulk { now, .. } => *now = moment,
+            Cmd::Transact { now, .. } => *now = moment,
+        }
+    }
 }

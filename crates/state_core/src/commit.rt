@@ -2,6 +2,7 @@
 ghost use Rattle.std.specs.Prelude.{◌≡◌, ◌<◌, ◌≤◌, ◌^◌, ◌++◌, ℕ, List, [], ◌∷◌, IfOk, OnOk, true};
 ghost use Rattle.state_core.specs.Write.{Write, numbered, sweep};
 ghost use Rattle.state_core.specs.Reply.{held};
+ghost use Rattle.keeper_core.specs.Commits.{HasMade};
 ghost use Rattle.state_core.specs.Written.{stores, done_or, refusal_of, IsCommitted};
 ghost use Rattle.state_core.specs.Batch.{IsBatch};
 
@@ -25,7 +26,7 @@ pub(crate) fn commit<K: Keeper>(
     moment: u64,
 ) -> Result<(), Reply>
     requires { (writes : List Write) × IsBatch (K.rows keeper.old) (K.next keeper.old) moment writes batch }
-    ensures { (writes : List Write) (done : Reply) → IsBatch (K.rows keeper.old) (K.next keeper.old) moment writes batch.entry → stores done ≡ true → IsCommitted (held K.Keeper keeper.old) (held K.Keeper keeper.new) (K.faults keeper.old) (K.faults keeper.new) moment writes done (done_or done result) }
+    ensures { (writes : List Write) (done : Reply) → IsBatch (K.rows keeper.old) (K.next keeper.old) moment writes batch.entry → stores done ≡ true → IsCommitted (HasMade K.Keeper keeper.old keeper.new) (held K.Keeper keeper.old) (held K.Keeper keeper.new) (K.faults keeper.old) (K.faults keeper.new) moment writes done (done_or done result) }
 {
     if batch.changes.is_empty() {
         return Ok(());

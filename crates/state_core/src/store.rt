@@ -76,7 +76,7 @@ impl<K: Keeper> Object for Store<K> {
         self.used
     }
 
-    ghost opens = { opens };
+    ghost opens = { λ first unused. opens first unused (K.at_rest first.keeper) };
 
     ghost counts = { λ first history store stands. stands.used };
 }

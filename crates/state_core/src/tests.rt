@@ -37,7 +37,7 @@ fn keeper(
     next: u64,
 ) -> Result<MemoryKeeper, NoMemory> {
     let failing: Places = Sequence::from_vec(failing.to_vec(alloc)?);
-    let mut keeper = MemoryKeeper::new(alloc, limit, failing);
+    let mut keeper = MemoryKeeper::new(alloc, limit, failing, [7; 16]);
     assert!(rt; 1 <= next && next <= 1 << 62);
     if next > 1 {
         let list = ChangeList::new(alloc);

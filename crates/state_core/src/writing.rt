@@ -4,6 +4,7 @@ ghost use Rattle.std.specs.List.{All};
 ghost use Rattle.side_base.specs.declared.moment.TheConstants.{MOMENT_LIMIT};
 ghost use Rattle.state_core.specs.Taken.{IsTtl, HasTtl};
 ghost use Rattle.state_core.specs.Reply.{held, verdict};
+ghost use Rattle.keeper_core.specs.Commits.{HasMade};
 ghost use Rattle.state_core.specs.Written.{IsAnswered};
 
 use crate::batch::{Batch, judge_removal};
@@ -18,7 +19,7 @@ use std::alloc::Global;
 pub(crate) fn save<K: Keeper>(alloc: Global, keeper: &mut K, items: &Items, moment: u64) -> Reply
     requires moment { moment < MOMENT_LIMIT }
     requires ttl { All (λ item. IsTtl item.ttl) items.now }
-    ensures { (now : ℕ) → IsAnswered (held K.Keeper keeper.old) (held K.Keeper keeper.new) (K.faults keeper.old) (K.faults keeper.new) moment (Cmd.Save items.now now) result }
+    ensures { (now : ℕ) → IsAnswered (HasMade K.Keeper keeper.old keeper.new) (held K.Keeper keeper.old) (held K.Keeper keeper.new) (K.faults keeper.old) (K.faults keeper.new) moment (Cmd.Save items.now now) result }
 {
     match judge_items(alloc, keeper, items, moment) {
         Ok((batch, refused)) => match commit(alloc, keeper, batch, moment) {
@@ -50,7 +51,7 @@ pub(crate) fn delete<K: Keeper>(
     moment: u64,
 ) -> Reply
     requires { moment < MOMENT_LIMIT }
-    ensures { (now : ℕ) → IsAnswered (held K.Keeper keeper.old) (held K.Keeper keeper.new) (K.faults keeper.old) (K.faults keeper.new) moment (Cmd.Delete key.now etag.now mode now) result }
+    ensures { (now : ℕ) → IsAnswered (HasMade K.Keeper keeper.old keeper.new) (held K.Keeper keeper.old) (held K.Keeper keeper.new) (K.faults keeper.old) (K.faults keeper.new) moment (Cmd.Delete key.now etag.now mode now) result }
 {
     let mut batch = Batch::new(alloc, keeper.next_version());
     match judge_removal(keeper, &mut batch, key, etag, mode, moment) {
@@ -67,7 +68,7 @@ pub(crate) fn delete<K: Keeper>(
 pub(crate) fn transact<K: Keeper>(alloc: Global, keeper: &mut K, ops: &Ops, moment: u64) -> Reply
     requires moment { moment < MOMENT_LIMIT }
     requires ttl { All HasTtl ops.now }
-    ensures { (now : ℕ) → IsAnswered (held K.Keeper keeper.old) (held K.Keeper keeper.new) (K.faults keeper.old) (K.faults keeper.new) moment (Cmd.Transact ops.now now) result }
+    ensures { (now : ℕ) → IsAnswered (HasMade K.Keeper keeper.old keeper.new) (held K.Keeper keeper.old) (held K.Keeper keeper.new) (K.faults keeper.old) (K.faults keeper.new) moment (Cmd.Transact ops.now now) result }
 {
     match judge_ops(alloc, keeper, ops, moment) {
         Ok(batch) => match commit(alloc, keeper, batch, moment) {

@@ -144,7 +144,7 @@ pub fn lasting<R: Clock + Eprint>(rt: &R, alloc: Global, rows: u32) -> io::Resul
     let Some(now) = Moment::at(0) else {
         return Ok(());
     };
-    let keeper = MemoryKeeper::new(alloc, u64::MAX, Places::new(alloc));
+    let keeper = MemoryKeeper::new(alloc, u64::MAX, Places::new(alloc), [0; 16]);
     let mut store = Store::new(alloc, keeper);
     let stored = fill(alloc, &mut store, rows, None, now)?;
     let get = costs(rt, alloc, &mut store, Kind::Get, Kind::Get, rows, now)?;
@@ -171,7 +171,7 @@ pub fn ending<R: Clock + Eprint>(rt: &R, alloc: Global, rows: u32, seconds: u64)
     let Some(now) = Moment::at(0) else {
         return Ok(());
     };
-    let keeper = MemoryKeeper::new(alloc, u64::MAX, Places::new(alloc));
+    let keeper = MemoryKeeper::new(alloc, u64::MAX, Places::new(alloc), [0; 16]);
     let mut store = Store::new(alloc, keeper);
     let ending = Kind::Save(Some(seconds));
     let stored = fill(alloc, &mut store, rows, Some(seconds), now)?;

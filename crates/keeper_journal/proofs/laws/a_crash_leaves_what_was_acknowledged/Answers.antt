@@ -1,5 +1,5 @@
 use Rattle.std.proofs.Common.{◌++◌}
-use Rattle.keeper_journal.specs.Run.{acknowledged}
+use Rattle.keeper_core.specs.Commits.{acknowledged}
 use Rattle.keeper_journal.proofs.Runs.{kept_behind, run_moments}
 use Rattle.keeper_journal.proofs.laws.a_crash_leaves_what_was_acknowledged.Goals as goal
 

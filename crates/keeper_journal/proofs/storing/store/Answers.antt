@@ -1,18 +1,14 @@
-use Rattle.std.proofs.Common.{◌≡◌, true, false, inl, inr, Err, refl, arith}
+use Rattle.std.proofs.Common.{◌≡◌, inl, inr, Err, refl, arith}
 use Rattle.disk_journal.specs.declared.error.JournalErr.TheVariants as errors
-use Rattle.keeper_journal.proofs.Stored.{rose_since, not_repaired, is_repaired, while_repairing, while_appending}
+use Rattle.keeper_journal.proofs.Stored.{rose_since, while_mended, while_appending}
 use Rattle.keeper_journal.proofs.storing.store.Goals as goal
 
-not_ok : false ≡ true → ⊥
-not_ok h = cc
-
 pub returns-in-Err-clause-undone : goal.returns-in-Err-clause-undone
-returns-in-Err-clause-undone g c = λ bodies doubt holds.
-    inl (not_repaired g.D.Disk c.args.journal.now c.repair.new.self bodies doubt (λ whole. not_ok (c.in-Err.ensures.whole whole).0) (c.in-Err.ensures.undone bodies) holds)
+returns-in-Err-clause-undone g c = λ bodies doubt holds. inl (c.in-Err.ensures.undone bodies doubt holds)
 
 pub returns-in-Err-clause-any_moment : goal.returns-in-Err-clause-any_moment
 returns-in-Err-clause-any_moment g c = λ bodies doubt holds.
-    while_repairing g.D.Disk g.met.D.Disk.only_now c.args.journal.now c.repair.new.self bodies doubt c.args.body.now (λ whole. (c.in-Err.ensures.whole whole).1) (c.in-Err.ensures.any_moment bodies) holds
+    while_mended g.D.Disk c.args.journal.now c.mend.new.journal bodies doubt c.args.body.now (c.in-Err.ensures.any_moment bodies doubt holds)
 
 pub returns-in-Err-append-clause-undone : goal.returns-in-Err-append-clause-undone
 returns-in-Err-append-clause-undone g c = λ bodies doubt holds.
@@ -20,13 +16,13 @@ returns-in-Err-append-clause-undone g c = λ bodies doubt holds.
       | inl is ↦ is
       | inr full ↦ absurd (let cause = (c.in-Err-append.ensures.full full.0).0 full.1 in omega (arith, cause.0, cause.1))
     ] in
-    inr (c.in-Err-append.ensures.undone bodies (is_repaired g.D.Disk c.args.journal.now c.repair.new.self bodies doubt (λ whole. (c.in-Ok.ensures.whole whole).1) (c.in-Ok.ensures.repaired bodies) holds) failed)
+    inr (c.in-Err-append.ensures.undone bodies (c.in-Ok.ensures.repaired bodies doubt holds) failed)
 
 pub returns-in-Err-append-clause-any_moment : goal.returns-in-Err-append-clause-any_moment
 returns-in-Err-append-clause-any_moment g c = λ bodies doubt holds.
-    while_appending g.D.Disk c.args.journal.now c.repair.new.self c.append.new.self bodies doubt c.args.body.now
-    (while_repairing g.D.Disk g.met.D.Disk.only_now c.args.journal.now c.repair.new.self bodies doubt c.args.body.now (λ whole. (c.in-Ok.ensures.whole whole).1) (c.in-Ok.ensures.any_moment bodies) holds)
-    (c.in-Err-append.ensures.any_moment bodies (is_repaired g.D.Disk c.args.journal.now c.repair.new.self bodies doubt (λ whole. (c.in-Ok.ensures.whole whole).1) (c.in-Ok.ensures.repaired bodies) holds))
+    while_appending g.D.Disk c.args.journal.now c.mend.new.journal c.append.new.self bodies doubt c.args.body.now
+    (while_mended g.D.Disk c.args.journal.now c.mend.new.journal bodies doubt c.args.body.now (c.in-Ok.ensures.any_moment bodies doubt holds))
+    (c.in-Err-append.ensures.any_moment bodies (c.in-Ok.ensures.repaired bodies doubt holds))
 
 pub returns-in-Err-append-clause-failed : goal.returns-in-Err-append-clause-failed
 returns-in-Err-append-clause-failed g c =
@@ -37,11 +33,10 @@ returns-in-Err-append-clause-failed g c =
     (refl, rose_since _ _ _ c.in-Ok.ensures.no_fewer (c.in-Err-append.ensures.failed failed))
 
 pub returns-in-Ok-append-clause-stored : goal.returns-in-Ok-append-clause-stored
-returns-in-Ok-append-clause-stored g c = λ bodies doubt holds.
-    c.in-Ok-append.ensures.appended bodies (is_repaired g.D.Disk c.args.journal.now c.repair.new.self bodies doubt (λ whole. (c.in-Ok.ensures.whole whole).1) (c.in-Ok.ensures.repaired bodies) holds)
+returns-in-Ok-append-clause-stored g c = λ bodies doubt holds. c.in-Ok-append.ensures.appended bodies (c.in-Ok.ensures.repaired bodies doubt holds)
 
 pub returns-in-Ok-append-clause-any_moment : goal.returns-in-Ok-append-clause-any_moment
 returns-in-Ok-append-clause-any_moment g c = λ bodies doubt holds.
-    while_appending g.D.Disk c.args.journal.now c.repair.new.self c.append.new.self bodies doubt c.args.body.now
-    (while_repairing g.D.Disk g.met.D.Disk.only_now c.args.journal.now c.repair.new.self bodies doubt c.args.body.now (λ whole. (c.in-Ok.ensures.whole whole).1) (c.in-Ok.ensures.any_moment bodies) holds)
-    (c.in-Ok-append.ensures.any_moment bodies (is_repaired g.D.Disk c.args.journal.now c.repair.new.self bodies doubt (λ whole. (c.in-Ok.ensures.whole whole).1) (c.in-Ok.ensures.repaired bodies) holds))
+    while_appending g.D.Disk c.args.journal.now c.mend.new.journal c.append.new.self bodies doubt c.args.body.now
+    (while_mended g.D.Disk c.args.journal.now c.mend.new.journal bodies doubt c.args.body.now (c.in-Ok.ensures.any_moment bodies doubt holds))
+    (c.in-Ok-append.ensures.any_moment bodies (c.in-Ok.ensures.repaired bodies doubt holds))

@@ -24,7 +24,7 @@ loop-request-init c =
     } in
     rw c.new-out.ensures
     (opens_run c.args.app.now c.args.requests c.new-store.result (ap (held ghosts) c.new-store.ensures.keeper ∙ empty)
-    (ap ghosts.faults c.new-store.ensures.keeper ∙ e.faults) (opens c.new-store.result c.new-store.ensures.unused) c.new-store.ensures.unused)
+    (ap ghosts.faults c.new-store.ensures.keeper ∙ e.faults) (opens c.new-store.result c.new-store.ensures.unused tt) c.new-store.ensures.unused)
 
 pub apply-requires-clause-ready : goal.apply-requires-clause-ready
 apply-requires-clause-ready c =

@@ -1,0 +1,213 @@
+use crate::disk_places::{DiskPlace, give, place_of, put, take};
+use crate::memory_acceptor::MemoryAcceptor;
+use crate::memory_clock::MemoryClock;
+use crate::memory_disk::MemoryDisk;
+use crate::memory_link::MemoryLink;
+use crate::notes::Notes;
+use crate::schedule::{Schedule, Sizes};
+use crate::worker_backs::keep_back;
+use crate::worker_script::{MemoryParts, WorkerScript};
+use side_base::{Blob, NoMemory, Places, Sequence};
+use side_world::{Acceptor, Disk, Failed, Link, Outside, OutsideCall};
+use std::alloc::Global;
+
+/// The numbers that an outside in memory answers, in order, and 0 behind their end.
+pub type Numbers = Sequence<u64>;
+
+/// A whole outside in memory: its disks by their paths, and the parts of each worker. It tells what it holds, its calls, and what
+/// came back, until there is no memory for a note, or a part comes back that it never gave out.
+#[derive(Debug, Drop)]
+pub struct MemoryOutside {
+    alloc: Global,
+    disks: Vec<DiskPlace>,
+    disks_told: bool,
+    scripts: Vec<Option<WorkerScript>>,
+    backs: Vec<Option<MemoryParts>>,
+    backs_told: bool,
+    numbers: Numbers,
+    notes: Notes<OutsideCall>,
+    schedule: Schedule,
+}
+
+impl MemoryOutside {
+    ghost use Rattle.std.specs.Prelude.{◌≡◌, ◌≤◌, ℕ, None, Some, OnOk, OnErr};
+    ghost use Rattle.side_world.specs.Outside.{ChangesAt};
+    ghost use Rattle.side_memory.specs.MemoryOutside.{disks_of, backs_of, calls_of, faults_of, IsUnused};
+
+    /// An outside without disks and workers, which answers these numbers; `failing` are the calls of `take_disk` and `worker` that
+    /// fail, counted from 0 over both.
+    pub fn new(alloc: Global, numbers: Numbers, failing: Places) -> Self
+        ensures { IsUnused result }
+    {
+        MemoryOutside {
+            alloc,
+            disks: Vec::new(alloc),
+            disks_told: true,
+            scripts: Vec::new(alloc),
+            backs: Vec::new(alloc),
+            backs_told: true,
+            numbers,
+            notes: Notes::new(alloc),
+            schedule: Schedule::new(Sizes::new(alloc), failing),
+        }
+    }
+
+    /// Puts a disk of these bytes at `path`; `failing` are its calls that fail, counted from 0, once it is taken.
+    pub fn add_disk(&mut self, path: &[u8], bytes: &[u8], failing: Places) -> Result<(), NoMemory>
+        ensures held { OnOk result (ChangesAt path.now (disks_of self.old) (disks_of self.new) (λ _ held. held ≡ Some bytes.now)) }
+        ensures err { OnErr result (disks_of self.new ≡ disks_of self.old) }
+        ensures backs { backs_of self.new ≡ backs_of self.old }
+        ensures calls { calls_of self.new ≡ calls_of self.old }
+        ensures faults { faults_of self.new ≡ faults_of self.old }
+    {
+        put(self.alloc, &mut self.disks, path, bytes, failing)
+    }
+
+    /// The disk at `path`, where there is one and it is not taken.
+    pub fn disk(&self, path: &[u8]) -> Option<&MemoryDisk> {
+        let place = place_of(&self.disks, path)?;
+        self.disks[place].disk.as_ref()
+    }
+
+    /// Lets one worker more be asked for: the first has the number 0.
+    pub fn add_worker(&mut self, script: WorkerScript) -> Result<(), NoMemory>
+        ensures disks { disks_of self.new ≡ disks_of self.old }
+        ensures calls { calls_of self.new ≡ calls_of self.old }
+        ensures faults { faults_of self.new ≡ faults_of self.old }
+    {
+        self.backs.push(None)?;
+        if let Err(error) = self.scripts.push(Some(script)) {
+            self.backs.pop();
+            return Err(error.into());
+        }
+        Ok(())
+    }
+
+    /// What came back of the worker of this number, where it is back.
+    pub fn back(&self, number: u32) -> Option<&MemoryParts> {
+        match self.backs.get(number as usize) {
+            Some(back) => back.as_ref(),
+            None => None,
+        }
+    }
+}
+
+impl MemoryOutside {
+    ghost use Rattle.std.specs.Prelude.{◌≡◌, ◌≤◌, IfOk, OnOk, OnErr, IsNone};
+    ghost use Rattle.side_world.specs.Faults.{Rose};
+    ghost use Rattle.side_world.specs.Outside.{IsTaken, IsNewDisk, AreNew};
+    ghost use Rattle.side_memory.specs.MemoryOutside.{disks_of, backs_of, calls_of, faults_of};
+
+    // Takes a disk, and counts a fault where the call is to fail, or there is no memory.
+    fn open_disk(&mut self, path: &[u8]) -> Result<MemoryDisk, Failed>
+        ensures new { IfOk result (IsNewDisk ⟦<MemoryDisk as Disk>⟧) }
+        ensures taken { IfOk result (λ disk. IsTaken ⟦<MemoryDisk as Disk>⟧ disk path.now (disks_of self.old) (disks_of self.new)) }
+        ensures backs { backs_of self.new ≡ backs_of self.old }
+        ensures calls { calls_of self.new ≡ calls_of self.old }
+        ensures no_fault { OnOk result (faults_of self.new ≡ faults_of self.old) }
+        ensures failed { OnErr result (Rose (faults_of self.old) (faults_of self.new)) }
+        ensures untouched { OnErr result (disks_of self.new ≡ disks_of self.old) }
+        ensures no_fewer { faults_of self.old ≤ faults_of self.new }
+    {
+        self.schedule.call()?;
+        match take(self.alloc, &mut self.disks, path) {
+            Ok(disk) => Ok(disk),
+            Err(_) => {
+                self.schedule.fail();
+                Err(Failed)
+            }
+        }
+    }
+
+    // Begins a worker, and counts a fault where the call is to fail, or there is no such worker that was not begun.
+    fn begin_worker(&mut self, number: u32) -> Result<MemoryParts, Failed>
+        ensures new { IfOk result (AreNew ⟦<MemoryAcceptor as Acceptor>⟧ ⟦<MemoryLink as Link>⟧) }
+        ensures disks { disks_of self.new ≡ disks_of self.old }
+        ensures backs { backs_of self.new ≡ backs_of self.old }
+        ensures calls { calls_of self.new ≡ calls_of self.old }
+        ensures no_fault { OnOk result (faults_of self.new ≡ faults_of self.old) }
+        ensures failed { OnErr result (Rose (faults_of self.old) (faults_of self.new)) }
+        ensures no_fewer { faults_of self.old ≤ faults_of self.new }
+    {
+        self.schedule.call()?;
+        match take_script(&mut self.scripts, number) {
+            Some(script) => Ok(script.into_parts(self.alloc)),
+            None => {
+                self.schedule.fail();
+                Err(Failed)
+            }
+        }
+    }
+}
+
+fn take_script(scripts: &mut [Option<WorkerScript>], number: u32) -> Option<WorkerScript> {
+    match scripts.get_mut(number as usize) {
+        Some(script) => script.take(),
+        None => None,
+    }
+}
+
+impl Outside for MemoryOutside {
+    type Disk = MemoryDisk;
+
+    type Acceptor = MemoryAcceptor;
+
+    type Link = MemoryLink;
+
+    type Clock = MemoryClock;
+
+    ghost use Rattle.std.specs.Prelude.{◌≡◌, ◌≤◌};
+    ghost use Rattle.side_world.specs.Faults.{RoseWith};
+    ghost use Rattle.side_world.specs.Outside.{IsBack};
+    ghost use Rattle.side_memory.specs.MemoryOutside.{disks_of, backs_of, calls_of, faults_of};
+
+    ghost disks = { disks_of };
+
+    ghost calls = { calls_of };
+
+    ghost backs = { backs_of };
+
+    ghost faults = { faults_of };
+
+    fn take_disk(&mut self, path: &[u8]) -> Result<MemoryDisk, Failed> {
+        let taken = self.open_disk(path);
+        match Blob::from_bytes(self.alloc, path) {
+            Ok(path) => self.notes.add(OutsideCall::TakeDisk { path }),
+            Err(_) => self.notes.stop(),
+        }
+        taken
+    }
+
+    fn give_disk(&mut self, path: &[u8], disk: MemoryDisk) {
+        self.schedule.count_back(disk.faults());
+        if !give(&mut self.disks, path, disk) {
+            self.disks_told = false;
+        }
+    }
+
+    fn worker(&mut self, port: u16, number: u32) -> Result<MemoryParts, Failed> {
+        let parts = self.begin_worker(number);
+        self.notes.add(OutsideCall::Worker { port, number });
+        parts
+    }
+
+    fn give_worker(&mut self, number: u32, parts: MemoryParts)
+        ensures disks { disks_of self.new ≡ disks_of self.old }
+        ensures calls { calls_of self.new ≡ calls_of self.old }
+        ensures back { IsBack ⟦<MemoryAcceptor as Acceptor>⟧ ⟦<MemoryLink as Link>⟧ number parts (backs_of self.old) (backs_of self.new) }
+        ensures faults { RoseWith parts.acceptor.faults (faults_of self.old) (faults_of self.new) }
+        ensures no_fewer { faults_of self.old ≤ faults_of self.new }
+    {
+        self.schedule.count_back(parts.acceptor.faults());
+        if !keep_back(&mut self.backs, number, parts) {
+            self.backs_told = false;
+        }
+    }
+
+    fn start_number(&mut self) -> u64 {
+        match self.numbers.take_first() {
+            Some(number) => number,
+            None => 0,
+        }
+    }
+}

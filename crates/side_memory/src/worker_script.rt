@@ -1,0 +1,45 @@
+ghost use Rattle.std.specs.Prelude.{◌≡◌, [], Some};
+
+use crate::memory_acceptor::{AcceptorAnswers, MemoryAcceptor};
+use crate::memory_clock::{MemoryClock, Steps};
+use crate::memory_link::{LinkAnswers, MemoryLink};
+use side_base::{Moment, Places};
+use side_world::WorkerParts;
+use std::alloc::Global;
+
+/// What a worker in memory has of the outside for itself.
+pub type MemoryParts = WorkerParts<MemoryAcceptor, MemoryLink, MemoryClock>;
+
+/// What the parts of a worker answer: its acceptor and its link, with the calls of each that fail, and its clock.
+#[derive(Debug, Drop)]
+pub struct WorkerScript {
+    pub answers: AcceptorAnswers,
+    pub failing_accepts: Places,
+    pub link_answers: LinkAnswers,
+    pub failing_calls: Places,
+    pub first: Moment,
+    pub steps: Steps,
+}
+
+impl WorkerScript {
+    // The parts, of which nothing was used. Takes no memory.
+    pub(crate) fn into_parts(self, alloc: Global) -> MemoryParts
+        ensures acceptor { result.acceptor ≡ record { answers = self.answers; notes = Some []; faults = 0 } }
+        ensures link { result.link ≡ record { answers = self.link_answers; calls = Some []; faults = 0; expiries = 0 } }
+        ensures clock { result.clock ≡ record { last = self.first; paused = 0; steps = self.steps } }
+    {
+        let WorkerScript {
+            answers,
+            failing_accepts,
+            link_answers,
+            failing_calls,
+            first,
+            steps,
+        } = self;
+        WorkerParts {
+            acceptor: MemoryAcceptor::new(alloc, answers, failing_accepts),
+            link: MemoryLink::new(alloc, link_answers, failing_calls),
+            clock: MemoryClock::new(first, steps),
+        }
+    }
+}
