@@ -1,23 +1,16 @@
--- A command at another moment.
+-- The same command at different moments.
 use Rattle.std.specs.Prelude.{◌≡◌, ℕ, refl}
 use Rattle.state_core.specs.declared.command.Cmd.{Cmd}
 use Rattle.state_core.specs.declared.command.Cmd.TheVariants.{Get, Save, Delete, Bulk, Transact}
-
--- the same command at this moment
-abbrev pub at : ℕ → Cmd → Cmd
-at moment (Get key now) = Get key moment
-at moment (Save items now) = Save items moment
-at moment (Delete key etag mode now) = Delete key etag mode moment
-at moment (Bulk keys skip now) = Bulk keys skip moment
-at moment (Transact ops now) = Transact ops moment
+use Rattle.state_core.specs.Moved.{at_moment}
 
 -- the same command, maybe at another moment
 abbrev pub IsSame : Cmd → Cmd → Type 0
-IsSame cmd after = (moment : ℕ) → at moment after ≡ at moment cmd
+IsSame cmd after = (moment : ℕ) → at_moment moment after ≡ at_moment moment cmd
 
-pub again : (cmd : Cmd) (now : ℕ) → IsSame cmd (at now cmd)
-again (Get key old) now moment = refl
-again (Save items old) now moment = refl
-again (Delete key etag mode old) now moment = refl
-again (Bulk keys skip old) now moment = refl
-again (Transact ops old) now moment = refl
+pub moved_again : (cmd : Cmd) (now : ℕ) → IsSame cmd (at_moment now cmd)
+moved_again (Get key old) now moment = refl
+moved_again (Save items old) now moment = refl
+moved_again (Delete key etag mode old) now moment = refl
+moved_again (Bulk keys skip old) now moment = refl
+moved_again (Transact ops old) now moment = refl

@@ -1,10 +1,11 @@
 ghost use Rattle.std.specs.Prelude.{◌≡◌};
 ghost use Rattle.state_api.specs.Call.{answer_of};
 
-use crate::moment::set_now;
+
 use keeper_core::Keeper;
 use policy_run::{Attempt, Operation};
 use side_world::Clock;
+use state_core::laws::replies_fit;
 use state_core::{Cmd, Reply, Store};
 use std::sync::Wait;
 use turn_cell::{Exhausted, Object, Seat, TurnCell};
@@ -19,6 +20,7 @@ pub enum StateAnswer {
 }
 
 /// A state call: each attempt is one step of the store with this command, at the moment of the attempt.
+#[derive(Drop)]
 pub struct StoreCall<'a, K: Keeper> {
     pub cell: &'a TurnCell<Store<K>>,
     pub seat: &'a mut Seat<Store<K>>,
@@ -29,7 +31,7 @@ impl<K: Keeper> Operation for StoreCall<'_, K> {
     ghost use Rattle.turn_cell.specs.Sitting.{IsSeatOf};
     ghost use Rattle.state_core.specs.History.{Step};
     ghost use Rattle.state_core.specs.Taken.{IsTaken};
-    ghost use Rattle.state_api.specs.Call.{Makes, Did, alike};
+    ghost use Rattle.state_api.specs.Call.{Makes, Did, alike, did_none, did_more, did_seated, same_taken};
 
     type Good = StateAnswer;
 
@@ -49,20 +51,21 @@ impl<K: Keeper> Operation for StoreCall<'_, K> {
         _limit: u64,
         clock: &mut C,
     ) -> Attempt<StateAnswer, ()> {
-        set_now(self.cmd, clock.now());
+        replies_fit();
+        self.cmd.set_now(clock.now());
         match self.cell.call(rt, self.seat, self.cmd) {
             Ok(reply) => answer_of(reply),
             Err(Exhausted { count }) => Attempt::Good(StateAnswer::Exhausted { count }),
         }
     }
 
-    ghost none = { ? };
+    ghost none = { λ a _. did_none ⟦<Store<K> as Object>⟧ a.cell.now a.seat.ghost_name a.cmd.ghost_name a.seat.now a.cmd.now };
 
-    ghost more = { ? };
+    ghost more = { λ a b c xs ys. did_more ⟦<Store<K> as Object>⟧ a.cell.now a.seat.ghost_name a.cmd.ghost_name a.seat.now a.cmd.now xs b.cell.now b.seat.ghost_name b.cmd.ghost_name b.seat.now b.cmd.now ys c.cell.now c.seat.ghost_name c.cmd.ghost_name c.seat.now c.cmd.now };
 
-    ghost stays = { ? };
+    ghost stays = { λ a b xs ready did. (did_seated ⟦<Store<K> as Object>⟧ a.cell.now a.seat.ghost_name a.cmd.ghost_name a.seat.now a.cmd.now xs b.cell.now b.seat.ghost_name b.cmd.ghost_name b.seat.now b.cmd.now ready.0 did, same_taken a.cmd.now b.cmd.now did.same_cmd ready.1) };
 
-    ghost alike = { ? };
+    ghost alike = { λ a b xs did limit answer events. alike a.cmd.now b.cmd.now answer events did.same_cmd };
 }
 
 /// What a reply means for the attempt: only a store that failed is a failing attempt.

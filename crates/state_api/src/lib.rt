@@ -2,8 +2,9 @@
 #![tactic(auto)]
 
 mod call;
-mod moment;
+mod response;
 mod run;
 
 pub use call::{StateAnswer, StoreCall};
-pub use run::Ran;
+pub use response::response;
+pub use run::{Ran, run};
