@@ -34,3 +34,6 @@ pub mod ValueFacts
 pub mod LevelFacts
 pub mod FirstHolders
 pub mod TextLengths
+pub mod LastNames
+pub mod Moves
+pub mod Composing

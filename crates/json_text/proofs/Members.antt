@@ -44,7 +44,7 @@ onward_past doc name values m found s c l b stands onward named (Some k) h = onw
 onward_past doc name values m found s c l true stands onward named None h = onward (Some m) (record { spot = s; children = c; later = l; here = stands; of_them = inl refl; named = named.0 refl; last = h })
 onward_past doc name values m found s c l false stands onward named None h = onward None ((λ n. false_true ⊥ (named.1 n)), h)
 
-going_past : (doc : Doc) (name : List ℕ) (values : Forest) (m : Node) (next found : Option Node) (b : Bool) (tail : Forest) → StandsAt doc m tail → tail ≢ empty → IsTailOf tail values → ((r : Option Node) → IsLastNamed doc name tail r → IsLastNamed doc name values (or_else r found)) → ForFirst tail (λ spot children later. IsTrue b ↔ HasName (bytes_read doc) spot name) → ForFirst tail (λ spot children later. MatchOption next (later ≡ empty) (λ k. StandsAt doc k later × (later ≢ empty))) → Going doc name values next (cond b (Some m) found)
+pub going_past : (doc : Doc) (name : List ℕ) (values : Forest) (m : Node) (next found : Option Node) (b : Bool) (tail : Forest) → StandsAt doc m tail → tail ≢ empty → IsTailOf tail values → ((r : Option Node) → IsLastNamed doc name tail r → IsLastNamed doc name values (or_else r found)) → ForFirst tail (λ spot children later. IsTrue b ↔ HasName (bytes_read doc) spot name) → ForFirst tail (λ spot children later. MatchOption next (later ≡ empty) (λ k. StandsAt doc k later × (later ≢ empty))) → Going doc name values next (cond b (Some m) found)
 going_past doc name values m next found b empty stands some part onward named follows = absurd (some refl)
 going_past doc name values m next found b (grows s c l) stands some part onward named follows = record {
   tail = l;

@@ -125,7 +125,7 @@ begins_is byte first e = begins_from byte first (eqb byte 34) _ refl (begun_from
 
 -- ---- strings
 
-drop_tail : (bytes : List ℕ) (i byte : ℕ) (s : List ℕ) → byte ∷ s ≡ drop i bytes → s ≡ drop (suc i) bytes
+pub drop_tail : (bytes : List ℕ) (i byte : ℕ) (s : List ℕ) → byte ∷ s ≡ drop i bytes → s ≡ drop (suc i) bytes
 drop_tail bytes i byte s e = ap (drop 1) e ∙ drop-drop 1 i bytes ∙ ap (λ n. drop n bytes) (let one : i + 1 ≡ suc i = omega arith in one)
 
 spells_rest : (bytes : List ℕ) (q : Lexeme) (i : ℕ) (s : List ℕ) (j : ℕ) (t : List ℕ) (kind : Kind) → Spells q i s j t kind → s ≡ drop i bytes → t ≡ drop j bytes

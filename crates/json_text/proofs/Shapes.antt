@@ -3,6 +3,7 @@ use Rattle.std.proofs.Common.{◌≡◌, ℕ, suc, ◌+◌, ◌-◌, ◌≤◌, 
 use Rattle.std.specs.Prelude.{is_some}
 use Rattle.json_text.specs.declared.kind.Kind.{Kind}
 use Rattle.json_text.specs.declared.spot.Span.{Span}
+use Rattle.json_text.specs.declared.spot.Spot.{Spot}
 use Rattle.json_text.specs.declared.part.Bracket.{Bracket}
 use Rattle.json_text.specs.declared.part.Bracket.TheVariants.{List as list, Map as map}
 use Rattle.json_text.specs.declared.part.Part.{Part}
@@ -183,3 +184,7 @@ pub text_in_row : (bytes : List ℕ) (values : Forest) → IsText bytes values �
 text_in_row bytes values h =
     let r = row None start 0 (length bytes) bytes [] values h tt in
     row_at false false 0 0 r.end (length bytes) values refl refl (omega (arith, r.closed)) r.are
+
+-- a value that is still to come doesn't start before the place
+pub starts_later : (here : Part) (i j : ℕ) (s t : List ℕ) (spot : Spot) (children later : Forest) → Completes None here i s j t (grows spot children later) → PartFits i here → i ≤ spot.span.start
+starts_later here i j s t spot children later c fits = (row None here i j s t (grows spot children later) c fits).are.0.low

@@ -27,7 +27,7 @@ pub record ValueAt (P : Spot → Forest → Type 0) (doc : Doc) (n : ℕ) : Type
   pub stands : StandAt doc n (grows spot children later)
   pub fact : P spot children
 
-value_in : (P : Spot → Forest → Type 0) (doc : Doc) (n : ℕ) (values : Forest) (m : ℕ) → EachValue P values → StandAt doc m values → m ≤ n → n < m + count values → ValueAt P doc n
+pub value_in : (P : Spot → Forest → Type 0) (doc : Doc) (n : ℕ) (values : Forest) (m : ℕ) → EachValue P values → StandAt doc m values → m ≤ n → n < m + count values → ValueAt P doc n
 value_in P doc n empty m facts h low high = absurd (omega (arith, low, high))
 value_in P doc n (grows s c l) m facts h low high = elim (cases_lt m n) [
   | inr here ↦ (let is : m ≡ n = omega (arith, low, here) in record { spot = s; children = c; later = l; stands = subst (λ k. StandAt doc k (grows s c l)) is h; fact = facts.0 })

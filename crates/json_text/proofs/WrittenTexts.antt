@@ -247,7 +247,7 @@ text_leads (c ∷ cs) t ok =
     let front : spelled (encodes (c ∷ cs)) ++ t ≡ spelled (encode c) ++ (spelled (encodes cs) ++ t) = ap (λ l. l ++ t) (spelled-append (encode c) (encodes cs)) ∙ append_assoc (spelled (encode c)) (spelled (encodes cs)) t in
     subst (λ l. Course (plain false) l t (plain false)) (sym front) (course_on (plain false) (spelled (encode c) ++ (spelled (encodes cs) ++ t)) (spelled (encodes cs) ++ t) (plain false) t (plain false) (char_leads c (spelled (encodes cs) ++ t) both.0) (text_leads cs t both.1))
 
-spelling_leads : (text t : List ℕ) → IsUtf8 text → Course (plain false) (spelled text ++ t) t (plain false)
+pub spelling_leads : (text t : List ℕ) → IsUtf8 text → Course (plain false) (spelled text ++ t) t (plain false)
 spelling_leads text t utf8 = subst (λ l. Course (plain false) (spelled l ++ t) t (plain false)) utf8.1.1 (text_leads utf8.0 t utf8.1.0)
 
 -- ---- what a reader makes of it
@@ -256,7 +256,7 @@ closed_end : (i : ℕ) → Spells (plain false) i (34 ∷ []) (suc i) [] kinds.T
 unfolding next ends
 closed_end i = more {after = closed} refl (done refl)
 
-closed_next : (next (plain false) 34 ≡ Some closed) × (ends closed ≡ Some kinds.Text)
+pub closed_next : (next (plain false) 34 ≡ Some closed) × (ends closed ≡ Some kinds.Text)
 unfolding next ends
 closed_next = (refl, refl)
 

@@ -19,3 +19,6 @@ pub mod Productions
 pub mod Words
 pub mod Shape
 pub mod Levels
+pub mod LastMembers
+pub mod Moved
+pub mod MapTexts

@@ -49,6 +49,13 @@ impl<'a> Doc<'a> {
         self.bytes
     }
 
+    /// Whether the document has this value.
+    pub fn is_node(&self, n: Node) -> bool
+        ensures { IsTrue result ↔ IsNode self.now n }
+    {
+        n.number < self.nodes.len()
+    }
+
     // The value's entry.
     pub(crate) fn entry(&self, n: Node) -> &Entry
         requires { IsNode self.now n }

@@ -15,6 +15,8 @@ ghost use Rattle.json_text.specs.Words.{HasWord, HasProduced};
 ghost use Rattle.json_text.specs.Written.{ReadsBack};
 ghost use Rattle.json_text.specs.Grammar.{IsText};
 ghost use Rattle.json_text.specs.Shape.{AreInRow, nesting, IsPlaced};
+ghost use Rattle.json_text.specs.Moved.{IsTextAlone};
+ghost use Rattle.json_text.specs.MapTexts.{Written, IsWritten, map_bytes, map_of};
 ghost use Rattle.json_text.specs.Faults.{IsClean};
 
 /// What `push_string` writes of a text is a JSON text of one string in which nothing is wrong, so that `read` takes it
@@ -52,4 +54,21 @@ pub fn values_are_nested_64_deep_at_most()
 /// at most.
 pub fn each_value_has_its_place()
     ensures { (doc : Doc) (bytes : List ℕ) (node : Node) (spot : Spot) (children later : Forest) → Shows doc bytes → StandsAt doc node (grows spot children later) → IsPlaced bytes spot children }
+{}
+
+/// A text has one tree at most.
+pub fn a_text_has_one_tree()
+    ensures { (bytes : List ℕ) (values others : Forest) → IsText bytes values → IsText bytes others → values ≡ others }
+{}
+
+/// The bytes of each value of a text that was read are a text by themselves: the same values, with places that count from its
+/// start.
+pub fn each_value_is_a_text()
+    ensures { (doc : Doc) (bytes : List ℕ) (node : Node) (spot : Spot) (children later : Forest) → Shows doc bytes → StandsAt doc node (grows spot children later) → IsTextAlone bytes spot children }
+{}
+
+/// A map written of names and of values that are texts by themselves, joined by commas, is a text: one level deeper, with
+/// these members.
+pub fn a_written_map_is_a_text()
+    ensures { (members : List Written) → AllByRecursion IsWritten members → IsText (map_bytes members) (map_of members) }
 {}

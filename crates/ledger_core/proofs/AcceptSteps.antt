@@ -1,7 +1,7 @@
 -- A new message in the books, and the replies to an `Accept`.
-use Rattle.std.proofs.Common.{◌≡◌, ◌+◌, ◌≤◌, ℕ, true, false, List, [], ◌∷◌, ◌++◌, length, Option, Some, None, refl, sym, ap, subst, ◌∙◌, arith, add-zero, inl, inr}
-use Rattle.std.specs.Prelude.{◌⊎◌, if◌then◌else◌}
-use Rattle.std.proofs.lemmas.Bool.{both_ways, or_parts, ltb-false}
+use Rattle.std.proofs.Common.{◌≡◌, ◌+◌, ◌≤◌, ℕ, true, false, List, [], ◌∷◌, ◌++◌, length, Option, Some, None, refl, sym, ap, subst, ◌∙◌, arith, add-zero}
+use Rattle.std.specs.Prelude.{if◌then◌else◌}
+use Rattle.std.proofs.lemmas.Bool.{or_parts, ltb-false}
 use Rattle.std.proofs.lemmas.Option.{none-some}
 use Rattle.std.proofs.lemmas.List.Sums.{sum_by-append}
 use Rattle.std.proofs.lemmas.List.Concat.{flat_map-cons}
@@ -15,7 +15,7 @@ use Rattle.ledger_core.specs.Size.{exceeds, new_rows, new_drops, new_bytes}
 use Rattle.ledger_core.proofs.Once.{AreOnce}
 use Rattle.ledger_core.specs.Standing.{Standing, status_in}
 use Rattle.ledger_core.specs.Course.{Course, is_owed, is_done, is_dropped, is_dead, standing_at}
-use Rattle.ledger_core.specs.Reply.{IsSized}
+use Rattle.ledger_core.specs.Reply.{IsSized, IsAcceptedAs}
 use Rattle.ledger_core.specs.Books.{IsIndex, waiting_slot, held_slot, Shows, put_all}
 use Rattle.ledger_core.specs.After.{moved, fresh, fresh_one, entry_at, entries_for, course_after, AreDistinct, IsBook, IsStepOf}
 use Rattle.ledger_core.proofs.Adds.{index_adds, slot_entries, fresh_rows, fresh_drops, fresh_nothing, fresh_bytes}
@@ -77,17 +77,11 @@ shows_added plans course before after event hops now aims numbered once shows ad
 
 -- ---- sizes
 
-pub sized_full : (rows bytes r b : ℕ) (done : LedgerReply) → rows ≡ r → bytes ≡ b → exceeds rows bytes ≡ true → IsSized r b done (says.Full rows bytes)
-sized_full rows bytes r b done rows_are bytes_are over = record {
-  full = λ e i. says.Full (rows_are i) (bytes_are i);
-  fits = λ e. absurd (both_ways _ (ap (λ n. exceeds n bytes) rows_are ∙ ap (exceeds r) bytes_are ∙ e) over);
-}
+pub sized_full : (rows bytes r b : ℕ) (done : LedgerReply → Type 0) → rows ≡ r → bytes ≡ b → exceeds rows bytes ≡ true → IsSized r b done (says.Full rows bytes)
+sized_full rows bytes r b done rows_are bytes_are over = (sym (ap (λ n. exceeds n bytes) rows_are ∙ ap (exceeds r) bytes_are) ∙ over, rows_are, bytes_are)
 
-pub sized_done : (rows bytes r b : ℕ) (done reply : LedgerReply) → rows ≡ r → bytes ≡ b → exceeds rows bytes ≡ false → (reply ≡ done) ⊎ (reply ≡ says.NoMemory) → IsSized r b done reply
-sized_done rows bytes r b done reply rows_are bytes_are within either = record {
-  full = λ e. absurd (both_ways _ within (ap (λ n. exceeds n bytes) rows_are ∙ ap (exceeds r) bytes_are ∙ e));
-  fits = λ e. either;
-}
+pub sized_within : (rows bytes r b : ℕ) → rows ≡ r → bytes ≡ b → exceeds rows bytes ≡ false → exceeds r b ≡ false
+sized_within rows bytes r b rows_are bytes_are within = sym (ap (λ n. exceeds n bytes) rows_are ∙ ap (exceeds r) bytes_are) ∙ within
 
 pub within_limits : (rows bytes : ℕ) → exceeds rows bytes ≡ false → (rows ≤ 65536) × (bytes ≤ 268435456)
 within_limits rows bytes e = let parts = or_parts _ _ e in (ltb-false 65536 rows parts.0, ltb-false 268435456 bytes parts.1)
@@ -98,7 +92,7 @@ pub accept_full : (plans : List Plan) (course : Course) (books : Books) (event :
     → rows ≡ books.owed + new_rows aims → bytes ≡ books.bytes + new_bytes (length event) aims → exceeds rows bytes ≡ true
     → IsStepOf plans course (Accept event aims now) (says.Full rows bytes) books
 accept_full plans course books event aims now rows bytes shows rows_are bytes_are over = record {
-  reply_is = sized_full rows bytes _ _ _ (rows_are ∙ ap (λ n. n + new_rows aims) shows.owed) (bytes_are ∙ ap (λ n. n + new_bytes (length event) aims) shows.bytes) over;
+  reply_is = sized_full rows bytes _ _ (IsAcceptedAs (course.made + 1)) (rows_are ∙ ap (λ n. n + new_rows aims) shows.owed) (bytes_are ∙ ap (λ n. n + new_bytes (length event) aims) shows.bytes) over;
   shows = subst (λ c. Shows plans c books) (sym (stays course (Accept event aims now) (says.Full rows bytes) (λ s. refl) refl refl refl)) shows;
 }
 
@@ -106,7 +100,7 @@ pub accept_wanting : (plans : List Plan) (course : Course) (books : Books) (even
     → rows ≡ books.owed + new_rows aims → bytes ≡ books.bytes + new_bytes (length event) aims → exceeds rows bytes ≡ false
     → IsStepOf plans course (Accept event aims now) says.NoMemory books
 accept_wanting plans course books event aims now rows bytes shows rows_are bytes_are within = record {
-  reply_is = sized_done rows bytes _ _ _ _ (rows_are ∙ ap (λ n. n + new_rows aims) shows.owed) (bytes_are ∙ ap (λ n. n + new_bytes (length event) aims) shows.bytes) within (inr refl);
+  reply_is = sized_within rows bytes _ _ (rows_are ∙ ap (λ n. n + new_rows aims) shows.owed) (bytes_are ∙ ap (λ n. n + new_bytes (length event) aims) shows.bytes) within;
   shows = subst (λ c. Shows plans c books) (sym (stays course (Accept event aims now) says.NoMemory (λ s. refl) refl refl refl)) shows;
 }
 
@@ -115,8 +109,7 @@ pub accept_added : (plans : List Plan) (course : Course) (before after : Books) 
     → IsAdded plans before.made event 0 now aims before after
     → IsStepOf plans course (Accept event aims now) (says.Accepted after.made) after
 accept_added plans course before after event aims now rows bytes is_book shows once rows_are bytes_are within added = record {
-  reply_is = sized_done rows bytes _ _ _ _ (rows_are ∙ ap (λ n. n + new_rows aims) shows.owed) (bytes_are ∙ ap (λ n. n + new_bytes (length event) aims) shows.bytes) within
-      (inl (ap says.Accepted (added.made_is ∙ ap (λ n. n + 1) shows.made)));
+  reply_is = (sized_within rows bytes _ _ (rows_are ∙ ap (λ n. n + new_rows aims) shows.owed) (bytes_are ∙ ap (λ n. n + new_bytes (length event) aims) shows.bytes) within, added.made_is ∙ ap (λ n. n + 1) shows.made);
   shows = subst (λ c. Shows plans c after) (sym course_is)
       (shows_added plans course before after event 0 now aims is_book.numbered once shows (subst (λ n. IsAdded plans n event 0 now aims before after) shows.made added));
 }

@@ -22,11 +22,10 @@ use Rattle.ledger_core.specs.declared.reply.LedgerReply.TheVariants as says
 use Rattle.ledger_core.specs.Plan.{plan_at}
 use Rattle.ledger_core.specs.Aims.{IsGiven}
 use Rattle.ledger_core.specs.Row.{Row}
-use Rattle.ledger_core.specs.Size.{exceeds}
 use Rattle.ledger_core.specs.Message.{Step, Pair, pair_at, letter_of, messages_of, pairs_of}
 use Rattle.ledger_core.specs.Standing.{Standing, Status, owed, done, dropped, dead, settles, status_by, standing, standings}
 use Rattle.ledger_core.specs.Course.{Course, course_of, count_of, is_owed, is_done, is_dropped, is_dead, is_waiting, is_held, standing_at, held_at, kept_if}
-use Rattle.ledger_core.specs.Reply.{IsReply, IsSized, IsSettled, IsRetriedBy, IsAsDecided, IsBuried}
+use Rattle.ledger_core.specs.Reply.{IsReply, IsSettled, IsRetriedBy, IsAsDecided, IsBuried}
 use Rattle.ledger_core.specs.Books.{row_for, numbered, slotted, row_at, waiting_slot, held_slot, Shows}
 use Rattle.ledger_core.specs.After.{moved, settled_status, fresh_by, AreDistinct}
 use Rattle.ledger_core.specs.Ledger.{IsStep, IsUntouched}
@@ -210,15 +209,9 @@ not_nothing new e = cc
 same_dead : (new other : ℕ) → says.Dead new ≡ says.Dead other → new ≡ other
 same_dead new other e = cc
 
-sized_next : (made rows bytes new : ℕ) → IsSized rows bytes (says.Dead (made + 1)) (says.Dead new) → new ≡ made + 1
-sized_next made rows bytes new sized =
-    ⊎_elim (λ over. absurd (not_full new rows bytes (sized.full over)))
-    (λ within. ⊎_elim (λ e. same_dead new (made + 1) e) (λ e. absurd (not_wanting new e)) (sized.fits within))
-    (cases_Bool (exceeds rows bytes))
-
 buried_next : (course : Course) (s : Standing) (aims : List Aim) (new : ℕ) → IsBuried course s aims (says.Dead new) → new ≡ course.made + 1
 buried_next course s aims new is =
-    ⊎_elim (λ lt. sized_next course.made _ _ new (is.sized lt)) (λ le. absurd (not_dropped new _ (is.hops le))) (cases_lt s.pair.hops 8)
+    ⊎_elim (λ lt. (is.sized lt).1) (λ le. absurd (not_dropped new _ (is.hops le))) (cases_lt s.pair.hops 8)
 
 retried_next : (course : Course) (retry : Option RetryPolicy) (dead_too : Bool) (s : Standing) (now word : ℕ) (aims : List Aim) (new : ℕ) → IsRetriedBy course retry dead_too s now word aims (says.Dead new) → new ≡ course.made + 1
 retried_next course None false s now word aims new is = absurd (not_again new (now + 1000) is)

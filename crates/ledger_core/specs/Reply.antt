@@ -1,5 +1,5 @@
 -- The reply to a command after a history.
-use Rattle.std.specs.Prelude.{◌≡◌, ◌⊎◌, ◌<◌, ◌≤◌, ℕ, ◌+◌, ◌-◌, Bool, true, false, List, ◌∷◌, length, Option, Some, None}
+use Rattle.std.specs.Prelude.{◌≡◌, ◌<◌, ◌≤◌, ℕ, ◌+◌, ◌-◌, Bool, true, false, List, ◌∷◌, length, Option, Some, None}
 use Rattle.std.specs.Ordering.{is_gt}
 use Rattle.retry_core.specs.declared.policy.RetryPolicy.{RetryPolicy}
 use Rattle.retry_core.specs.declared.run.Next.{Next}
@@ -20,14 +20,24 @@ use Rattle.ledger_core.specs.Size.{exceeds, new_rows, new_bytes}
 use Rattle.ledger_core.specs.Standing.{Standing}
 use Rattle.ledger_core.specs.Course.{Course, count_of, is_owed, is_done, is_dropped, is_dead, rows_in, row_bytes, bytes_in, standing_at, is_waiting, is_ready, held_at, place_of}
 
--- where `rows` and `bytes` are within the limits the answer is `done`, for which there may be no memory; else the ledger is full
-pub record IsSized (rows bytes : ℕ) (done reply : LedgerReply) : Type 0 where
-  pub full : exceeds rows bytes ≡ true → reply ≡ says.Full rows bytes
-  pub fits : exceeds rows bytes ≡ false → (reply ≡ done) ⊎ (reply ≡ says.NoMemory)
+-- Rows and bytes that exceed a limit are refused, and told. Else the reply is one that `done` allows, or there is no memory for it
+abbrev pub IsSized : ℕ → ℕ → (LedgerReply → Type 0) → LedgerReply → Type 0
+IsSized rows bytes done (says.Full r b) = (exceeds rows bytes ≡ true) × (r ≡ rows) × (b ≡ bytes)
+IsSized rows bytes done says.NoMemory = exceeds rows bytes ≡ false
+IsSized rows bytes done reply = (exceeds rows bytes ≡ false) × done reply
+
+-- the next message, accepted, or made of a dead letter
+abbrev pub IsAcceptedAs : ℕ → LedgerReply → Type 0
+IsAcceptedAs next (says.Accepted number) = number ≡ next
+IsAcceptedAs next reply = ⊥
+
+abbrev pub IsDeadAs : ℕ → LedgerReply → Type 0
+IsDeadAs next (says.Dead number) = number ≡ next
+IsDeadAs next reply = ⊥
 
 abbrev pub IsAccepted : Course → List ℕ → List Aim → LedgerReply → Type 0
 IsAccepted course event aims reply =
-    IsSized (rows_in course.book + new_rows aims) (bytes_in course.book + new_bytes (length event) aims) (says.Accepted (course.made + 1)) reply
+    IsSized (rows_in course.book + new_rows aims) (bytes_in course.book + new_bytes (length event) aims) (IsAcceptedAs (course.made + 1)) reply
 
 -- ---- taking
 
@@ -72,7 +82,7 @@ IsTaken course now reply = ⊥
 -- with the message
 pub record IsBuried (course : Course) (s : Standing) (aims : List Aim) (reply : LedgerReply) : Type 0 where
   pub hops : 8 ≤ s.pair.hops → reply ≡ says.Dropped reason.Hops
-  pub sized : s.pair.hops < 8 → IsSized ((rows_in course.book - 1) + new_rows aims) ((bytes_in course.book - row_bytes s) + new_bytes (length s.pair.event) aims) (says.Dead (course.made + 1)) reply
+  pub sized : s.pair.hops < 8 → IsSized ((rows_in course.book - 1) + new_rows aims) ((bytes_in course.book - row_bytes s) + new_bytes (length s.pair.event) aims) (IsDeadAs (course.made + 1)) reply
 
 -- a row that gets no further attempt goes to its dead-letter topic, if it has one
 abbrev pub IsGivenUp : Course → Bool → Standing → List Aim → LedgerReply → Type 0

@@ -2,6 +2,7 @@ pub mod DiskNotes
 pub mod MemoryAcceptor
 pub mod MemoryClock
 pub mod MemoryDisk
+pub mod MemoryFiles
 pub mod MemoryLink
 pub mod MemoryOutside
 pub mod MemorySink

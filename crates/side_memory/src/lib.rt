@@ -3,9 +3,11 @@
 
 mod copying;
 mod disk_places;
+mod file_search;
 mod memory_acceptor;
 mod memory_clock;
 mod memory_disk;
+mod memory_files;
 mod memory_link;
 mod memory_outside;
 mod memory_sink;
@@ -23,6 +25,7 @@ pub use memory_acceptor::{
 };
 pub use memory_clock::{MemoryClock, Steps};
 pub use memory_disk::MemoryDisk;
+pub use memory_files::MemoryFiles;
 pub use memory_link::{LinkAnswers, MemoryLink};
 pub use memory_outside::{MemoryOutside, Numbers};
 pub use memory_sink::MemorySink;
@@ -31,5 +34,3 @@ pub use overwriting::Tear;
 pub use schedule::Sizes;
 pub use worker_script::{MemoryParts, WorkerScript};
 
-#[cfg(test)]
-mod tests;

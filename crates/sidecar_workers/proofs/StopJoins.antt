@@ -70,6 +70,10 @@ module _ (id : ℕ) (v : View) (other : ℕ) (w : View) (living : v.spent ≡ fa
       (same_place c.j other))
       (same_place c.j id)
 
+  -- the root had split the other off
+  out_there : 0 < v.out
+  out_there = omega (arith, whole_sum, lived, lived', (r.root v first).1, sum_at alive Whole id (joined_view v w) in_whole)
+
   joins_rule : StopRule record { words = s.words; homes = s.homes; views = Whole }
   joins_rule = record {
     wide = r.wide;
@@ -80,6 +84,7 @@ module _ (id : ℕ) (v : View) (other : ℕ) (w : View) (living : v.spent ≡ fa
         (λ (t : (0 ≢ other) × (get_elem? Half 0 ≡ some u)). let same : joined_view v w ≡ u = one_place Half 0 (joined_view v w) u (subst (λ k. get_elem? Half k ≡ some (joined_view v w)) at_root in_half) t.1 in
         (subst (λ (z : View). alive z ≡ 1) same lived, omega (arith, whole_sum, lived, lived', (r.root v first).1, sum_at alive Whole id (joined_view v w) in_whole, ap (λ (z : View). z.out) same)))
         (at_set Half other 0 spent_view u there);
+    met_out = λ j u there alive_u. by_place (λ u. 0 < u.out_before) j u there alive_u (λ _. out_there) (λ h. r.met_out j u h alive_u);
     shown = λ j u there alive_u. by_place (λ u. has_found u ≡ true → 0 < slice_index s.words 0) j u there alive_u
         (λ _ e. ⊎_elim (λ (a : v.found ≡ true). r.shown id v at lived (or_left v.found v.kept_found a))
         (λ (b : (v.kept_found || has_found w) ≡ true). ⊎_elim (λ (c : v.kept_found ≡ true). r.shown id v at lived (or_right v.found v.kept_found c)) (λ (d : has_found w ≡ true). r.shown other w there' lived' d) (either_true v.kept_found (has_found w) b))

@@ -1,5 +1,5 @@
 -- A seat is split off the root of a stop word.
-use Rattle.std.proofs.Common.{◌≡◌, ◌≢◌, ℕ, ◌+◌, eqb, true, false, List, [], ◌∷◌, ◌++◌, length, set, sum_by, sym, ap, ◌∙◌, subst, ⊎_elim, arith, length-set, length-append, ne_eqb}
+use Rattle.std.proofs.Common.{◌≡◌, ◌≢◌, ℕ, ◌+◌, ◌<◌, eqb, true, false, List, [], ◌∷◌, ◌++◌, length, set, sum_by, sym, ap, ◌∙◌, subst, ⊎_elim, arith, length-set, length-append, ne_eqb}
 use Rattle.std.proofs.lemmas.Bool.{false≢true, eqb-true}
 use Rattle.std.proofs.lemmas.List.Sums.{sum_by_push}
 use mathlib.Core.Option.{some}
@@ -50,6 +50,12 @@ module _ (id : ℕ) (v : View) (living : v.spent ≡ false) (is : v.is_root ≡ 
         (λ (t : (0 ≢ id) × (get_elem? s.views 0 ≡ some u)). absurd (t.0 (sym at_root))) (at_set s.views id 0 (parent_view v) u h))
         (λ (t : (0 ≡ length Half) × (child_view ≡ u)). absurd (omega (arith, t.0, r.has_root, length-set s.views id (parent_view v))))
         (at_end Half child_view u 0 there);
+    met_out = λ j u there alive_u. ⊎_elim
+        (λ (h : get_elem? Half j ≡ some u). ⊎_elim
+        (λ (t : (j ≡ id) × (parent_view v ≡ u)). subst (λ (z : View). 0 < z.out_before) t.1 (r.met_out id v at lived))
+        (λ (t : (j ≢ id) × (get_elem? s.views j ≡ some u)). r.met_out j u t.1 alive_u) (at_set s.views id j (parent_view v) u h))
+        (λ (t : (j ≡ length Half) × (child_view ≡ u)). omega (arith, ap (λ (z : View). z.out_before) t.1))
+        (at_end Half child_view u j there);
     shown = λ j u there alive_u e. ⊎_elim
         (λ (h : get_elem? Half j ≡ some u). ⊎_elim
         (λ (t : (j ≡ id) × (parent_view v ≡ u)). r.shown id v at lived (ap has_found t.1 ∙ e))

@@ -8,7 +8,7 @@ use Rattle.atomic_table.proofs.Lists.{at_set, set_here, set_else}
 use Rattle.sidecar_workers.specs.declared.reason.Reason.{Reason}
 use Rattle.sidecar_workers.specs.declared.view.View.{View}
 use Rattle.sidecar_workers.specs.StopRule.{opening_view, one_unless, alive, has_found, has_ended, Cause, StopRule}
-use Rattle.sidecar_workers.specs.StopPlay.{found_view, ended_view, IsAloneView, looked, halted}
+use Rattle.sidecar_workers.specs.StopPlay.{found_view, clear_view, ended_view, IsAloneView, looked, halted}
 use Rattle.sidecar_workers.proofs.Places.{in_range, one_place, sum_set, only_first}
 
 abbrev pub Stand : Type 0
@@ -55,10 +55,10 @@ cause_stays views id v w at lives stays c = by_place (same_place c.j id)
     by_place (inr other) = record { j = c.j; v = c.v; at = set_else views id c.j w other ∙ c.at; lives = c.lives; ended = c.ended }
 
 -- the rule after a step of one seat on the word, which stays set where it was
-moved : (s : Stand) → StopRule s → (id : ℕ) (v w : View) (words : List ℕ) → get_elem? s.views id ≡ some v → alive v ≡ 1 → alive w ≡ 1 → w.is_root ≡ v.is_root → w.out ≡ v.out → length words ≡ 1 →
+moved : (s : Stand) → StopRule s → (id : ℕ) (v w : View) (words : List ℕ) → get_elem? s.views id ≡ some v → alive v ≡ 1 → alive w ≡ 1 → w.is_root ≡ v.is_root → w.out ≡ v.out → w.out_before ≡ v.out_before → length words ≡ 1 →
     (0 < slice_index s.words 0 → 0 < slice_index words 0) → (has_found w ≡ true → 0 < slice_index words 0) → (0 < slice_index words 0 → Cause (set s.views id w)) →
     StopRule record { words = words; homes = s.homes; views = set s.views id w }
-moved s r id v w words at lived lives same_root same_out one later found cause = record {
+moved s r id v w words at lived lives same_root same_out same_before one later found cause = record {
   wide = one;
   has_root = omega (arith, r.has_root, length-set s.views id w);
   rooted = λ j u there alive_u. ⊎_elim
@@ -69,6 +69,9 @@ moved s r id v w words at lived lives same_root same_out one later found cause =
       (subst (λ (z : View). alive z ≡ 1) t.1 lives, omega (arith, old.1, sum_set alive s.views id v w at, lived, lives, same_out, ap (λ (z : View). z.out) t.1)))
       (λ (t : (0 ≢ id) × (get_elem? s.views 0 ≡ some u)). let old = r.root u t.1 in (old.0, omega (arith, old.1, sum_set alive s.views id v w at, lived, lives)))
       (at_set s.views id 0 w u there);
+  met_out = λ j u there alive_u. ⊎_elim
+      (λ (t : (j ≡ id) × (w ≡ u)). omega (arith, r.met_out id v at lived, same_before, ap (λ (z : View). z.out_before) t.1))
+      (λ (t : (j ≢ id) × (get_elem? s.views j ≡ some u)). r.met_out j u t.1 alive_u) (at_set s.views id j w u there);
   shown = λ j u there alive_u is. ⊎_elim
       (λ (t : (j ≡ id) × (w ≡ u)). found (ap has_found t.1 ∙ is))
       (λ (t : (j ≢ id) × (get_elem? s.views j ≡ some u)). later (r.shown j u t.1 alive_u is)) (at_set s.views id j w u there);
@@ -101,21 +104,21 @@ looks slots id m living s r homes at fits = by_word (slice_index s.words 0) refl
     by_word : (n : ℕ) → slice_index s.words 0 ≡ n → Next s id n m (looked m) n
     by_word zero is =
         let unset : has_found m.0 ≡ true → ⊥ = λ e. omega (arith, r.shown id m.0 at lived e, is) in (
-          m.0,
+          clear_view m.0,
           keeps,
           tt,
-          moved s r id m.0 m.0 (set s.words 0 0) at lived lived refl refl (written s.words 0 r.wide).0
+          moved s r id m.0 (clear_view m.0) (set s.words 0 0) at lived lived refl refl refl (written s.words 0 r.wide).0
               (λ h. absurd (omega (arith, h, is))) (λ e. absurd (unset e)) (λ h. absurd (omega (arith, h, (written s.words 0 r.wide).1))),
-          (refl, (λ _. (refl, not_true m.0.found (λ e. unset (or_left m.0.found m.0.kept_found e)))), (λ h. absurd (omega (arith, h))), (λ alone e. absurd (unset e))),
+          (refl, (λ _. (refl, not_true (has_found m.0) unset)), (λ h. absurd (omega (arith, h))), r.met_out id m.0 at lived, (λ alone e. absurd (unset e))),
         )
     by_word (suc n) is = (
       found_view m.0,
       keeps,
       tt,
-      moved s r id m.0 (found_view m.0) (set s.words 0 (suc n)) at lived lived refl refl (written s.words (suc n) r.wide).0
+      moved s r id m.0 (found_view m.0) (set s.words 0 (suc n)) at lived lived refl refl refl (written s.words (suc n) r.wide).0
           (λ _. omega (arith, (written s.words (suc n) r.wide).1)) (λ _. omega (arith, (written s.words (suc n) r.wide).1))
           (λ _. cause_stays s.views id m.0 (found_view m.0) at lived (λ e. e) (r.caused (omega (arith, is)))),
-      (refl, (λ e. absurd (omega (arith, e))), (λ _. refl), (λ alone _. alone_ended s r id m.0 at lived alone (omega (arith, is)))),
+      (refl, (λ e. absurd (omega (arith, e))), (λ _. refl), r.met_out id m.0 at lived, (λ alone _. alone_ended s r id m.0 at lived alone (omega (arith, is)))),
     )
 
 some_same : {A : Type 0} (o : Option A) (a b : A) → o ≡ Some a → o ≡ Some b → a ≡ b
@@ -127,7 +130,7 @@ halts why reason is slots id m living s r homes at fits = (
   ended_view m.0 reason,
   keeps,
   tt,
-  moved s r id m.0 (ended_view m.0 reason) (set s.words 0 1) at lived lived refl refl (written s.words 1 r.wide).0
+  moved s r id m.0 (ended_view m.0 reason) (set s.words 0 1) at lived lived refl refl refl (written s.words 1 r.wide).0
       (λ _. omega (arith, (written s.words 1 r.wide).1)) (λ _. omega (arith, (written s.words 1 r.wide).1))
       (λ _. record { j = id; v = ended_view m.0 reason; at = set_here s.views id (ended_view m.0 reason) (in_range s.views id m.0 at); lives = lived; ended = refl }),
   (refl, (λ other e. ap (λ (z : Reason). ended_view m.0 z) (some_same why reason other is e))),
@@ -148,6 +151,7 @@ starts = record {
   has_root = omega arith;
   rooted = λ j u there _. ⊎_elim (λ (t : get_elem? [] j ≡ some u). absurd (some-ne-none u (sym t))) (λ (t : (j ≡ 0) × (opening_view ≡ u)). ap (λ (z : View). z.is_root) (sym t.1) ∙ ap (λ k. eqb k 0) (sym t.0)) (at_end [] opening_view u j there);
   root = λ u there. subst (λ (z : View). (alive z ≡ 1) × (1 ≡ z.out + 1)) (some-injective opening_view u there) (refl, refl);
+  met_out = λ j u there _. ⊎_elim (λ (t : get_elem? [] j ≡ some u). absurd (some-ne-none u (sym t))) (λ (t : (j ≡ 0) × (opening_view ≡ u)). omega (arith, ap (λ (z : View). z.out_before) t.1)) (at_end [] opening_view u j there);
   shown = λ j u there _ e. ⊎_elim (λ (t : get_elem? [] j ≡ some u). absurd (some-ne-none u (sym t))) (λ (t : (j ≡ 0) × (opening_view ≡ u)). absurd (false≢true (ap has_found t.1 ∙ e))) (at_end [] opening_view u j there);
   caused = λ h. absurd (omega (arith, h));
 }

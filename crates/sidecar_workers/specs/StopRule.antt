@@ -7,7 +7,7 @@ use Rattle.sidecar_workers.specs.declared.view.View.{View}
 
 -- the view of the first seat
 abbrev pub opening_view : View
-opening_view = record { is_root = true; found = false; ended = None; out = 0; kept_found = false; kept_ended = false; spent = false }
+opening_view = record { is_root = true; found = false; looks = 0; ended = None; out = 0; out_before = 1; kept_found = false; kept_ended = false; spent = false }
 
 -- 1 where the seat was not met
 abbrev pub one_unless : Bool → ℕ
@@ -38,5 +38,6 @@ pub record StopRule (s : State (Unit {0}) View) : Type 0 where
   pub has_root : 0 < length s.views
   pub rooted : (j : ℕ) (v : View) → get_elem? s.views j ≡ some v → alive v ≡ 1 → v.is_root ≡ (j == 0)
   pub root : (v : View) → get_elem? s.views 0 ≡ some v → (alive v ≡ 1) × (sum_by alive s.views ≡ v.out + 1)
+  pub met_out : (j : ℕ) (v : View) → get_elem? s.views j ≡ some v → alive v ≡ 1 → 0 < v.out_before
   pub shown : (j : ℕ) (v : View) → get_elem? s.views j ≡ some v → alive v ≡ 1 → has_found v ≡ true → 0 < slice_index s.words 0
   pub caused : 0 < slice_index s.words 0 → Cause s.views

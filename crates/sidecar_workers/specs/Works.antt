@@ -1,5 +1,5 @@
 -- The calls of a work, in the order in which a worker makes them.
-use Rattle.std.specs.Prelude.{◌≡◌, List, [], ◌∷◌, ◌++◌, Option, Some, None, MatchOption}
+use Rattle.std.specs.Prelude.{◌≡◌, ℕ, Bool, true, false, count_by, List, [], ◌∷◌, ◌++◌, Option, Some, None, MatchOption}
 use Rattle.sidecar_workers.specs.declared.exit.Exit.{Exit}
 use Rattle.sidecar_workers.specs.declared.exit.Exit.TheVariants as exits
 use Rattle.sidecar_workers.specs.declared.reason.Reason.{Reason}
@@ -47,6 +47,28 @@ reason_of exits.Stopped = None
 reason_of exits.Closed = None
 reason_of exits.Failed = Some reasons.Failed
 reason_of (exits.Spent count) = Some (reasons.Spent count)
+
+-- whether the work is over where a worker ended so
+abbrev pub is_over_at : Exit → Bool
+is_over_at exits.Asked = true
+is_over_at exits.Stopped = false
+is_over_at exits.Closed = false
+is_over_at exits.Failed = false
+is_over_at (exits.Spent count) = true
+
+-- or goes on
+abbrev pub is_over_by : Option Exit → Bool
+is_over_by None = false
+is_over_by (Some e) = is_over_at e
+
+abbrev pub is_accept : Call → Bool
+is_accept (call.Accept g) = true
+is_accept (call.Serve s) = false
+is_accept (call.Turn t) = false
+
+-- how often a connection was waited for
+abbrev pub accepts_in : List Call → ℕ
+accepts_in ds = count_by is_accept ds
 
 -- where calls are told afterwards, they were told before, and this one came last
 abbrev pub Tells : Option (List Call) → Call → Option (List Call) → Type 0

@@ -1,6 +1,6 @@
 ghost use Rattle.std.specs.Prelude.{◌≡◌, Some, true, false, IfOk};
 ghost use Rattle.sidecar_workers.specs.StopPlay.{ended_view};
-ghost use Rattle.sidecar_workers.specs.StopSeat.{root_of, parent_of, child_of, HasMet};
+ghost use Rattle.sidecar_workers.specs.StopSeat.{root_of, parent_of, child_of, looked_as, HasMet};
 
 use crate::Reason;
 use crate::seat::StopSeat;
@@ -49,11 +49,13 @@ impl Stop {
         StopSeat { token }
     }
 
-    /// Whether the word is set, which the seat then shows. Takes no memory.
+    /// Whether the word is set, which the seat then shows; it counts the looks that found it not set. A seat that has found it set
+    /// finds it set from then on. Takes no memory.
     pub fn look(&self, seat: &mut StopSeat) -> bool
         requires { seat.old.table ≡ self.now }
         ensures found { result ≡ seat.new.found }
-        ensures same { seat.new ≡ record seat.old { found = seat.new.found } }
+        ensures same { seat.new ≡ looked_as result seat.old }
+        ensures never_unset { seat.old.found ≡ true → result ≡ true }
     {
         self.words.shared.load::<Look>(&mut seat.token, WORD) != 0
     }
@@ -66,7 +68,7 @@ impl Stop {
         halt::<Brand>(&self.words, &mut seat.token, &reason);
     }
 
-    /// Takes `other` back into the root `seat`. Takes no memory.
+    /// Takes `other` back into the root `seat`, which then looks at the word. Takes no memory.
     pub fn meet(&self, seat: &mut StopSeat, other: StopSeat)
         requires seat { seat.old.table ≡ self.now }
         requires root { seat.old.is_root ≡ true }

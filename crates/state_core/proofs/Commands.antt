@@ -1,5 +1,5 @@
 -- From what is judged and committed to what a command answers.
-use Rattle.std.proofs.Common.{◌≡◌, inl, ◌<◌, ◌∷◌, [], ℕ, Bool, true, false, List, Option, None, map, refl, ap, sym, subst, ◌∙◌, arith, cond}
+use Rattle.std.proofs.Common.{◌≡◌, ◌<◌, ◌∷◌, [], ℕ, Bool, true, List, Option, None, map, refl, ap, sym, subst, ◌∙◌, cond}
 use Rattle.std.specs.List.{All}
 use Rattle.std.proofs.lemmas.List.{get_or-map, length-map}
 use Rattle.keeper_core.specs.declared.changes.Changes.{Changes}
@@ -10,12 +10,11 @@ use Rattle.state_core.specs.declared.command.Op.{Op}
 use Rattle.state_core.specs.declared.command.Op.TheVariants.{Upsert, Remove}
 use Rattle.state_core.specs.declared.command.Cmd.TheVariants.{Save, Delete, Transact}
 use Rattle.state_core.specs.declared.reply.Reply.{Reply}
-use Rattle.state_core.specs.declared.reply.Reply.TheVariants.{Deleted, Mismatch, Committed}
+use Rattle.state_core.specs.declared.reply.Reply.TheVariants.{Deleted, Committed}
 use Rattle.state_core.specs.Judged.{Judged, version_in, passes, write_of, passed, refused, unjudged, unless_refused}
-use Rattle.state_core.specs.Reply.{Held, verdict, outcome, judged}
+use Rattle.state_core.specs.Reply.{Held, verdict, judged}
 use Rattle.state_core.specs.Written.{stores, IsCommitted, IsAnswered}
 use Rattle.state_core.specs.Taken.{IsTtl, HasTtl}
-use Rattle.state_core.proofs.Commits.{held_with-none}
 
 -- every verdict on a save is one that stores
 pub stores_verdict : (items : List Item) (now : ℕ) (places : List ℕ) → stores (verdict (Save items now) places) ≡ true
@@ -59,18 +58,3 @@ module _ (commits : List Changes → Type 0) (h after : Held) (faults faults_aft
       let one = subst (λ b. IsCommitted commits h after faults faults_after moment (cond b w []) Deleted reply) passing made in
       let whole = subst (λ (j : Judged). IsCommitted commits h after faults faults_after moment j.writes (verdict (Delete key etag mode now) j.refused) reply) (sym taken) one in
       record { reply_is = whole.reply_is; held_is = whole.held_is; faults = whole.faults; steady = whole.steady; commits = whole.commits }
-
--- a removal that does not pass
-pub refused_delete : (commits : List Changes → Type 0) → commits [] → (h : Held) (faults moment : ℕ) (key : List ℕ) (etag : Option (List ℕ)) (mode : Mode) (now : ℕ) (here : Bool)
-    → here ≡ passes (Remove key etag mode) (version_in h.rows h.next moment [] key) → here ≡ false
-    → IsAnswered commits h h faults faults moment (Delete key etag mode now) (Mismatch 0)
-refused_delete commits none_made h faults moment key etag mode now here is failing =
-    let w = write_of moment (Remove key etag mode) (version_in h.rows h.next moment [] key) in
-    let taken : judged h moment (Delete key etag mode now) ≡ refused unjudged = ap (λ b. cond b (passed unjudged w) (refused unjudged)) (sym is ∙ failing) in
-    record {
-      reply_is = inl (ap (λ (j : Judged). outcome h moment j.writes (verdict (Delete key etag mode now) j.refused)) (sym taken));
-      held_is = held_with-none h;
-      faults = record { no_fewer = omega arith; steady = λ none. refl };
-      steady = λ other. refl;
-      commits = none_made;
-    }

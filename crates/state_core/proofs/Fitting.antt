@@ -1,5 +1,5 @@
 -- Each reply fits its command.
-use Rattle.std.proofs.Common.{◌≡◌, ◌≢◌, ◌⊎◌, inl, inr, ◌+◌, ◌++◌, ◌≤◌, ◌<◌, ◌∷◌, [], ℕ, Bool, true, false, List, Option, Some, None, nat_lt, length, map, fold, refl, ap, sym, subst, ◌∙◌, arith, cond}
+use Rattle.std.proofs.Common.{◌≡◌, ◌≢◌, inl, inr, ◌+◌, ◌++◌, ◌≤◌, ◌∷◌, [], ℕ, true, false, List, Option, Some, None, nat_lt, length, map, fold, refl, ap, sym, subst, arith, cond}
 use Rattle.std.proofs.lemmas.Bool.{false≢true}
 use Rattle.std.proofs.lemmas.Bool.Decides.{nat_tests}
 use Rattle.std.proofs.lemmas.List.{length-map}
@@ -7,7 +7,7 @@ use Rattle.keeper_core.specs.Rows.{Rows, Row}
 use Rattle.state_core.specs.declared.command.Mode.{Mode}
 use Rattle.state_core.specs.declared.command.Item.{Item}
 use Rattle.state_core.specs.declared.command.Op.{Op}
-use Rattle.state_core.specs.declared.command.Op.TheVariants.{Upsert, Remove}
+use Rattle.state_core.specs.declared.command.Op.TheVariants.{Upsert}
 use Rattle.state_core.specs.declared.command.Cmd.{Cmd}
 use Rattle.state_core.specs.declared.command.Cmd.TheVariants.{Get, Save, Delete, Bulk, Transact}
 use Rattle.state_core.specs.declared.reply.Reply.{Reply}

@@ -1,7 +1,6 @@
 -- Which replies fit which commands.
 use Rattle.std.specs.Prelude.{◌≡◌, ◌≢◌, ◌<◌, ◌≤◌, ℕ, ◌+◌, List, [], ◌∷◌, length, map}
 use Rattle.state_core.specs.declared.command.Item.{Item}
-use Rattle.state_core.specs.declared.command.Op.{Op}
 use Rattle.state_core.specs.declared.command.Cmd.{Cmd}
 use Rattle.state_core.specs.declared.command.Cmd.TheVariants.{Get, Save, Delete, Bulk, Transact}
 use Rattle.state_core.specs.declared.reply.BulkRow.{BulkRow}

@@ -7,9 +7,9 @@ ghost use Rattle.state_core.specs.Taken.{IsTtl, HasTtl};
 ghost use Rattle.state_core.specs.Batch.{HasJudged, IsBatch, HasJudgedAll, HasStopped};
 
 use crate::batch::{Batch, judge_removal, judge_upsert};
-use crate::{Items, Op, Ops};
+use crate::{Items, Mode, Op, Ops};
 use keeper_core::Keeper;
-use side_base::{NoMemory, Places};
+use side_base::{NoMemory, Places, Text};
 use std::alloc::Global;
 
 /// Why operations were not all judged.
@@ -42,6 +42,22 @@ pub(crate) fn judge_items<'a, K: Keeper>(
         }
     }
     Ok((batch, refused))
+}
+
+/// What a removal is to change, and whether it passes.
+pub(crate) fn judge_delete<'a, K: Keeper>(
+    alloc: Global,
+    keeper: &K,
+    key: &'a Text,
+    etag: &Option<Text>,
+    mode: Mode,
+    moment: u64,
+) -> Result<(Batch<'a>, bool), NoMemory>
+    ensures { IfOk result (λ judged. HasJudged (K.rows keeper.now) (K.next keeper.now) moment [] (Op.Remove key.now etag.now mode) judged.1 judged.0) }
+{
+    let mut batch: Batch<'a> = Batch::new(alloc, keeper.next_version());
+    let passes = judge_removal(keeper, &mut batch, key, etag, mode, moment)?;
+    Ok((batch, passes))
 }
 
 /// What the operations of a transaction are to change, or the first that is not current. A place is a `u32`, so that there is no

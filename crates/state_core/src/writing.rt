@@ -7,9 +7,8 @@ ghost use Rattle.state_core.specs.Reply.{held, verdict};
 ghost use Rattle.keeper_core.specs.Commits.{HasMade};
 ghost use Rattle.state_core.specs.Written.{IsAnswered};
 
-use crate::batch::{Batch, judge_removal};
 use crate::commit::commit;
-use crate::judging::{Stop, judge_items, judge_ops};
+use crate::judging::{Stop, judge_delete, judge_items, judge_ops};
 use crate::{Cmd, Item, Items, Mode, Ops, Reply};
 use keeper_core::Keeper;
 use side_base::{Places, Text};
@@ -53,13 +52,12 @@ pub(crate) fn delete<K: Keeper>(
     requires { moment < MOMENT_LIMIT }
     ensures { (now : ℕ) → IsAnswered (HasMade K.Keeper keeper.old keeper.new) (held K.Keeper keeper.old) (held K.Keeper keeper.new) (K.faults keeper.old) (K.faults keeper.new) moment (Cmd.Delete key.now etag.now mode now) result }
 {
-    let mut batch = Batch::new(alloc, keeper.next_version());
-    match judge_removal(keeper, &mut batch, key, etag, mode, moment) {
-        Ok(true) => match commit(alloc, keeper, batch, moment) {
+    match judge_delete(alloc, keeper, key, etag, mode, moment) {
+        Ok((batch, true)) => match commit(alloc, keeper, batch, moment) {
             Ok(()) => Reply::Deleted,
             Err(reply) => reply,
         },
-        Ok(false) => Reply::Mismatch { place: 0 },
+        Ok((_, false)) => Reply::Mismatch { place: 0 },
         Err(_) => Reply::NoMemory,
     }
 }

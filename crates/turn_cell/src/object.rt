@@ -28,6 +28,8 @@ pub trait Object: Drop {
     ghost mark: { Self → ℕ };
 
     /// Makes one step, for every history that the object stands for. The object has made fewer than 2^62.
+    ///
+    /// Each call is an entry of the history and one of the 2^62, whatever the reply is: also one that found no memory.
     fn apply(&mut self, cmd: &Self::Cmd) -> Self::Reply
         requires room { used self.old < 2 ^ 62 }
         requires ready { (first : Self) × (history : List (Entry Self.Cmd Self.Reply)) × stands first history self.old × takes first cmd.now }

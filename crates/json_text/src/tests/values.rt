@@ -1,4 +1,4 @@
-use crate::{Kind, read};
+use crate::{Doc, Kind, Node, read};
 use std::alloc::Global;
 use std::process::Abort;
 use std::test::Fail;
@@ -135,5 +135,44 @@ fn names_that_are_equal_as_texts(rt: HostRuntime) -> Result<(), Fail> {
     assert!(rt; doc.name_is(last, b"b"));
     assert_eq!(rt; doc.kind(last), Kind::Map);
     assert!(rt; doc.next(last).is_none());
+    Ok(())
+}
+
+#[test]
+fn the_last_member_of_each_name(rt: HostRuntime) -> Result<(), Fail> {
+    let alloc = rt.alloc();
+    let doc = read(alloc, b"{\"b\":1,\"a\":[{}],\"\\u0062\":2,\"aa\":3}")?;
+    let mut members = doc.last_members(alloc, doc.root())?;
+    let wanted: [(&[u8], &[u8]); 3] = [(b"a", b"[{}]"), (b"aa", b"3"), (b"b", b"2")];
+    for (name, value) in wanted {
+        let member = members.take_first().ok_or("too few")?;
+        assert_eq!(rt; member.name.bytes(), name);
+        assert_eq!(rt; value_of(&doc, member.node), value);
+    }
+    assert!(rt; members.is_empty());
+    Ok(())
+}
+
+fn value_of<'a>(doc: &Doc<'a>, node: Node) -> &'a [u8] {
+    if doc.is_node(node) {
+        doc.value_bytes(node)
+    } else {
+        b""
+    }
+}
+
+#[test]
+fn levels_and_texts(rt: HostRuntime) -> Result<(), Fail> {
+    let doc = read(rt.alloc(), b" [\"a\\ud83d\\ude00\", {\"x\":[1]}] ")?;
+    assert_eq!(rt; doc.nesting(doc.root()), 3);
+    let inner = doc.first_inside(2).ok_or("none inside two")?;
+    assert_eq!(rt; doc.span(inner), (24, 27));
+    assert!(rt; doc.first_inside(3).is_none());
+    let text = doc.first(doc.root()).ok_or("no text")?;
+    assert_eq!(rt; doc.text_len(text), 5);
+    let mut bytes = doc.text_bytes(text);
+    assert_eq!(rt; bytes.next(), Some(b'a'));
+    assert_eq!(rt; bytes.next(), Some(0xf0));
+    assert_eq!(rt; bytes.copy().next(), Some(0x9f));
     Ok(())
 }

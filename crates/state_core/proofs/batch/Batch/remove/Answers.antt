@@ -12,5 +12,5 @@ returns c = record {
   next_is = search rules;
   versions = λ q.
       btree_map_updates_str c.as_str.result.now c.args.self.now.versions c.insert.new.self _ c.in_ok-insert.ensures.updates q
-      ∙ ap (λ key. cond (bytes_eq key q) (Some None) (version_at c.args.self.now q)) c.as_str.ensures;
+      ∙ ap (λ key. cond (bytes_eq key q) (Some None) (version_at c.args.self.now q)) c.as_str.ensures.value;
 }

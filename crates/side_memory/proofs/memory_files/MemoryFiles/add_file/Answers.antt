@@ -1,0 +1,16 @@
+use Rattle.std.proofs.Common.{◌≡◌, ◌++◌, ◌∷◌, [], ℕ, List, Some, None, ap, subst, ◌∙◌}
+use Rattle.side_world.specs.Files.{Folders}
+use Rattle.side_memory.specs.MemoryFiles.{bytes_at}
+use Rattle.side_memory.specs.declared.memory_files.MemoryFile.{MemoryFile}
+use Rattle.side_memory.proofs.Searched.{there}
+use Rattle.side_memory.proofs.memory_files.MemoryFiles.add_file.Goals as goal
+
+pub returns-clause-there : goal.returns-clause-there
+returns-clause-there c = λ none.
+    let folder = c.args.folder.now in
+    let name = c.args.name in
+    let files = c.add_folder.new.self.files.items in
+    let last : MemoryFile = record { folder = c.in_ok-from_bytes.field-0; name = name; bytes = c.args.bytes } in
+    let still = ap (λ (f : Folders). f folder name) c.in_ok-add_folder.ensures.files ∙ none in
+    let put = subst (λ (z : List ℕ). bytes_at files z name ≡ None → bytes_at (files ++ last ∷ []) z name ≡ Some c.args.bytes) c.in_ok-from_bytes.ensures (there files last) in
+    ap (λ (z : List MemoryFile). bytes_at z folder name) c.in_ok-push.ensures.items ∙ put still
