@@ -332,7 +332,7 @@ fn a_breaker_is_asked_and_told(rt: HostRuntime) -> Result<(), Fail> {
 }
 
 // One call by the breaker's seat: how it ended, and how many attempts it made.
-fn guarded<W: Wait>(
+fn call_guarded<W: Wait>(
     rt: &W,
     cell: &TurnCell<Breaker>,
     seat: &mut Seat<Breaker>,

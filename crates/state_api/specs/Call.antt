@@ -65,12 +65,12 @@ module _ {O : Type 0} (object : Ghosts O Cmd Reply) where
   did_seated cell seat-name cmd-name seat cmd steps cell' seat-name' cmd-name' seat' cmd' of d = subst (λ z. IsSeatOf z seat') (sym d.same_cell) (still_of object cell seat steps seat' d.grew of)
 
 -- a command may be given at any moment, if it may at one
-ops_stay : (cmd : Cmd) (moment : ℕ) → ops_of (at_moment moment cmd) ≡ ops_of cmd
-ops_stay (Get key now) moment = refl
-ops_stay (Save items now) moment = refl
-ops_stay (Delete key etag mode now) moment = refl
-ops_stay (Bulk keys skip now) moment = refl
-ops_stay (Transact ops now) moment = refl
+ops_stay : (cmd : Cmd) (at : ℕ) → ops_of (at_moment at cmd) ≡ ops_of cmd
+ops_stay (Get key now) at = refl
+ops_stay (Save items now) at = refl
+ops_stay (Delete key etag mode now) at = refl
+ops_stay (Bulk keys skip now) at = refl
+ops_stay (Transact ops now) at = refl
 
 pub same_taken : (cmd after : Cmd) → IsSame cmd after → IsTaken cmd → IsTaken after
 same_taken cmd after same taken = subst (λ ops. All HasTtl ops) (sym (ops_stay cmd 0) ∙ sym (ap ops_of (same 0)) ∙ ops_stay after 0) taken

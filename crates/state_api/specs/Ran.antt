@@ -7,8 +7,8 @@ use Rattle.policy_run.specs.declared.outcome.Outcome.{Outcome}
 use Rattle.policy_run.specs.declared.outcome.Outcome.TheVariants as outcome
 use Rattle.state_api.specs.declared.call.StateAnswer.{StateAnswer}
 use Rattle.state_api.specs.declared.call.StateAnswer.TheVariants as answer
-use Rattle.state_api.specs.declared.run.Ran.{Ran}
-use Rattle.state_api.specs.declared.run.Ran.TheVariants.{Replied, Refused}
+use Rattle.state_api.specs.declared.running.Ran.{Ran}
+use Rattle.state_api.specs.declared.running.Ran.TheVariants.{Replied, Refused}
 
 -- an outcome as what the caller is told: the last reply, or the breaker's refusal
 abbrev pub ran_of : Outcome StateAnswer (Unit {0}) → Result Ran ApiErr

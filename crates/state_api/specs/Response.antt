@@ -15,8 +15,8 @@ use Rattle.state_core.specs.declared.reply.Reply.{Reply}
 use Rattle.state_core.specs.declared.reply.Reply.TheVariants.{Value, Absent, Saved, SomeRefused, Deleted, Mismatch, Rows, TooLong, Committed, Failed, Full, Spent, NoMemory}
 use Rattle.policy_run.specs.declared.outcome.Refusal.{Refusal}
 use Rattle.policy_run.specs.declared.outcome.Refusal.TheVariants.{Opened, TooMany}
-use Rattle.state_api.specs.declared.run.Ran.{Ran}
-use Rattle.state_api.specs.declared.run.Ran.TheVariants.{Replied, Refused}
+use Rattle.state_api.specs.declared.running.Ran.{Ran}
+use Rattle.state_api.specs.declared.running.Ran.TheVariants.{Replied, Refused}
 
 -- ---- successes
 

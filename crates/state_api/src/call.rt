@@ -51,7 +51,7 @@ impl<K: Keeper> Operation for StoreCall<'_, K> {
         _limit: u64,
         clock: &mut C,
     ) -> Attempt<StateAnswer, ()> {
-        replies_fit();
+        replies_fit::<K>();
         self.cmd.set_now(clock.now());
         match self.cell.call(rt, self.seat, self.cmd) {
             Ok(reply) => answer_of(reply),

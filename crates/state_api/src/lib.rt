@@ -2,9 +2,9 @@
 #![tactic(auto)]
 
 mod call;
-mod response;
-mod run;
+mod responding;
+mod running;
 
 pub use call::{StateAnswer, StoreCall};
-pub use response::response;
-pub use run::{Ran, run};
+pub use responding::response;
+pub use running::{Ran, run};
