@@ -37,6 +37,8 @@ impl Operation for Script {
 
     ghost did = { λ _ steps _. steps ≡ [] };
 
+    ghost shown = { λ _ _. Unit {0} };
+
     fn attempt<W: Wait, C: Clock>(
         &mut self,
         _rt: &W,

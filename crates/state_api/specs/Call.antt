@@ -1,5 +1,5 @@
 -- One attempt of a state call: one step of the store, at a moment that was read just before.
-use Rattle.std.specs.Prelude.{◌≡◌, ℕ, List, [], ◌∷◌, ◌++◌, refl}
+use Rattle.std.specs.Prelude.{◌≡◌, ℕ, List, [], ◌∷◌, ◌++◌, Option, Some, refl}
 use Rattle.std.proofs.Common.{◌∙◌, subst, sym, ap}
 use Rattle.std.specs.List.{All}
 use Rattle.state_core.specs.declared.command.Cmd.TheVariants.{Get, Save, Delete, Bulk, Transact}
@@ -37,6 +37,11 @@ pub data Makes (cmd : Cmd) (answer : Attempt StateAnswer (Unit {0})) (events : L
 pub alike : (cmd after : Cmd) (answer : Attempt StateAnswer (Unit {0})) (events : List (Event Step)) → IsSame cmd after → Makes after answer events → Makes cmd answer events
 alike cmd after answer events same (stepped now step asked fits answered is) = stepped now step (asked ∙ same now) fits answered is
 alike cmd after answer events same (exhausted now count answered is) = exhausted now count answered is
+
+-- an attempt that found the cell exhausted leaves a seat that shows the count
+abbrev pub Shows : Option ℕ → StateAnswer → Type 0
+Shows shown (Replied reply) = Unit {0}
+Shows shown (Exhausted count) = shown ≡ Some count
 
 -- the operation still has the same seat of the same cell, which made these steps, and the same command
 pub record Did {O : Type 0} (object : Ghosts O Cmd Reply) (cell : Begun O) (seat-name cmd-name : ℕ) (seat : Sitting O Cmd Reply) (cmd : Cmd) (steps : List Step) (cell' : Begun O) (seat-name' cmd-name' : ℕ) (seat' : Sitting O Cmd Reply) (cmd' : Cmd) : Type 0 where

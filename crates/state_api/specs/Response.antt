@@ -1,5 +1,5 @@
 -- The response to what a state call came to.
-use Rattle.std.specs.Prelude.{◌≡◌, ℕ, ◌≤◌, List, [], ◌∷◌, ◌++◌, map, drop, codes, decimal, Option, Some, None, All}
+use Rattle.std.specs.Prelude.{◌≡◌, ℕ, ◌≤◌, Bool, true, false, List, [], ◌∷◌, ◌++◌, map, drop, codes, decimal, Option, Some, None, All}
 use Rattle.std.specs.Str.{IsCharBoundary}
 use Rattle.json_text.specs.Spelling.{string_of}
 use Rattle.side_base.specs.declared.message.Field.{Field}
@@ -39,6 +39,11 @@ abbrev pub joined : List (List ℕ) → List ℕ
 joined [] = []
 joined (text ∷ []) = text
 joined (text ∷ next ∷ others) = text ++ 44 ∷ joined (next ∷ others)
+
+-- one more text of such a list: a comma stands before it, unless it is the first
+abbrev pub next_text : Bool → List ℕ → List ℕ
+next_text true text = text
+next_text false text = 44 ∷ text
 
 abbrev pub found_text : Option Found → List ℕ
 found_text None = []

@@ -31,7 +31,7 @@ impl<K: Keeper> Operation for StoreCall<'_, K> {
     ghost use Rattle.turn_cell.specs.Sitting.{IsSeatOf};
     ghost use Rattle.state_core.specs.History.{Step};
     ghost use Rattle.state_core.specs.Taken.{IsTaken};
-    ghost use Rattle.state_api.specs.Call.{Makes, Did, alike, did_none, did_more, did_seated, same_taken};
+    ghost use Rattle.state_api.specs.Call.{Makes, Did, Shows, alike, did_none, did_more, did_seated, same_taken};
 
     type Good = StateAnswer;
 
@@ -44,6 +44,8 @@ impl<K: Keeper> Operation for StoreCall<'_, K> {
     ghost makes = { λ call limit. Makes call.cmd.now };
 
     ghost did = { λ call steps after. Did ⟦<Store<K> as Object>⟧ call.cell.now call.seat.ghost_name call.cmd.ghost_name call.seat.now call.cmd.now steps after.cell.now after.seat.ghost_name after.cmd.ghost_name after.seat.now after.cmd.now };
+
+    ghost shown = { λ call. Shows call.seat.now.count };
 
     fn attempt<W: Wait, C: Clock>(
         &mut self,

@@ -1,7 +1,7 @@
 ghost use Rattle.std.specs.Prelude.{◌≡◌, ◌++◌, ◌∷◌, [], ℕ, List, map, codes, decimal, IfOk, OnOk, All, Some};
 ghost use Rattle.std.specs.Str.{IsCharBoundary};
 ghost use Rattle.api_error.specs.Body.{error_response, json_type};
-ghost use Rattle.state_api.specs.Response.{AreCut, bulk_text, code_of, done, etag_field, found_text, joined, json, mismatch_text, refusal_text, response_of, response_to, row_text, skip_of};
+ghost use Rattle.state_api.specs.Response.{AreCut, bulk_text, code_of, done, etag_field, found_text, joined, json, mismatch_text, next_text, refusal_text, response_of, response_to, row_text, skip_of};
 
 use crate::Ran;
 use api_error::{Code, error_response, json_fields};
@@ -147,12 +147,21 @@ fn places_response(alloc: Global, code: Code, places: Places) -> Result<Response
     text.push("refused ")?;
     let mut digits = Buffer::new();
     for i in 0..places.len() {
-        if i > 0 {
-            text.push(",")?;
-        }
-        text.push(digits.format(*places.at(i)))?;
+        push_next(&mut text, i == 0, digits.format(*places.at(i)))?;
     }
     error_response(alloc, 409, code, text.as_str())
+}
+
+/// Appends a text to those before it, with a comma between them.
+fn push_next(text: &mut Text, is_first: bool, piece: &str) -> Result<(), NoMemory>
+    ensures { OnOk result (text.new ≡ text.old ++ next_text is_first piece.now) }
+{
+    if is_first {
+        text.push(piece)
+    } else {
+        text.push(",")?;
+        text.push(piece)
+    }
 }
 
 /// The rows of a bulk get.
@@ -163,10 +172,7 @@ fn bulk_response(alloc: Global, skip: usize, rows: Rows) -> Result<Response, NoM
     let mut body = Blob::new(alloc);
     body.push(b"[")?;
     for i in 0..rows.len() {
-        if i > 0 {
-            body.push(b",")?;
-        }
-        push_row(&mut body, skip, rows.at(i))?;
+        push_row(&mut body, i == 0, skip, rows.at(i))?;
     }
     body.push(b"]")?;
     Ok(Response {
@@ -176,12 +182,17 @@ fn bulk_response(alloc: Global, skip: usize, rows: Rows) -> Result<Response, NoM
     })
 }
 
-/// Appends a row of a bulk get.
-fn push_row(body: &mut Blob, skip: usize, row: &BulkRow) -> Result<(), NoMemory>
+/// Appends a row of a bulk get to those before it.
+fn push_row(body: &mut Blob, is_first: bool, skip: usize, row: &BulkRow) -> Result<(), NoMemory>
     requires { IsCharBoundary row.now.key skip }
-    ensures { OnOk result (body.new ≡ body.old ++ row_text skip row.now) }
+    ensures { OnOk result (body.new ≡ body.old ++ next_text is_first (row_text skip row.now)) }
 {
-    body.push(b"{\"key\":")?;
+    let front: &[u8] = if is_first {
+        b"{\"key\":"
+    } else {
+        b",{\"key\":"
+    };
+    body.push(front)?;
     push_string_of(body, &row.key.as_str()[skip..])?;
     if let Some(found) = &row.found {
         push_found(body, found)?;

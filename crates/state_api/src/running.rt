@@ -53,6 +53,7 @@ pub fn run<K: Keeper, G: Guard, C: Clock, R: Rng, W: Wait>(
     ensures ran { (events : List (Event Step)) × (outcome : OutcomeOf AnswerData (Unit {0})) × Attempts bound.now (G.there guard.old) (λ limit. Makes cmd.old) outcome events × (result ≡ ran_of outcome) × Effects events (λ xs. Grew ⟦<Store<K> as Object>⟧ cell.now.first seat.old xs seat.new) (λ xs. G.held guard.old xs guard.new) (clocked C.Clock clock.old) (clocked C.Clock clock.new) (λ ws. Drawn next_u64 (R.stream rng.old) ws (R.stream rng.new)) }
     ensures same { IsSame cmd.old cmd.new }
     ensures there { G.there guard.new ≡ G.there guard.old }
+    ensures shows { (count : ℕ) → result ≡ Err (ApiErr.Exhausted count) → G.shows guard.new count ⊎ (seat.new.count ≡ Some count) }
 {
     let mut call = StoreCall { cell, seat, cmd };
     ran_of(run_call(rt, bound, guard, &mut call, clock, rng))
