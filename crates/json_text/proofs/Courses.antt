@@ -44,7 +44,7 @@ lone_left high bytes i =
     let u6 : unit_of (drop i bytes) 6 ≡ unit_of bytes (i + 6) = unit_left bytes i 6 in
     rw (n0, u0, n6, u6) refl
 
-lone_in_left : (word : Lexeme) (bytes : List ℕ) (i : ℕ) → is_lone_in word (drop i bytes) 0 ≡ is_lone_in word bytes i
+pub lone_in_left : (word : Lexeme) (bytes : List ℕ) (i : ℕ) → is_lone_in word (drop i bytes) 0 ≡ is_lone_in word bytes i
 lone_in_left (plain high) bytes i = lone_left high bytes i
 lone_in_left minus bytes i = refl
 lone_in_left leading_zero bytes i = refl
@@ -60,13 +60,13 @@ lone_in_left escape bytes i = refl
 lone_in_left (digits count unit) bytes i = refl
 lone_in_left closed bytes i = refl
 
-one_on : (bytes : List ℕ) (i byte : ℕ) (s : List ℕ) → byte ∷ s ≡ drop i bytes → s ≡ drop (suc i) bytes
+pub one_on : (bytes : List ℕ) (i byte : ℕ) (s : List ℕ) → byte ∷ s ≡ drop i bytes → s ≡ drop (suc i) bytes
 one_on bytes i byte s e = ap (drop 1) e ∙ drop-drop 1 i bytes ∙ ap (λ n. drop n bytes) (let one : i + 1 ≡ suc i = omega arith in one)
 
-first_left : (bytes : List ℕ) (i byte : ℕ) (s : List ℕ) → byte ∷ s ≡ drop i bytes → byte ≡ get_or bytes i 0
+pub first_left : (bytes : List ℕ) (i byte : ℕ) (s : List ℕ) → byte ∷ s ≡ drop i bytes → byte ≡ get_or bytes i 0
 first_left bytes i byte s e = ap (λ l. get_or l 0 0) e ∙ get_or-drop i bytes 0 0 ∙ ap (λ k. get_or bytes k 0) (let same : i + 0 ≡ i = omega arith in same)
 
-left_inside : (bytes : List ℕ) (i byte : ℕ) (s : List ℕ) → byte ∷ s ≡ drop i bytes → i < length bytes
+pub left_inside : (bytes : List ℕ) (i byte : ℕ) (s : List ℕ) → byte ∷ s ≡ drop i bytes → i < length bytes
 left_inside [] zero byte s e = absurd (omega (arith, ap length e))
 left_inside [] (suc i) byte s e = absurd (omega (arith, ap length e))
 left_inside (x ∷ bytes) zero byte s e = omega arith

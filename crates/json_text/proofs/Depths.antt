@@ -1,7 +1,7 @@
 -- How deep the values of a text are nested, in which nothing is too deep.
-use Rattle.std.proofs.Common.{◌≡◌, ℕ, zero, suc, ◌+◌, ◌≤◌, Bool, true, false, ◌&&◌, cond, eqb, max, List, [], ◌∷◌, ◌++◌, append-nil, length, take, get_or, Option, Some, None, refl, sym, ap, subst, ◌∙◌, arith}
+use Rattle.std.proofs.Common.{◌≡◌, ℕ, zero, suc, ◌+◌, ◌≤◌, Bool, true, false, ◌&&◌, cond, eqb, max, List, [], ◌∷◌, ◌++◌, append-nil, length, take, drop, get_or, Option, Some, None, refl, sym, ap, subst, ◌∙◌, arith}
 use Rattle.std.specs.Prelude.{MatchOption}
-use Rattle.std.proofs.lemmas.List.{take_all}
+use Rattle.std.proofs.lemmas.List.{take_all, take-append-drop}
 use Rattle.json_text.specs.declared.kind.Kind.{Kind}
 use Rattle.json_text.specs.declared.kind.Kind.TheVariants as kinds
 use Rattle.json_text.specs.declared.spot.Span.{Span}
@@ -16,7 +16,7 @@ use Rattle.json_text.specs.declared.part.Part.{Part}
 use Rattle.json_text.specs.declared.part.Part.TheVariants.{Named as named, Rest as rest}
 use Rattle.json_text.specs.Grammar.{bracket_kind, is_blank, opens, closes, turns, takes_value, takes_name, Completes, finish, IsText}
 use Rattle.json_text.specs.Progress.{Frame, Doing, part, value, naming, State, refused, reading, level_of, spot, closed_in, close_step, word_step, value_step, other_step, turn_step, part_step, value_end, name_end, value_goes, name_goes, step, after_from, after, first_state}
-use Rattle.json_text.specs.Faults.{open_count, IsClean}
+use Rattle.json_text.specs.Faults.{open_count, IsLoneAt, IsBad, dead, short, lone, IsClean}
 use Rattle.json_text.specs.Shape.{is_holder, levels, nesting}
 use Rattle.json_text.proofs.Residue.{FromPart, FromState, Then, append-empty}
 use Rattle.json_text.proofs.Fronts.{text_state, after_forth}
@@ -198,3 +198,30 @@ low_text bytes values text clean =
     let state = after_forth bytes [] first_state 0 values whole in
     let low = subst (λ b. Low (after b)) (take_all (length bytes) bytes (omega arith)) (low_after bytes clean (length bytes) (omega arith)) in
     last (after bytes) (0 + length bytes) values low state
+
+-- ---- a text in which no surrogate stands alone
+
+-- what is open stands round all that is to come
+then_deep : (frames : List Frame) (values : Forest) (j : ℕ) (t : List ℕ) (whole : Forest) → Then frames values j t whole → length frames + nesting values ≤ nesting whole
+then_deep [] values j t whole h = omega (arith, ap nesting h.1)
+then_deep (frame ∷ outer) values j t whole h =
+    omega (arith, then_deep outer (append (closed_in frame values j) h.2) h.0 h.1 whole h.4, nesting_append (closed_in frame values j) h.2, closed_nesting frame values j)
+
+open_deep : (state : State) (i : ℕ) (r : List ℕ) (whole : Forest) → FromState state i r whole → open_count state ≤ nesting whole
+open_deep refused i r whole h = absurd h
+open_deep (reading values frames (part here)) i r whole h = omega (arith, then_deep frames (append values h.2) h.0 h.1 whole h.4)
+open_deep (reading values frames (value q from name)) i r whole h = omega (arith, then_deep frames (append (append values (one (spot h.2 from h.0 name) empty)) h.4.2) h.4.0 h.4.1 whole h.4.4)
+open_deep (reading values frames (naming q from)) i r whole h = omega (arith, then_deep frames (append values h.3.2) h.3.0 h.3.1 whole h.3.4)
+
+text_deep : (bytes : List ℕ) (values : Forest) (k : ℕ) → IsText bytes values → open_count (after (take k bytes)) ≤ nesting values
+text_deep bytes values k text =
+    let whole : FromState first_state 0 (take k bytes ++ drop k bytes) values = subst (λ b. FromState first_state 0 b values) (sym (take-append-drop k bytes)) (text_state bytes values text) in
+    open_deep (after (take k bytes)) (0 + length (take k bytes)) (drop k bytes) values (after_forth (take k bytes) (drop k bytes) first_state 0 values whole)
+
+pub nothing_wrong : (bytes : List ℕ) (values : Forest) → IsText bytes values → nesting values ≤ 64 → ((at : ℕ) → at ≤ length bytes → ¬ IsLoneAt bytes at) → IsClean bytes (length bytes + 1)
+nothing_wrong bytes values text low paired k lt = (good, λ d. omega (arith, d.1, text_deep bytes values (suc k) text, low))
+  where
+    good : ¬ IsBad bytes k
+    good (dead inside none) = none (drop (suc k) bytes, values, subst (λ b. IsText b values) (sym (take-append-drop (suc k) bytes)) text)
+    good (short e none) = none values text
+    good (lone l) = paired k (omega (arith, lt)) l

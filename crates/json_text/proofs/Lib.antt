@@ -37,3 +37,5 @@ pub mod TextLengths
 pub mod LastNames
 pub mod Moves
 pub mod Composing
+pub mod Clear
+pub mod StringTails

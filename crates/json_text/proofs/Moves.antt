@@ -4,17 +4,21 @@ use Rattle.std.proofs.lemmas.List.{take-append-le, take_all, drop-drop}
 use Rattle.json_text.specs.declared.kind.Kind.{Kind}
 use Rattle.json_text.specs.declared.kind.Kind.TheVariants as kinds
 use Rattle.json_text.specs.declared.spot.Span.{Span}
+use Rattle.json_text.specs.declared.spot.Spot.{Spot}
+use Rattle.json_text.specs.Shape.{value_bytes, is_holder, levels, nesting}
 use Rattle.json_text.specs.declared.part.Bracket.{Bracket}
 use Rattle.json_text.specs.declared.part.Bracket.TheVariants.{List as list, Map as map}
 use Rattle.json_text.specs.declared.part.Part.{Part}
 use Rattle.json_text.specs.declared.part.Part.TheVariants.{Start as start, Next as next_part, Named as named, Member as member, Rest as rest}
 use Rattle.json_text.specs.declared.lexeme.Lexeme.{Lexeme}
 use Rattle.json_text.specs.declared.lexeme.Lexeme.TheVariants.{Plain as plain}
-use Rattle.json_text.specs.Lexeme.{begins, Spells}
-use Rattle.json_text.specs.Forest.{Forest, empty, one}
-use Rattle.json_text.specs.Grammar.{bracket_kind, opens, closes, turns, takes_value, takes_name, Completes, blank, word, nested, member_name, turn, close, finish, IsText}
-use Rattle.json_text.specs.Moved.{moved_span, moved_name, moved, back, IsTextAlone}
-use Rattle.json_text.proofs.Accepted.{accepted, spelled_out}
+use Rattle.json_text.specs.Lexeme.{begins, ends}
+use Rattle.json_text.specs.Forest.{Forest, empty, grows, one}
+use Rattle.json_text.specs.Grammar.{bracket_kind, opens, closes, turns, takes_value, takes_name}
+use Rattle.json_text.specs.Moved.{moved_span, moved_name, moved, back, alone}
+use Rattle.json_text.proofs.Courses.{Course}
+use Rattle.json_text.proofs.StringTails.{whole_word}
+use Rattle.json_text.proofs.Clear.{Clear, c_blank, c_word, c_nested, c_name, c_turn, c_close, c_finish}
 use Rattle.json_text.proofs.ValueFacts.{EachValue}
 use Rattle.json_text.proofs.Readable.{drop_tail}
 use Rattle.json_text.proofs.Tables.{some_none}
@@ -121,7 +125,7 @@ pub record Cut (to : ℕ → ℕ) (level : Option Bracket) (here : Part) (i j : 
   pub bytes : List ℕ
   pub are : s ≡ bytes ++ t
   pub far : j ≡ i + length bytes
-  pub again : (more : List ℕ) → Completes level (moved_part to here) (to i) (bytes ++ more) (to j) more (moved to values)
+  pub again : (more : List ℕ) → Clear level (moved_part to here) (to i) (bytes ++ more) (to j) more (moved to values)
 
 moved_end : (to : ℕ → ℕ) (i k n : ℕ) → Steady to i → k ≡ suc i + n → to k ≡ suc (to i) + n
 moved_end to i k n steady e = ap to e ∙ steady_add to (suc i) n (steady_from to i (suc i) steady (omega arith)) ∙ ap (λ p. p + n) (steady i (omega arith))
@@ -129,54 +133,56 @@ moved_end to i k n steady e = ap to e ∙ steady_add to (suc i) n (steady_from t
 joined : (s w u h t : List ℕ) → s ≡ w ++ u → u ≡ h ++ t → s ≡ (w ++ h) ++ t
 joined s w u h t a b = a ∙ ap (λ l. w ++ l) b ∙ sym (append_assoc w h t)
 
-pub cut : (to : ℕ → ℕ) (level : Option Bracket) (here : Part) (i j : ℕ) (s t : List ℕ) (values : Forest) (bracket : Bracket) → Completes level here i s j t values → level ≡ Some bracket → Steady to i → Cut to level here i j s t values
-cut to level here i j (byte ∷ s) t values bracket (blank b c) inner steady =
+pub cut : (to : ℕ → ℕ) (level : Option Bracket) (here : Part) (i j : ℕ) (s t : List ℕ) (values : Forest) (bracket : Bracket) → Clear level here i s j t values → level ≡ Some bracket → Steady to i → Cut to level here i j s t values
+cut to level here i j (byte ∷ s) t values bracket (c_blank b c) inner steady =
     let h = cut to level here (suc i) j s t values bracket c inner (steady_from to i (suc i) steady (omega arith)) in
     record {
       bytes = byte ∷ h.bytes;
       are = ap (λ l. byte ∷ l) h.are;
       far = omega (arith, h.far);
-      again = λ more. blank b (subst (λ p. Completes level (moved_part to here) p (h.bytes ++ more) (to j) more (moved to values)) (steady i (omega arith)) (h.again more));
+      again = λ more. c_blank b (subst (λ p. Clear level (moved_part to here) p (h.bytes ++ more) (to j) more (moved to values)) (steady i (omega arith)) (h.again more));
     }
-cut to level here i j (byte ∷ s) t values bracket (turn {after = there} q c) inner steady =
+cut to level here i j (byte ∷ s) t values bracket (c_turn {there = there} q c) inner steady =
     let h = cut to level there (suc i) j s t values bracket c inner (steady_from to i (suc i) steady (omega arith)) in
     record {
       bytes = byte ∷ h.bytes;
       are = ap (λ l. byte ∷ l) h.are;
       far = omega (arith, h.far);
-      again = λ more. turn (turns_moved to level here byte ∙ ap (part_if to) q) (subst (λ p. Completes level (moved_part to there) p (h.bytes ++ more) (to j) more (moved to values)) (steady i (omega arith)) (h.again more));
+      again = λ more. c_turn (turns_moved to level here byte ∙ ap (part_if to) q) (subst (λ p. Clear level (moved_part to there) p (h.bytes ++ more) (to j) more (moved to values)) (steady i (omega arith)) (h.again more));
     }
-cut to level here i j (byte ∷ s) t values bracket (close c) inner steady = record {
+cut to level here i j (byte ∷ s) t values bracket (c_close c) inner steady = record {
   bytes = byte ∷ [];
   are = refl;
   far = omega arith;
-  again = λ more. subst (λ p. Completes level (moved_part to here) (to i) (byte ∷ more) p more empty) (sym (steady i (omega arith))) (close (closes_moved to level here byte ∙ c));
+  again = λ more. subst (λ p. Clear level (moved_part to here) (to i) (byte ∷ more) p more empty) (sym (steady i (omega arith))) (c_close (closes_moved to level here byte ∙ c));
 }
-cut to level here i j (byte ∷ s) t values bracket (member_name {j = k} {t = u} takes e spells c) inner steady =
-    let w = accepted (plain false) (suc i) s k u kinds.Text spells in
-    let on : i ≤ k = omega (arith, w.2) in
+cut to level here i j (byte ∷ s) t values bracket (c_name {last = last} {j = k} {t = u} takes e course over far c) inner steady =
+    let w = whole_word (plain false) last s u kinds.Text course over in
+    let ahead_is : k ≡ suc i + length w.bytes = omega (arith, far, ap length w.are, length-append w.bytes u) in
+    let on : i ≤ k = omega (arith, ahead_is) in
     let h = cut to level (named (record { start = i; end = k })) k j u t values bracket c inner (steady_from to i k steady on) in
-    let there : to k ≡ suc (to i) + length w.0 = moved_end to i k (length w.0) steady w.2 in
+    let there : to k ≡ suc (to i) + length w.bytes = moved_end to i k (length w.bytes) steady ahead_is in
     record {
-      bytes = byte ∷ (w.0 ++ h.bytes);
-      are = ap (λ l. byte ∷ l) (joined s w.0 u h.bytes t w.1 h.are);
-      far = omega (arith, w.2, h.far, length-append w.0 h.bytes);
-      again = λ more. subst (λ l. Completes level (moved_part to here) (to i) (byte ∷ l) (to j) more (moved to values)) (sym (append_assoc w.0 h.bytes more))
-          (member_name (names_moved to level here ∙ takes) e (spelled_out (plain false) (suc (to i)) w.0 (h.bytes ++ more) (to k) kinds.Text w.3 there) (h.again more));
+      bytes = byte ∷ (w.bytes ++ h.bytes);
+      are = ap (λ l. byte ∷ l) (joined s w.bytes u h.bytes t w.are h.are);
+      far = omega (arith, ahead_is, h.far, length-append w.bytes h.bytes);
+      again = λ more. subst (λ l. Clear level (moved_part to here) (to i) (byte ∷ l) (to j) more (moved to values)) (sym (append_assoc w.bytes h.bytes more))
+          (c_name (names_moved to level here ∙ takes) e (w.again (h.bytes ++ more)) over (omega (arith, there, length-append w.bytes (h.bytes ++ more))) (h.again more));
     }
-cut to level here i j (byte ∷ s) t values bracket (word {name = name} {kind = kind} {first = first} {j = k} {t = u} {values = others} takes b spells c) inner steady =
-    let w = accepted first (suc i) s k u kind spells in
-    let on : i ≤ k = omega (arith, w.2) in
+cut to level here i j (byte ∷ s) t values bracket (c_word {name = name} {kind = kind} {first = first} {last = last} {j = k} {t = u} {values = others} takes b course over far c) inner steady =
+    let w = whole_word first last s u kind course over in
+    let ahead_is : k ≡ suc i + length w.bytes = omega (arith, far, ap length w.are, length-append w.bytes u) in
+    let on : i ≤ k = omega (arith, ahead_is) in
     let h = cut to level rest k j u t others bracket c inner (steady_from to i k steady on) in
-    let there : to k ≡ suc (to i) + length w.0 = moved_end to i k (length w.0) steady w.2 in
+    let there : to k ≡ suc (to i) + length w.bytes = moved_end to i k (length w.bytes) steady ahead_is in
     record {
-      bytes = byte ∷ (w.0 ++ h.bytes);
-      are = ap (λ l. byte ∷ l) (joined s w.0 u h.bytes t w.1 h.are);
-      far = omega (arith, w.2, h.far, length-append w.0 h.bytes);
-      again = λ more. subst (λ l. Completes level (moved_part to here) (to i) (byte ∷ l) (to j) more (moved to values)) (sym (append_assoc w.0 h.bytes more))
-          (word (values_moved to level here ∙ ap (takes_if to) takes) b (spelled_out first (suc (to i)) w.0 (h.bytes ++ more) (to k) kind w.3 there) (h.again more));
+      bytes = byte ∷ (w.bytes ++ h.bytes);
+      are = ap (λ l. byte ∷ l) (joined s w.bytes u h.bytes t w.are h.are);
+      far = omega (arith, ahead_is, h.far, length-append w.bytes h.bytes);
+      again = λ more. subst (λ l. Clear level (moved_part to here) (to i) (byte ∷ l) (to j) more (moved to values)) (sym (append_assoc w.bytes h.bytes more))
+          (c_word (values_moved to level here ∙ ap (takes_if to) takes) b (w.again (h.bytes ++ more)) over (omega (arith, there, length-append w.bytes (h.bytes ++ more))) (h.again more));
     }
-cut to level here i j (byte ∷ s) t values bracket (nested {name = name} {bracket = own} {j = k} {t = u} {children = children} {values = others} takes o held c) inner steady =
+cut to level here i j (byte ∷ s) t values bracket (c_nested {name = name} {bracket = own} {j = k} {t = u} {children = children} {values = others} takes o held c) inner steady =
     let w = cut to (Some own) start (suc i) k s u children own held refl (steady_from to i (suc i) steady (omega arith)) in
     let on : i ≤ k = omega (arith, w.far) in
     let h = cut to level rest k j u t others bracket c inner (steady_from to i k steady on) in
@@ -184,10 +190,10 @@ cut to level here i j (byte ∷ s) t values bracket (nested {name = name} {brack
       bytes = byte ∷ (w.bytes ++ h.bytes);
       are = ap (λ l. byte ∷ l) (joined s w.bytes u h.bytes t w.are h.are);
       far = omega (arith, w.far, h.far, length-append w.bytes h.bytes);
-      again = λ more. subst (λ l. Completes level (moved_part to here) (to i) (byte ∷ l) (to j) more (moved to values)) (sym (append_assoc w.bytes h.bytes more))
-          (nested (values_moved to level here ∙ ap (takes_if to) takes) o (subst (λ p. Completes (Some own) start p (w.bytes ++ (h.bytes ++ more)) (to k) (h.bytes ++ more) (moved to children)) (steady i (omega arith)) (w.again (h.bytes ++ more))) (h.again more));
+      again = λ more. subst (λ l. Clear level (moved_part to here) (to i) (byte ∷ l) (to j) more (moved to values)) (sym (append_assoc w.bytes h.bytes more))
+          (c_nested (values_moved to level here ∙ ap (takes_if to) takes) o (subst (λ p. Clear (Some own) start p (w.bytes ++ (h.bytes ++ more)) (to k) (h.bytes ++ more) (moved to children)) (steady i (omega arith)) (w.again (h.bytes ++ more))) (h.again more));
     }
-cut to level here i j s t values bracket (finish e) inner steady = some_none bracket _ (sym inner ∙ e)
+cut to level here i j s t values bracket (c_finish e) inner steady = some_none bracket _ (sym inner ∙ e)
 
 -- ---- a value by itself
 
@@ -200,19 +206,26 @@ pub takes_first : takes_value None start ≡ Some None
 unfolding takes_value
 takes_first = refl
 
-word_alone : (byte : ℕ) (w : List ℕ) (kind : Kind) (first : Lexeme) → begins byte ≡ Some first → Spells first 1 w (suc (length w)) [] kind → IsText (byte ∷ w) (one (record { kind = kind; span = record { start = 0; end = suc (length w) }; name = None }) empty)
-word_alone byte w kind first b spells = word takes_first b spells (finish refl)
+-- a text by itself in which no surrogate stands alone
+abbrev pub IsClearText : List ℕ → Forest → Type 0
+IsClearText bytes values = Clear None start 0 bytes (length bytes) [] values
 
-nested_alone : (byte : ℕ) (w : List ℕ) (bracket : Bracket) (children : Forest) → opens byte ≡ Some bracket → Completes (Some bracket) start 1 w (suc (length w)) [] children → IsText (byte ∷ w) (one (record { kind = bracket_kind bracket; span = record { start = 0; end = suc (length w) }; name = None }) children)
-nested_alone byte w bracket children o held = nested takes_first o held (finish refl)
+abbrev pub IsClearAlone : List ℕ → Spot → Forest → Type 0
+IsClearAlone bytes spot children = IsClearText (value_bytes bytes spot) (alone spot children)
+
+word_alone : (byte : ℕ) (w : List ℕ) (kind : Kind) (first last : Lexeme) → begins byte ≡ Some first → Course first w [] last → ends last ≡ Some kind → IsClearText (byte ∷ w) (one (record { kind = kind; span = record { start = 0; end = suc (length w) }; name = None }) empty)
+word_alone byte w kind first last b course over = c_word takes_first b course over (omega arith) (c_finish refl)
+
+nested_alone : (byte : ℕ) (w : List ℕ) (bracket : Bracket) (children : Forest) → opens byte ≡ Some bracket → Clear (Some bracket) start 1 w (suc (length w)) [] children → IsClearText (byte ∷ w) (one (record { kind = bracket_kind bracket; span = record { start = 0; end = suc (length w) }; name = None }) children)
+nested_alone byte w bracket children o held = c_nested takes_first o held (c_finish refl)
 
 -- where its bytes and its places are
-placed_alone : (bytes all : List ℕ) (i k n : ℕ) (kind : Kind) (name : Option Span) (children : Forest) → take (k - i) (drop i bytes) ≡ all → k - i ≡ n → IsText all (one (record { kind = kind; span = record { start = 0; end = n }; name = None }) (moved (back i) children)) → IsTextAlone bytes (record { kind = kind; span = record { start = i; end = k }; name = name }) children
+placed_alone : (bytes all : List ℕ) (i k n : ℕ) (kind : Kind) (name : Option Span) (children : Forest) → take (k - i) (drop i bytes) ≡ all → k - i ≡ n → IsClearText all (one (record { kind = kind; span = record { start = 0; end = n }; name = None }) (moved (back i) children)) → IsClearAlone bytes (record { kind = kind; span = record { start = i; end = k }; name = name }) children
 placed_alone bytes all i k n kind name children e far h =
     let first : 0 ≡ i - i = omega arith in
-    subst (λ b. IsText b (one (record { kind = kind; span = record { start = i - i; end = k - i }; name = None }) (moved (back i) children))) (sym e)
-    (subst (λ m. IsText all (one (record { kind = kind; span = record { start = i - i; end = m }; name = None }) (moved (back i) children))) (sym far)
-    (subst (λ m. IsText all (one (record { kind = kind; span = record { start = m; end = n }; name = None }) (moved (back i) children))) first h))
+    subst (λ b. IsClearText b (one (record { kind = kind; span = record { start = i - i; end = k - i }; name = None }) (moved (back i) children))) (sym e)
+    (subst (λ m. IsClearText all (one (record { kind = kind; span = record { start = i - i; end = m }; name = None }) (moved (back i) children))) (sym far)
+    (subst (λ m. IsClearText all (one (record { kind = kind; span = record { start = m; end = n }; name = None }) (moved (back i) children))) first h))
 
 steady_back : (i : ℕ) → Steady (back i) (suc i)
 steady_back i p le = omega (arith, le)
@@ -226,34 +239,46 @@ rest_of bytes i k byte s w u here split far =
     drop_front (x ∷ w) u = drop_front w u
 
 -- each value of a row is a text by itself
-each_alone : (bytes : List ℕ) (level : Option Bracket) (here : Part) (i j : ℕ) (s t : List ℕ) (values : Forest) → Completes level here i s j t values → s ≡ drop i bytes → EachValue (IsTextAlone bytes) values
-each_alone bytes level here i j (byte ∷ s) t values (blank b c) e = each_alone bytes level here (suc i) j s t values c (drop_tail bytes i byte s e)
-each_alone bytes level here i j (byte ∷ s) t values (turn {after = there} q c) e = each_alone bytes level there (suc i) j s t values c (drop_tail bytes i byte s e)
-each_alone bytes level here i j (byte ∷ s) t values (close c) e = tt
-each_alone bytes level here i j s t values (finish l) e = tt
-each_alone bytes level here i j (byte ∷ s) t values (member_name {j = k} {t = u} takes q spells c) e =
-    let w = accepted (plain false) (suc i) s k u kinds.Text spells in
-    each_alone bytes level (named (record { start = i; end = k })) k j u t values c (rest_of bytes i k byte s w.0 u e w.1 w.2)
-each_alone bytes level here i j (byte ∷ s) t values (word {name = name} {kind = kind} {first = first} {j = k} {t = u} {values = others} takes b spells c) e =
-    let w = accepted first (suc i) s k u kind spells in
-    let n : k - i ≡ suc (length w.0) = omega (arith, w.2) in
-    let inside : Spells first 1 w.0 (suc (length w.0)) [] kind = subst (λ l. Spells first 1 l (suc (length w.0)) [] kind) (append-nil w.0) (spelled_out first 1 w.0 [] (suc (length w.0)) kind w.3 (omega arith)) in (
-      placed_alone bytes (byte ∷ w.0) i k (suc (length w.0)) kind name empty (taken bytes i k byte s w.0 u e w.1 w.2) n (word_alone byte w.0 kind first b inside),
+each_alone : (bytes : List ℕ) (level : Option Bracket) (here : Part) (i j : ℕ) (s t : List ℕ) (values : Forest) → Clear level here i s j t values → s ≡ drop i bytes → EachValue (IsClearAlone bytes) values
+each_alone bytes level here i j (byte ∷ s) t values (c_blank b c) e = each_alone bytes level here (suc i) j s t values c (drop_tail bytes i byte s e)
+each_alone bytes level here i j (byte ∷ s) t values (c_turn {there = there} q c) e = each_alone bytes level there (suc i) j s t values c (drop_tail bytes i byte s e)
+each_alone bytes level here i j (byte ∷ s) t values (c_close c) e = tt
+each_alone bytes level here i j s t values (c_finish l) e = tt
+each_alone bytes level here i j (byte ∷ s) t values (c_name {last = last} {j = k} {t = u} takes q course over far c) e =
+    let w = whole_word (plain false) last s u kinds.Text course over in
+    let ahead_is : k ≡ suc i + length w.bytes = omega (arith, far, ap length w.are, length-append w.bytes u) in
+    each_alone bytes level (named (record { start = i; end = k })) k j u t values c (rest_of bytes i k byte s w.bytes u e w.are ahead_is)
+each_alone bytes level here i j (byte ∷ s) t values (c_word {name = name} {kind = kind} {first = first} {last = last} {j = k} {t = u} {values = others} takes b course over far c) e =
+    let w = whole_word first last s u kind course over in
+    let ahead_is : k ≡ suc i + length w.bytes = omega (arith, far, ap length w.are, length-append w.bytes u) in
+    let n : k - i ≡ suc (length w.bytes) = omega (arith, ahead_is) in
+    let inside : Course first w.bytes [] last = subst (λ l. Course first l [] last) (append-nil w.bytes) (w.again []) in (
+      placed_alone bytes (byte ∷ w.bytes) i k (suc (length w.bytes)) kind name empty (taken bytes i k byte s w.bytes u e w.are ahead_is) n (word_alone byte w.bytes kind first last b inside over),
       tt,
-      each_alone bytes level rest k j u t others c (rest_of bytes i k byte s w.0 u e w.1 w.2),
+      each_alone bytes level rest k j u t others c (rest_of bytes i k byte s w.bytes u e w.are ahead_is),
     )
-each_alone bytes level here i j (byte ∷ s) t values (nested {name = name} {bracket = own} {j = k} {t = u} {children = children} {values = others} takes o held c) e =
+each_alone bytes level here i j (byte ∷ s) t values (c_nested {name = name} {bracket = own} {j = k} {t = u} {children = children} {values = others} takes o held c) e =
     let w = cut (back i) (Some own) start (suc i) k s u children own held refl (steady_back i) in
     let n : k - i ≡ suc (length w.bytes) = omega (arith, w.far) in
     let at : suc i - i ≡ 1 = omega arith in
-    let inside : Completes (Some own) start 1 w.bytes (suc (length w.bytes)) [] (moved (back i) children) =
-    subst (λ l. Completes (Some own) start 1 l (suc (length w.bytes)) [] (moved (back i) children)) (append-nil w.bytes)
-    (subst (λ m. Completes (Some own) start 1 (w.bytes ++ []) m [] (moved (back i) children)) n
-    (subst (λ m. Completes (Some own) start m (w.bytes ++ []) (k - i) [] (moved (back i) children)) at (w.again []))) in (
+    let inside : Clear (Some own) start 1 w.bytes (suc (length w.bytes)) [] (moved (back i) children) =
+    subst (λ l. Clear (Some own) start 1 l (suc (length w.bytes)) [] (moved (back i) children)) (append-nil w.bytes)
+    (subst (λ m. Clear (Some own) start 1 (w.bytes ++ []) m [] (moved (back i) children)) n
+    (subst (λ m. Clear (Some own) start m (w.bytes ++ []) (k - i) [] (moved (back i) children)) at (w.again []))) in (
       placed_alone bytes (byte ∷ w.bytes) i k (suc (length w.bytes)) (bracket_kind own) name children (taken bytes i k byte s w.bytes u e w.are w.far) n (nested_alone byte w.bytes own (moved (back i) children) o inside),
       each_alone bytes (Some own) start (suc i) k s u children held (drop_tail bytes i byte s e),
       each_alone bytes level rest k j u t others c (rest_of bytes i k byte s w.bytes u e w.are w.far),
     )
 
-pub all_alone : (bytes : List ℕ) (values : Forest) → IsText bytes values → EachValue (IsTextAlone bytes) values
+pub all_alone : (bytes : List ℕ) (values : Forest) → IsClearText bytes values → EachValue (IsClearAlone bytes) values
 all_alone bytes values h = each_alone bytes None start 0 (length bytes) bytes [] values h refl
+
+pub nesting_moved : (to : ℕ → ℕ) (values : Forest) → nesting (moved to values) ≡ nesting values
+unfolding nesting
+nesting_moved to empty = refl
+nesting_moved to (grows s c l) = omega (arith, ap (levels (is_holder s.kind)) (nesting_moved to c), nesting_moved to l)
+
+-- a value by itself is nested as it was
+pub alone_low : (spot : Spot) (children : Forest) → levels (is_holder spot.kind) (nesting children) ≤ 64 → nesting (alone spot children) ≤ 64
+unfolding nesting
+alone_low spot children low = omega (arith, low, ap (levels (is_holder spot.kind)) (nesting_moved (back spot.span.start) children))

@@ -132,7 +132,7 @@ spells_rest : (bytes : List ℕ) (q : Lexeme) (i : ℕ) (s : List ℕ) (j : ℕ)
 spells_rest bytes q i s j t kind (done e) h = h
 spells_rest bytes q i (byte ∷ s) j t kind (more {after = after} e sp) h = spells_rest bytes after (suc i) s j t kind sp (drop_tail bytes i byte s h)
 
-completes_rest : (bytes : List ℕ) (level : Option Bracket) (here : Part) (i : ℕ) (s : List ℕ) (j : ℕ) (t : List ℕ) (values : Forest) → Completes level here i s j t values → s ≡ drop i bytes → t ≡ drop j bytes
+pub completes_rest : (bytes : List ℕ) (level : Option Bracket) (here : Part) (i : ℕ) (s : List ℕ) (j : ℕ) (t : List ℕ) (values : Forest) → Completes level here i s j t values → s ≡ drop i bytes → t ≡ drop j bytes
 completes_rest bytes level here i (byte ∷ s) j t values (blank b c) h = completes_rest bytes level here (suc i) s j t values c (drop_tail bytes i byte s h)
 completes_rest bytes level here i (byte ∷ s) j t values (turn {after = after} q c) h = completes_rest bytes level after (suc i) s j t values c (drop_tail bytes i byte s h)
 completes_rest bytes level here i (byte ∷ s) j t values (close c) h = drop_tail bytes i byte s h

@@ -23,7 +23,7 @@ use Rattle.json_text.proofs.Fronts.{no_text, text_forth, text_back, no_more, not
 use Rattle.json_text.proofs.Runs.{passes_high}
 use Rattle.json_text.proofs.Standing.{after_more, reading_not_refused, clean_more, good_here, not_deep, not_lone_here}
 
-lone_is_plain : (word : Lexeme) (bytes : List ℕ) (j : ℕ) → is_lone_in word bytes j ≡ true → (high : Bool) × (word ≡ plain high) × (is_lone high bytes j ≡ true)
+pub lone_is_plain : (word : Lexeme) (bytes : List ℕ) (j : ℕ) → is_lone_in word bytes j ≡ true → (high : Bool) × (word ≡ plain high) × (is_lone high bytes j ≡ true)
 lone_is_plain (plain high) bytes j e = (high, refl, e)
 lone_is_plain minus bytes j e = false_true _ e
 lone_is_plain leading_zero bytes j e = false_true _ e

@@ -134,7 +134,7 @@ byte_text b s = elim (eqb_tells b 34) [
   ]
 ]
 
-spelled_text : (text : List ℕ) → unescaped (spelled text) ≡ text
+pub spelled_text : (text : List ℕ) → unescaped (spelled text) ≡ text
 spelled_text [] = unescaped_nil (between 0)
 spelled_text (b ∷ text) = byte_text b (spelled text) ∙ ap (λ l. b ∷ l) (spelled_text text)
 

@@ -1,11 +1,14 @@
 -- A map written of names and of values that are texts by themselves.
-use Rattle.std.specs.Prelude.{ℕ, ◌+◌, List, [], ◌∷◌, ◌++◌, length, Some, None}
+use Rattle.std.specs.Prelude.{◌≡◌, ⊤, ℕ, ◌+◌, ◌≤◌, List, [], ◌∷◌, ◌++◌, length, Some, None}
 use Rattle.std.specs.Str.{IsUtf8}
 use Rattle.json_text.specs.declared.kind.Kind.{Kind}
 use Rattle.json_text.specs.declared.kind.Kind.TheVariants as kinds
 use Rattle.json_text.specs.declared.spot.Spot.{Spot}
 use Rattle.json_text.specs.Forest.{Forest, empty, grows, one}
 use Rattle.json_text.specs.Grammar.{IsText}
+use Rattle.json_text.specs.Faults.{IsClean}
+use Rattle.json_text.specs.Shape.{is_holder, levels, nesting, value_bytes}
+use Rattle.json_text.specs.Unescape.{name_shown}
 use Rattle.json_text.specs.Spelling.{string_of}
 use Rattle.json_text.specs.Moved.{moved}
 
@@ -16,10 +19,15 @@ pub record Written : Type 0 where
   pub kind : Kind
   pub children : Forest
 
--- the name is UTF-8, and the bytes are a text without white space round it
+-- the name is UTF-8, and the bytes are a text without white space round it, in which nothing is wrong
 pub record IsWritten (member : Written) : Type 0 where
   pub utf8 : IsUtf8 member.name
   pub text : IsText member.bytes (one (record { kind = member.kind; span = record { start = 0; end = length member.bytes }; name = None }) member.children)
+  pub clean : IsClean member.bytes (length member.bytes + 1)
+
+-- the value is nested so deep at most
+abbrev pub IsDeep : ℕ → Written → Type 0
+IsDeep most member = levels (is_holder member.kind) (nesting member.children) ≤ most
 
 -- the name as a JSON string, a colon, and the value
 abbrev pub member_bytes : Written → List ℕ
@@ -58,3 +66,9 @@ member_values at (member ∷ members) = grows (member_spot at member) (moved (ah
 -- the map of these members
 abbrev pub map_of : List Written → Forest
 map_of members = one (record { kind = kinds.Map; span = record { start = 0; end = length (map_bytes members) }; name = None }) (member_values 1 members)
+
+-- in these bytes the members that begin at a place have their names, and their values have their bytes
+abbrev pub ShowsMembers : List ℕ → ℕ → List Written → Type 0
+ShowsMembers bytes at [] = ⊤
+ShowsMembers bytes at (member ∷ members) =
+    (name_shown bytes (member_spot at member) ≡ member.name) × (value_bytes bytes (member_spot at member) ≡ member.bytes) × ShowsMembers bytes (value_place at member + length member.bytes + 1) members

@@ -14,10 +14,10 @@ ghost use Rattle.json_text.specs.Unescape.{unescaped};
 ghost use Rattle.json_text.specs.Words.{HasWord, HasProduced};
 ghost use Rattle.json_text.specs.Written.{ReadsBack};
 ghost use Rattle.json_text.specs.Grammar.{IsText};
-ghost use Rattle.json_text.specs.Shape.{AreInRow, nesting, IsPlaced};
+ghost use Rattle.json_text.specs.Shape.{AreInRow, nesting, IsPlaced, value_bytes};
 ghost use Rattle.json_text.specs.Moved.{IsTextAlone};
-ghost use Rattle.json_text.specs.MapTexts.{Written, IsWritten, map_bytes, map_of};
-ghost use Rattle.json_text.specs.Faults.{IsClean};
+ghost use Rattle.json_text.specs.MapTexts.{Written, IsWritten, ShowsMembers, IsDeep, map_bytes, map_of};
+ghost use Rattle.json_text.specs.Faults.{IsClean, IsLoneAt};
 
 /// What `push_string` writes of a text is a JSON text of one string in which nothing is wrong, so that `read` takes it
 /// unless memory runs out; and the text of that string, as `Doc::text_of` tells it, is the text that was written.
@@ -45,9 +45,10 @@ pub fn values_stand_in_rows()
     ensures { (bytes : List ℕ) (values : Forest) → IsText bytes values → AreInRow false 0 (length bytes) values }
 {}
 
-/// The values of a text in which nothing is wrong are nested at most 64 deep.
-pub fn values_are_nested_64_deep_at_most()
-    ensures { (bytes : List ℕ) (values : Forest) → IsText bytes values → IsClean bytes (length bytes + 1) → nesting values ≤ 64 }
+/// Nothing is wrong with a text exactly where its values are nested at most 64 deep and the escape of no surrogate stands
+/// alone in it.
+pub fn what_may_be_wrong_with_a_text()
+    ensures { (bytes : List ℕ) (values : Forest) → IsText bytes values → IsClean bytes (length bytes + 1) ↔ ((nesting values ≤ 64) × ((at : ℕ) → at ≤ length bytes → ¬ IsLoneAt bytes at)) }
 {}
 
 /// Each value of a text that was read stands within its bytes, behind its name and round what it holds, and is nested 64 deep
@@ -61,14 +62,18 @@ pub fn a_text_has_one_tree()
     ensures { (bytes : List ℕ) (values others : Forest) → IsText bytes values → IsText bytes others → values ≡ others }
 {}
 
-/// The bytes of each value of a text that was read are a text by themselves: the same values, with places that count from its
-/// start.
+/// The bytes of each value of a text that was read are a text by themselves, in which nothing is wrong: the same values, with
+/// places that count from its start.
 pub fn each_value_is_a_text()
-    ensures { (doc : Doc) (bytes : List ℕ) (node : Node) (spot : Spot) (children later : Forest) → Shows doc bytes → StandsAt doc node (grows spot children later) → IsTextAlone bytes spot children }
+    ensures text { (doc : Doc) (bytes : List ℕ) (node : Node) (spot : Spot) (children later : Forest) → Shows doc bytes → StandsAt doc node (grows spot children later) → IsTextAlone bytes spot children }
+    ensures clean { (doc : Doc) (bytes : List ℕ) (node : Node) (spot : Spot) (children later : Forest) → Shows doc bytes → StandsAt doc node (grows spot children later) → IsClean (value_bytes bytes spot) (length (value_bytes bytes spot) + 1) }
 {}
 
 /// A map written of names and of values that are texts by themselves, joined by commas, is a text: one level deeper, with
-/// these members.
+/// these members, whose names and values' bytes are those that were written. Nothing is wrong with it, where no value is
+/// nested more than 63 deep.
 pub fn a_written_map_is_a_text()
-    ensures { (members : List Written) → AllByRecursion IsWritten members → IsText (map_bytes members) (map_of members) }
+    ensures text { (members : List Written) → AllByRecursion IsWritten members → IsText (map_bytes members) (map_of members) }
+    ensures shown { (members : List Written) → ShowsMembers (map_bytes members) 1 members }
+    ensures clean { (members : List Written) → AllByRecursion IsWritten members → AllByRecursion (IsDeep 63) members → IsClean (map_bytes members) (length (map_bytes members) + 1) }
 {}

@@ -30,10 +30,10 @@ get-rows [] q = get-empty byte_order q
 get-rows (Empty ∷ xs) q = get-rows xs q
 get-rows (Gone ∷ xs) q = get-rows xs q
 get-rows (Taken kept ∷ xs) q =
-    get-insert total (rows_of xs) kept.key.items (row_of kept.row) q
-    ∙ ap (λ b. cond b (Some (row_of kept.row)) (get (rows_of xs) q)) (sym (texts_ties q kept.key.items))
-    ∙ ap (cond (bytes_eq q kept.key.items) (Some (row_of kept.row))) (get-rows xs q)
-    ∙ sym (mapped (bytes_eq q kept.key.items) (Some kept.row) (lookup_in q xs))
+    get-insert total (rows_of xs) kept.key (row_of kept.row) q
+    ∙ ap (λ b. cond b (Some (row_of kept.row)) (get (rows_of xs) q)) (sym (texts_ties q kept.key))
+    ∙ ap (cond (bytes_eq q kept.key) (Some (row_of kept.row))) (get-rows xs q)
+    ∙ sym (mapped (bytes_eq q kept.key) (Some kept.row) (lookup_in q xs))
 
 -- what a look-up finds is what the rows have
 pub get-found : (xs : List Place) (q : Key) → Findable xs → get (rows_of xs) q ≡ option_map row_of (find_in q (path q xs))
@@ -63,7 +63,7 @@ held q (Taken kept) new xs ys h own =
 has-other : (q key : Key) (x : Place) → bytes_eq q key ≡ false → is_stop key x ≡ true → has q x ≡ false
 has-other q key Empty e s = refl
 has-other q key Gone e s = refl
-has-other q key (Taken kept) e s = subst (λ k. bytes_eq q k ≡ false) ((bytes_decides key kept.key.items).0 s) e
+has-other q key (Taken kept) e s = subst (λ k. bytes_eq q k ≡ false) ((bytes_decides key kept.key).0 s) e
 
 -- for a key, by whether it is the one that changes
 by_key : (key : Key) (P : Key → Type 0) → P key → ((q : Key) → bytes_eq q key ≡ false → P q) → (q : Key) → P q
@@ -112,26 +112,26 @@ get_after key old new xs ys s q =
 
 -- a row is put
 
-putting : (kept : HashedRow) (old : Place) (xs : List Place) (at : ℕ) → Findable xs → Locates kept.key.items xs at → at < length xs → slice_get xs at ≡ Some old → Changes kept.key.items old (Taken kept) xs (set xs at (Taken kept))
+putting : (kept : HashedRow) (old : Place) (xs : List Place) (at : ℕ) → Findable xs → Locates kept.key xs at → at < length xs → slice_get xs at ≡ Some old → Changes kept.key old (Taken kept) xs (set xs at (Taken kept))
 putting kept old xs at h l less e =
     let own = l.present old (Taken kept) less e in
-    let same : bytes_eq kept.key.items kept.key.items ≡ true = nat_list_eq_equiv.refl kept.key.items in
+    let same : bytes_eq kept.key kept.key ≡ true = nat_list_eq_equiv.refl kept.key in
     record {
       findable = h;
       own = own;
       changed = changed-set old (Taken kept) xs at e;
-      mine = (own-found kept.key.items old (Taken kept) _ _ same own, own-lookup kept.key.items old (Taken kept) _ _ same own);
+      mine = (own-found kept.key old (Taken kept) _ _ same own, own-lookup kept.key old (Taken kept) _ _ same own);
       others = λ q apart. apart;
     }
 
-pub findable-put : (kept : HashedRow) (old : Place) (xs : List Place) (at : ℕ) → kept.hash ≡ hash_of kept.key.items → Findable xs → Locates kept.key.items xs at → at < length xs → slice_get xs at ≡ Some old
+pub findable-put : (kept : HashedRow) (old : Place) (xs : List Place) (at : ℕ) → kept.hash ≡ hash_of kept.key → Findable xs → Locates kept.key xs at → at < length xs → slice_get xs at ≡ Some old
     → Findable (set xs at (Taken kept))
-findable-put kept old xs at hash h l less e = findable_after kept.key.items old (Taken kept) xs _ (putting kept old xs at h l less e) (All-set IsHashed xs at (Taken kept) hash h.hashed)
+findable-put kept old xs at hash h l less e = findable_after kept.key old (Taken kept) xs _ (putting kept old xs at h l less e) (All-set IsHashed xs at (Taken kept) hash h.hashed)
 
-pub rows-put : (kept : HashedRow) (old : Place) (xs : List Place) (at : ℕ) → Findable xs → Locates kept.key.items xs at → at < length xs → slice_get xs at ≡ Some old
-    → rows_of (set xs at (Taken kept)) ≡ insert (rows_of xs) kept.key.items (row_of kept.row)
+pub rows-put : (kept : HashedRow) (old : Place) (xs : List Place) (at : ℕ) → Findable xs → Locates kept.key xs at → at < length xs → slice_get xs at ≡ Some old
+    → rows_of (set xs at (Taken kept)) ≡ insert (rows_of xs) kept.key (row_of kept.row)
 rows-put kept old xs at h l less e = same_map total antisymmetric _ _ (λ q.
-    get_after kept.key.items old (Taken kept) xs _ (putting kept old xs at h l less e) q ∙ sym (get-insert total (rows_of xs) kept.key.items (row_of kept.row) q))
+    get_after kept.key old (Taken kept) xs _ (putting kept old xs at h l less e) q ∙ sym (get-insert total (rows_of xs) kept.key (row_of kept.row) q))
 
 -- a row is taken out
 

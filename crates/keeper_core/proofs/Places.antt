@@ -75,7 +75,7 @@ find-none q [] e = refl
 find-none q (Empty ∷ xs) e = refl
 find-none q (Gone ∷ xs) e = find-none q xs e
 find-none q (Taken kept ∷ xs) e =
-    let parts = none_here (bytes_eq q kept.key.items) kept.row (lookup_in q xs) e in
+    let parts = none_here (bytes_eq q kept.key) kept.row (lookup_in q xs) e in
     ap (λ b. cond b (Some kept.row) (find_in q xs)) parts.0 ∙ find-none q xs parts.1
 
 pub times-none : (q : Key) (xs : List Place) → lookup_in q xs ≡ None → times q xs ≡ 0
@@ -83,7 +83,7 @@ times-none q [] e = refl
 times-none q (Empty ∷ xs) e = omega (arith, sum_by-cons (times_at q) Empty xs, times-none q xs e)
 times-none q (Gone ∷ xs) e = omega (arith, sum_by-cons (times_at q) Gone xs, times-none q xs e)
 times-none q (Taken kept ∷ xs) e =
-    let parts = none_here (bytes_eq q kept.key.items) kept.row (lookup_in q xs) e in
+    let parts = none_here (bytes_eq q kept.key) kept.row (lookup_in q xs) e in
     let at : times_at q (Taken kept) ≡ 0 = ap (λ b. cond b 1 0) parts.0 in
     omega (arith, sum_by-cons (times_at q) (Taken kept) xs, times-none q xs parts.1, at)
 
@@ -106,7 +106,7 @@ lookup-behind q [] ys e = refl
 lookup-behind q (Empty ∷ xs) ys e = lookup-behind q xs ys e
 lookup-behind q (Gone ∷ xs) ys e = lookup-behind q xs ys e
 lookup-behind q (Taken kept ∷ xs) ys e =
-    let parts = none_here (bytes_eq q kept.key.items) kept.row (lookup_in q xs) e in
+    let parts = none_here (bytes_eq q kept.key) kept.row (lookup_in q xs) e in
     ap (λ b. cond b (Some kept.row) (lookup_in q (xs ++ ys))) parts.0 ∙ lookup-behind q xs ys parts.1
 
 found_here : (b : Bool) (mine : Option StoredRow) (rest more : Option StoredRow) (row : StoredRow) → (rest ≡ Some row → more ≡ Some row) → cond b mine rest ≡ Some row → cond b mine more ≡ Some row
@@ -170,7 +170,7 @@ agree-changed q old new _ _ o n s (here rest) e = agree_here q old new rest o n 
 agree-changed q old new _ _ o n s (there Empty xs ys c) e = e ∙ sym (changed-lookup q old new xs ys o n c)
 agree-changed q old new _ _ o n s (there Gone xs ys c) e = agree-changed q old new xs ys o n s c e
 agree-changed q old new _ _ o n s (there (Taken kept) xs ys c) e =
-    agree_on (bytes_eq q kept.key.items) kept.row (find_in q xs) (lookup_in q xs) (find_in q ys) (lookup_in q ys) (agree-changed q old new xs ys o n s c) e
+    agree_on (bytes_eq q kept.key) kept.row (find_in q xs) (lookup_in q xs) (find_in q ys) (lookup_in q ys) (agree-changed q old new xs ys o n s c) e
 
 -- the place at which a look-up ends
 

@@ -33,13 +33,13 @@ row_of_place (Some place) = row_in place
 abbrev pub has : List ℕ → Place → Bool
 has key Empty = false
 has key Gone = false
-has key (Taken kept) = bytes_eq key kept.key.items
+has key (Taken kept) = bytes_eq key kept.key
 
 -- a look-up of a key ends at a place
 abbrev pub is_stop : List ℕ → Place → Bool
 is_stop key Empty = true
 is_stop key Gone = false
-is_stop key (Taken kept) = bytes_eq key kept.key.items
+is_stop key (Taken kept) = bytes_eq key kept.key
 
 -- where a look-up of a key ends; behind the last place, where no place ends it
 abbrev pub stop : List ℕ → List Place → ℕ
@@ -93,7 +93,7 @@ path key places = path_from (home (hash_of key) (length places)) places
 abbrev pub with_place : Place → Rows → Rows
 with_place Empty rows = rows
 with_place Gone rows = rows
-with_place (Taken kept) rows = insert rows kept.key.items (row_of kept.row)
+with_place (Taken kept) rows = insert rows kept.key (row_of kept.row)
 
 -- rows with those of these places
 abbrev pub with_places : List Place → Rows → Rows
@@ -108,7 +108,7 @@ rows_of places = with_places places empty
 abbrev pub IsHashed : Place → Type 0
 IsHashed Empty = Unit {0}
 IsHashed Gone = Unit {0}
-IsHashed (Taken kept) = kept.hash ≡ hash_of kept.key.items
+IsHashed (Taken kept) = kept.hash ≡ hash_of kept.key
 
 -- these places are those, but for the one at which a look-up of a key ends
 pub data Own (key : List ℕ) (old new : Place) : List Place → List Place → Type 0 where

@@ -9,7 +9,7 @@ ghost use Rattle.keeper_core.specs.declared.place.Place.TheVariants.{Empty};
 
 use crate::place::{HashedRow, Place, count_taken, hash_of, locate, row_at, set};
 use crate::prepared::StoredRow;
-use side_base::NoMemory;
+use side_base::{Blob, NoMemory};
 use std::alloc::Global;
 use std::marker::Model;
 use std::mem;
@@ -78,12 +78,12 @@ impl HashedRows {
     }
 
     /// Gives a key a row, whatever it had; takes no memory.
-    pub(crate) fn insert(&mut self, key: Vec<u8>, row: StoredRow)
+    pub(crate) fn insert(&mut self, key: Blob, row: StoredRow)
         requires { 0 < self.old.room }
-        ensures rows { self.new.rows ≡ insert self.old.rows key.items (row_of row) }
+        ensures rows { self.new.rows ≡ insert self.old.rows key (row_of row) }
         ensures room { self.old.room ≤ self.new.room + 1 }
     {
-        let hash = hash_of(&key);
+        let hash = hash_of(key.bytes());
         self.put(HashedRow { hash, key, row });
     }
 
@@ -100,11 +100,11 @@ impl HashedRows {
 
     fn put(&mut self, kept: HashedRow)
         requires room { 0 < self.old.room }
-        requires hashed { kept.hash ≡ hash_of kept.key.items }
-        ensures rows { self.new.rows ≡ insert self.old.rows kept.key.items (row_of kept.row) }
+        requires hashed { kept.hash ≡ hash_of kept.key }
+        ensures rows { self.new.rows ≡ insert self.old.rows kept.key (row_of kept.row) }
         ensures room { self.old.room ≤ self.new.room + 1 }
     {
-        let at = locate(&self.places, kept.hash, &kept.key);
+        let at = locate(&self.places, kept.hash, kept.key.bytes());
         self.room -= self.places[at].blank();
         set(&mut self.places, at, Place::Taken(kept));
     }

@@ -4,6 +4,7 @@ ghost use Rattle.std.specs.List.{All};
 ghost use Rattle.keeper_core.specs.Places.{hash_of, home, is_stop, is_blank, is_taken, row_in, row_of_place, stop, taken, IsHashed, Locates};
 
 use crate::prepared::StoredRow;
+use side_base::Blob;
 use std::hash::{FoldHasher, Hasher};
 
 /// A place of a table with open addressing.
@@ -20,7 +21,7 @@ pub(crate) enum Place {
 #[derive(Drop)]
 pub(crate) struct HashedRow {
     pub(crate) hash: u64,
-    pub(crate) key: Vec<u8>,
+    pub(crate) key: Blob,
     pub(crate) row: StoredRow,
 }
 
@@ -63,7 +64,7 @@ impl Place {
         match self {
             Place::Empty => true,
             Place::Gone => false,
-            Place::Taken(kept) => kept.hash == hash && key == kept.key.as_slice(),
+            Place::Taken(kept) => kept.hash == hash && key == kept.key.bytes(),
         }
     }
 }

@@ -23,11 +23,11 @@ pub(crate) struct StoredRow {
 pub(crate) enum Step {
     /// The row of a key, with the key once more where the row has an end.
     Place {
-        key: Vec<u8>,
+        key: Blob,
         row: StoredRow,
         end: Option<Vec<u8>>,
     },
-    TakeOut(Vec<u8>),
+    TakeOut(Blob),
 }
 
 /// Changes with all the memory that they take, so that the `RowTable` that prepared them makes them without fail. Contracts see
@@ -82,13 +82,9 @@ fn step_of(alloc: Global, change: Change) -> Result<Step, NoMemory>
                 until,
                 end: NONE,
             };
-            Ok(Step::Place {
-                key: key.into_vec(),
-                row,
-                end,
-            })
+            Ok(Step::Place { key, row, end })
         }
-        Change::Remove { key } => Ok(Step::TakeOut(key.into_vec())),
+        Change::Remove { key } => Ok(Step::TakeOut(key)),
     }
 }
 

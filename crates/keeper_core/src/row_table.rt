@@ -12,7 +12,7 @@ use crate::hashed_rows::HashedRows;
 use crate::links::NONE;
 use crate::prepared::{Step, StoredRow};
 use crate::{ChangeList, Prepared, RowView};
-use side_base::NoMemory;
+use side_base::{Blob, NoMemory};
 use std::alloc::Global;
 use std::marker::Model;
 
@@ -110,20 +110,20 @@ impl RowTable {
     {
         match step {
             Step::Place { key, row, end } => self.place(key, row, end),
-            Step::TakeOut(key) => self.take_out(&key),
+            Step::TakeOut(key) => self.take_out(key.bytes()),
         }
     }
 
     /// Gives a key a row, whatever it had.
-    fn place(&mut self, key: Vec<u8>, row: StoredRow, end: Option<Vec<u8>>)
+    fn place(&mut self, key: Blob, row: StoredRow, end: Option<Vec<u8>>)
         requires room { 0 < self.old.room }
-        requires ready { IsEndOf key.items row.until end }
-        ensures rows { self.new.rows ≡ insert self.old.rows key.items (row_of row) }
+        requires ready { IsEndOf key row.until end }
+        ensures rows { self.new.rows ≡ insert self.old.rows key (row_of row) }
         ensures room { self.old.room ≤ self.new.room + 1 }
     {
-        let kept = kept_end(&self.rows, &key);
+        let kept = kept_end(&self.rows, key.bytes());
         let mut row = row;
-        row.end = with_end(&mut self.ends, kept, &key, row.until, end);
+        row.end = with_end(&mut self.ends, kept, key.bytes(), row.until, end);
         self.rows.insert(key, row);
     }
 

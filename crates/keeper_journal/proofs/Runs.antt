@@ -9,6 +9,9 @@ use Rattle.disk_journal.specs.Image.{front, IsFile}
 use Rattle.disk_journal.specs.Moments.{Reads, AtEachMoment}
 use Rattle.disk_journal.specs.declared.error.JournalErr.{JournalErr}
 use Rattle.disk_journal.specs.declared.error.JournalErr.TheVariants.{NotAJournal}
+use Rattle.keeper_journal.specs.AnyKeeper.{any_leads, KeptByAny, AnyReads}
+use Rattle.keeper_journal.specs.declared.any_keeper.AnyKeeper.{AnyKeeper}
+use Rattle.keeper_journal.specs.declared.any_keeper.AnyKeeper.TheVariants as any
 use Rattle.keeper_journal.specs.History.{Say, next_of, IsHistory, HasOneMore, IsWithOneAtMost}
 use Rattle.keeper_core.specs.Rows.{Rows}
 use Rattle.disk_journal.specs.Journal.{disk_of}
@@ -102,6 +105,17 @@ module _ {D : Type 0} (disking : Ghosts D) where
       let next = run.1.kept commits doubt kept in
       let all = kept_behind run.0 last answers (commits ++ made_by answer) next.0 run.2 next.1 in
       (all.0, subst (λ (cs : List Changes). Kept disking last cs all.0) (append_assoc commits (made_by answer) (acknowledged answers)) all.1)
+
+  -- what the disk of a keeper has behind some calls
+  pub disk_has : (first last : AnyKeeper D disking) (answers : List (Option Changes)) (commits made : List Changes) (doubt : Option Changes) → any_leads first answers last → acknowledged answers ≡ made → KeptByAny first commits doubt
+      → AnyReads last (HasAtMostOneMore (commits ++ made))
+  disk_has (any.Memory first) (any.Memory last) answers commits made doubt leads is kept = tt
+  disk_has (any.Memory first) (any.Journal last) answers commits made doubt leads is kept = absurd leads
+  disk_has (any.Journal first) (any.Memory last) answers commits made doubt leads is kept = tt
+  disk_has (any.Journal first) (any.Journal last) answers commits made doubt leads is kept = λ bytes told.
+      let then = kept_behind first last answers commits doubt leads kept in
+      subst (λ (cs : List Changes). HasAtMostOneMore (commits ++ cs) bytes) is
+      (of_file then.1.bodies then.1.doubted (commits ++ acknowledged answers) then.0 bytes then.1.say then.1.in_doubt (then.1.holds.file.read bytes told))
 
   pub run_moments : OnlyNow disking → (first last : JournalKeeper D disking) (answers : List (Option Changes)) (commits : List Changes) (doubt : Option Changes)
       → Leads disking first answers last → Kept disking first commits doubt → AtEachMoment disking (disk_in first) (disk_in last) (IsOfRun commits answers)

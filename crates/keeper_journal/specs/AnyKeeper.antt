@@ -1,5 +1,5 @@
 -- What a keeper of either kind shows.
-use Rattle.std.specs.Prelude.{ℕ, Bool, true, List, [], ◌++◌, Option, refl}
+use Rattle.std.specs.Prelude.{ℕ, Bool, true, List, [], ◌++◌, Option, Some, None, refl}
 use Rattle.side_world.specs.declared.disk.Disk.{Ghosts}
 use Rattle.keeper_core.specs.Rows.{Rows, bytes_in, IsCounted}
 use Rattle.keeper_core.specs.Changes.{after_changes}
@@ -8,6 +8,8 @@ use Rattle.keeper_core.specs.MemoryKeeper as memory
 use Rattle.keeper_core.specs.declared.changes.Change.{Change}
 use Rattle.keeper_core.specs.declared.changes.Changes.{Changes}
 use Rattle.keeper_journal.specs.JournalKeeper as journal
+use Rattle.disk_journal.specs.Moments.{Reads}
+use Rattle.keeper_journal.specs.Kept.{Kept}
 use Rattle.keeper_journal.specs.Run.{Leads, leads_on}
 use Rattle.keeper_journal.specs.declared.any_keeper.AnyKeeper.{AnyKeeper}
 use Rattle.keeper_journal.specs.declared.any_keeper.AnyKeeper.TheVariants.{Memory, Journal}
@@ -50,6 +52,21 @@ any_leads (Memory old) answers (Memory new) = Unit {0}
 any_leads {disking = disking} (Journal old) answers (Journal new) = Leads disking old answers new
 any_leads (Memory old) answers (Journal new) = ⊥
 any_leads (Journal old) answers (Memory new) = ⊥
+
+-- which commits a keeper of either kind keeps; one in memory is asked for none
+abbrev pub KeptByAny : {D : Type 0} {disking : Ghosts D} → AnyKeeper D disking → List Changes → Option Changes → Type 0
+KeptByAny (Memory keeper) commits doubt = Unit {0}
+KeptByAny {disking = disking} (Journal keeper) commits doubt = Kept disking keeper commits doubt
+
+-- what a read of its disk gives, where it has a disk that tells it, is so
+abbrev pub AnyReads : {D : Type 0} {disking : Ghosts D} → AnyKeeper D disking → (List ℕ → Type 0) → Type 0
+AnyReads (Memory keeper) P = Unit {0}
+AnyReads {disking = disking} (Journal keeper) P = Reads disking (journal.disk_in keeper) P
+
+-- its disk, where it has one
+abbrev pub any_disk : {D : Type 0} {disking : Ghosts D} → AnyKeeper D disking → Option D
+any_disk (Memory keeper) = None
+any_disk (Journal keeper) = Some (journal.disk_in keeper)
 
 pub any_at_rest : {D : Type 0} {disking : Ghosts D} (keeper : AnyKeeper D disking) → any_leads keeper [] keeper
 any_at_rest (Memory keeper) = tt

@@ -11,6 +11,21 @@ pub enum AnyKeeper<D: Disk> {
     Journal(JournalKeeper<D>),
 }
 
+impl<D: Disk> AnyKeeper<D> {
+    ghost use Rattle.std.specs.Prelude.{◌≡◌};
+    ghost use Rattle.keeper_journal.specs.AnyKeeper.{any_disk};
+
+    /// The disk, as the last commit left it; a keeper in memory has none. Takes no memory.
+    pub fn into_disk(self) -> Option<D>
+        ensures { result ≡ any_disk self }
+    {
+        match self {
+            AnyKeeper::Memory(_) => None,
+            AnyKeeper::Journal(keeper) => Some(keeper.into_disk()),
+        }
+    }
+}
+
 impl<D: Disk> Keeper for AnyKeeper<D> {
     ghost use Rattle.keeper_journal.specs.AnyKeeper.{any_rows, any_next, any_size, any_limit, any_faults, any_may_fail, any_size_after, any_leads, any_counted, any_at_rest, any_goes_on};
 

@@ -2,18 +2,20 @@
 ghost use Rattle.std.specs.Prelude.{◌≡◌, ◌≤◌, ◌<◌, ◌^◌, ℕ, List, ◌++◌, Option, Some, None, Err, IfOk, IfErr, OnOk, OnErr};
 ghost use Rattle.side_world.specs.Faults.{Rose};
 ghost use Rattle.keeper_core.specs.Changes.{VersionsAreBelow};
-ghost use Rattle.keeper_core.specs.Commits.{acknowledged};
+ghost use Rattle.keeper_core.specs.Commits.{acknowledged, HasMade};
 ghost use Rattle.keeper_core.specs.declared.changes.Changes.{Changes};
 ghost use Rattle.disk_journal.specs.Moments.{AtEachMoment};
 ghost use Rattle.disk_journal.specs.declared.error.JournalErr.TheVariants.{NotAJournal};
 ghost use Rattle.keeper_journal.specs.Body.{IsBodyOf};
 ghost use Rattle.keeper_journal.specs.History.{IsHistory, IsRefusedAt};
 ghost use Rattle.keeper_journal.specs.JournalKeeper.{disk_in, next_in, size_in, limit_in, size_with};
+ghost use Rattle.keeper_journal.specs.AnyKeeper.{KeptByAny, AnyReads};
 ghost use Rattle.keeper_journal.specs.Kept.{Kept};
-ghost use Rattle.keeper_journal.specs.Run.{IsCall, Leads, IsOfRun, IsLeftByRun, KeepsOfRun};
+ghost use Rattle.keeper_journal.specs.declared.any_keeper.AnyKeeper.{AnyKeeper};
+ghost use Rattle.keeper_journal.specs.Run.{HasAtMostOneMore, IsCall, Leads, IsOfRun, IsLeftByRun, KeepsOfRun};
 ghost use Rattle.keeper_journal.specs.declared.journal_keeper.JournalKeeper.{JournalKeeper};
 
-use crate::JournalKeeper;
+use crate::{AnyKeeper, JournalKeeper};
 use disk_journal::JournalErr;
 use keeper_core::{Changes, KeepErr, Keeper};
 use side_world::Disk;
@@ -54,6 +56,12 @@ pub fn commit_in_a_run<D: Disk>(
 /// first of the calls behind them acknowledged, in order, and then at most one more.
 pub fn a_crash_leaves_what_was_acknowledged<D: Disk>()
     ensures { (first mid last : JournalKeeper D D.Disk) (front back : List (Option Changes)) (commits : List Changes) (doubt : Option Changes) → Leads D.Disk first front mid → Leads D.Disk mid back last → Kept D.Disk first commits doubt → AtEachMoment D.Disk (disk_in mid) (disk_in last) (IsOfRun (commits ++ acknowledged front) back) }
+{}
+
+/// The disk of a keeper, as its commits leave it, has the commits that the keeper kept before them and those of them that were made, in
+/// order, and then at most one more.
+pub fn a_disk_has_what_was_made<D: Disk>()
+    ensures { (first last : AnyKeeper D D.Disk) (commits made : List Changes) (doubt : Option Changes) → HasMade ⟦<AnyKeeper<D> as Keeper>⟧ first last made → KeptByAny first commits doubt → AnyReads last (HasAtMostOneMore (commits ++ made)) }
 {}
 
 /// Starts on what a crash at such a moment left: it keeps just those commits, and so has their rows and their next version; it is never

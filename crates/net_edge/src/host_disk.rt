@@ -1,6 +1,7 @@
 ghost use Rattle.std.specs.Prelude.{◌≡◌, None, IfOk};
 ghost use Rattle.std.proofs.Common.{rules};
 
+use crate::fault_count::FaultCount;
 use side_world::{Disk, Failed};
 use std::fs::{File, Files, OpenOptions};
 use std::io;
@@ -13,7 +14,7 @@ use std::os::unix::fs::FileExt;
 pub struct HostDisk {
     file: File,
     len: u64,
-    faults: u64,
+    faults: FaultCount,
 }
 
 impl HostDisk {
@@ -27,7 +28,7 @@ impl HostDisk {
         Ok(HostDisk {
             file,
             len,
-            faults: 0,
+            faults: FaultCount::none(),
         })
     }
 }
@@ -50,13 +51,7 @@ impl Disk for HostDisk {
     }
 
     fn read_at(&mut self, at: u64, into: &mut [u8]) -> Result<(), Failed> {
-        match self.file.read_exact_at(into, at) {
-            Ok(()) => Ok(()),
-            Err(_) => {
-                self.faults = self.faults.saturating_add(1);
-                Err(Failed)
-            }
-        }
+        self.faults.counted(self.file.read_exact_at(into, at))
     }
 
     fn write_at(&mut self, at: u64, piece: &[u8]) -> Result<(), Failed> {
@@ -66,21 +61,12 @@ impl Disk for HostDisk {
                 self.len = self.len.max(end);
                 Ok(())
             }
-            _ => {
-                self.faults = self.faults.saturating_add(1);
-                Err(Failed)
-            }
+            _ => Err(self.faults.fail()),
         }
     }
 
     fn sync(&mut self) -> Result<(), Failed> {
-        match self.file.sync_data() {
-            Ok(()) => Ok(()),
-            Err(_) => {
-                self.faults = self.faults.saturating_add(1);
-                Err(Failed)
-            }
-        }
+        self.faults.counted(self.file.sync_data())
     }
 
     ghost as_long = { Prim.search rules };

@@ -1,5 +1,6 @@
 ghost use Rattle.std.specs.Prelude.{◌≡◌, None};
 
+use crate::fault_count::FaultCount;
 use side_world::{Failed, Sink};
 use std::io::Write;
 
@@ -7,7 +8,7 @@ use std::io::Write;
 #[derive(Drop)]
 pub struct StdSink<W> {
     writer: W,
-    faults: u64,
+    faults: FaultCount,
 }
 
 impl<W: Write> StdSink<W> {
@@ -15,7 +16,10 @@ impl<W: Write> StdSink<W> {
     pub fn new(writer: W) -> Self
         ensures { ⟦<StdSink<W> as Sink>⟧.faults result ≡ 0 }
     {
-        StdSink { writer, faults: 0 }
+        StdSink {
+            writer,
+            faults: FaultCount::none(),
+        }
     }
 }
 
@@ -27,10 +31,7 @@ impl<W: Write> Sink for StdSink<W> {
     fn write(&mut self, piece: &[u8]) -> Result<usize, Failed> {
         match self.writer.write(piece) {
             Ok(n) if n > 0 => Ok(n),
-            _ => {
-                self.faults = self.faults.saturating_add(1);
-                Err(Failed)
-            }
+            _ => Err(self.faults.fail()),
         }
     }
 }

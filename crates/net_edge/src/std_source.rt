@@ -1,5 +1,6 @@
 ghost use Rattle.std.specs.Prelude.{◌≡◌, None, false};
 
+use crate::fault_count::FaultCount;
 use side_world::{Failed, Source};
 use std::io::Read;
 
@@ -8,7 +9,7 @@ use std::io::Read;
 pub struct StdSource<R> {
     reader: R,
     ended: bool,
-    faults: u64,
+    faults: FaultCount,
 }
 
 impl<R: Read> StdSource<R> {
@@ -20,7 +21,7 @@ impl<R: Read> StdSource<R> {
         StdSource {
             reader,
             ended: false,
-            faults: 0,
+            faults: FaultCount::none(),
         }
     }
 }
@@ -35,15 +36,8 @@ impl<R: Read> Source for StdSource<R> {
     ghost faults = { λ s. s.faults };
 
     fn read(&mut self, into: &mut [u8]) -> Result<usize, Failed> {
-        match self.reader.read(into) {
-            Ok(n) => {
-                self.ended = self.ended || n == 0;
-                Ok(n)
-            }
-            Err(_) => {
-                self.faults = self.faults.saturating_add(1);
-                Err(Failed)
-            }
-        }
+        let n = self.faults.counted(self.reader.read(into))?;
+        self.ended = self.ended || n == 0;
+        Ok(n)
     }
 }

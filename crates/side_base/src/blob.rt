@@ -69,13 +69,6 @@ impl Blob {
         }
     }
 
-    /// The bytes as a `Vec`; takes no memory. To be removed: use `bytes`, or move the byte string itself.
-    pub fn into_vec(self) -> Vec<u8>
-        ensures { result.items ≡ self }
-    {
-        self.bytes
-    }
-
     /// Appends `piece`; without memory the bytes stay as they were.
     pub fn push(&mut self, piece: &[u8]) -> Result<(), NoMemory>
         ensures ok { OnOk result (self.new ≡ self.old ++ piece.now) }

@@ -1,5 +1,6 @@
 pub mod Backs
 pub mod Disks
+pub mod Lent
 pub mod Places
 pub mod Returned
 pub mod Searched

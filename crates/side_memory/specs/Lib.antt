@@ -7,3 +7,4 @@ pub mod MemoryLink
 pub mod MemoryOutside
 pub mod MemorySink
 pub mod MemorySource
+pub mod Scripts

@@ -8,6 +8,8 @@ use Rattle.side_memory.specs.MemoryLink.{LinkState}
 use Rattle.side_memory.specs.MemoryClock.{ClockState}
 use Rattle.side_memory.specs.MemoryDisk.{bytes_of}
 use Rattle.side_memory.specs.declared.disk_places.DiskPlace.{DiskPlace}
+use Rattle.side_memory.specs.Scripts.{IsAt, IsBegun}
+use Rattle.side_memory.specs.declared.worker_script.WorkerScript.{WorkerScript}
 use Rattle.side_memory.specs.declared.memory_outside.MemoryOutside.{MemoryOutside}
 
 -- what is held at a path: the bytes of the first disk of that path, where it is not taken
@@ -61,3 +63,19 @@ pub record IsUnused (outside : MemoryOutside) : Type 0 where
   pub backs : (none : Backs) × (backs_of outside ≡ Some none) × ((number : ℕ) → none number ≡ None)
   pub calls : calls_of outside ≡ Some []
   pub no_faults : faults_of outside ≡ 0
+
+-- what is held at each path
+abbrev pub held_of : MemoryOutside → Disks
+held_of outside = held_at outside.disks.items
+
+-- what came back of each worker
+abbrev pub back_of : MemoryOutside → Backs
+back_of outside = came_back outside.backs.items
+
+-- what was prepared for each worker, and not taken
+abbrev pub scripts_of : MemoryOutside → List (Option WorkerScript)
+scripts_of outside = outside.scripts.items
+
+-- parts begin as it was prepared for this number
+abbrev pub BeginsAs : List (Option WorkerScript) → ℕ → Parts → Type 0
+BeginsAs scripts number parts = (script : WorkerScript) × IsAt scripts number script × IsBegun script parts

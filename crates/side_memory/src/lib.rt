@@ -33,4 +33,3 @@ pub use memory_source::MemorySource;
 pub use overwriting::Tear;
 pub use schedule::Sizes;
 pub use worker_script::{MemoryParts, WorkerScript};
-

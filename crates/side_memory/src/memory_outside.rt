@@ -5,8 +5,8 @@ use crate::memory_disk::MemoryDisk;
 use crate::memory_link::MemoryLink;
 use crate::notes::Notes;
 use crate::schedule::{Schedule, Sizes};
-use crate::worker_backs::keep_back;
-use crate::worker_script::{MemoryParts, WorkerScript};
+use crate::worker_backs::{back_at, keep_back};
+use crate::worker_script::{MemoryParts, WorkerScript, take_script};
 use side_base::{Blob, NoMemory, Places, Sequence};
 use side_world::{Acceptor, Disk, Failed, Link, Outside, OutsideCall};
 use std::alloc::Global;
@@ -30,9 +30,10 @@ pub struct MemoryOutside {
 }
 
 impl MemoryOutside {
-    ghost use Rattle.std.specs.Prelude.{◌≡◌, ◌≤◌, ℕ, None, Some, OnOk, OnErr};
+    ghost use Rattle.std.specs.Prelude.{◌≡◌, ◌≤◌, [], ◌∷◌, ◌++◌, ℕ, None, Some, OnOk, OnErr, option_map};
     ghost use Rattle.side_world.specs.Outside.{ChangesAt};
-    ghost use Rattle.side_memory.specs.MemoryOutside.{disks_of, backs_of, calls_of, faults_of, IsUnused};
+    ghost use Rattle.side_memory.specs.MemoryDisk.{bytes_of};
+    ghost use Rattle.side_memory.specs.MemoryOutside.{disks_of, held_of, backs_of, back_of, scripts_of, parts_told, calls_of, faults_of, IsUnused};
 
     /// An outside without disks and workers, which answers these numbers; `failing` are the calls of `take_disk` and `worker` that
     /// fail, counted from 0 over both.
@@ -64,13 +65,18 @@ impl MemoryOutside {
     }
 
     /// The disk at `path`, where there is one and it is not taken.
-    pub fn disk(&self, path: &[u8]) -> Option<&MemoryDisk> {
-        let place = place_of(&self.disks, path)?;
-        self.disks[place].disk.as_ref()
+    pub fn disk(&self, path: &[u8]) -> Option<&MemoryDisk>
+        ensures { option_map (λ d. bytes_of d.now) result ≡ held_of self.now path.now }
+    {
+        match place_of(&self.disks, path) {
+            Some(place) => self.disks[place].disk.as_ref(),
+            None => None,
+        }
     }
 
     /// Lets one worker more be asked for: the first has the number 0.
     pub fn add_worker(&mut self, script: WorkerScript) -> Result<(), NoMemory>
+        ensures added { OnOk result (scripts_of self.new ≡ scripts_of self.old ++ Some script ∷ []) }
         ensures disks { disks_of self.new ≡ disks_of self.old }
         ensures calls { calls_of self.new ≡ calls_of self.old }
         ensures faults { faults_of self.new ≡ faults_of self.old }
@@ -84,11 +90,10 @@ impl MemoryOutside {
     }
 
     /// What came back of the worker of this number, where it is back.
-    pub fn back(&self, number: u32) -> Option<&MemoryParts> {
-        match self.backs.get(number as usize) {
-            Some(back) => back.as_ref(),
-            None => None,
-        }
+    pub fn back(&self, number: u32) -> Option<&MemoryParts>
+        ensures { option_map (λ p. parts_told p.now) result ≡ back_of self.now number }
+    {
+        back_at(&self.backs, number)
     }
 }
 
@@ -96,7 +101,7 @@ impl MemoryOutside {
     ghost use Rattle.std.specs.Prelude.{◌≡◌, ◌≤◌, IfOk, OnOk, OnErr, IsNone};
     ghost use Rattle.side_world.specs.Faults.{Rose};
     ghost use Rattle.side_world.specs.Outside.{IsTaken, IsNewDisk, AreNew};
-    ghost use Rattle.side_memory.specs.MemoryOutside.{disks_of, backs_of, calls_of, faults_of};
+    ghost use Rattle.side_memory.specs.MemoryOutside.{disks_of, backs_of, scripts_of, BeginsAs, calls_of, faults_of};
 
     // Takes a disk, and counts a fault where the call is to fail, or there is no memory.
     fn open_disk(&mut self, path: &[u8]) -> Result<MemoryDisk, Failed>
@@ -122,6 +127,7 @@ impl MemoryOutside {
     // Begins a worker, and counts a fault where the call is to fail, or there is no such worker that was not begun.
     fn begin_worker(&mut self, number: u32) -> Result<MemoryParts, Failed>
         ensures new { IfOk result (AreNew ⟦<MemoryAcceptor as Acceptor>⟧ ⟦<MemoryLink as Link>⟧) }
+        ensures begun { IfOk result (BeginsAs (scripts_of self.old) number) }
         ensures disks { disks_of self.new ≡ disks_of self.old }
         ensures backs { backs_of self.new ≡ backs_of self.old }
         ensures calls { calls_of self.new ≡ calls_of self.old }
@@ -137,13 +143,6 @@ impl MemoryOutside {
                 Err(Failed)
             }
         }
-    }
-}
-
-fn take_script(scripts: &mut [Option<WorkerScript>], number: u32) -> Option<WorkerScript> {
-    match scripts.get_mut(number as usize) {
-        Some(script) => script.take(),
-        None => None,
     }
 }
 

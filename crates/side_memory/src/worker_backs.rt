@@ -1,4 +1,4 @@
-ghost use Rattle.std.specs.Prelude.{◌≡◌, ◌≢◌, ℕ, Some};
+ghost use Rattle.std.specs.Prelude.{◌≡◌, ◌≢◌, ℕ, Some, option_map};
 ghost use Rattle.std.specs.Bool.{OnTrue, OnFalse};
 ghost use Rattle.side_memory.specs.MemoryOutside.{parts_told, came_back};
 
@@ -20,5 +20,17 @@ pub(crate) fn keep_back(
         true
     } else {
         false
+    }
+}
+
+/// The parts of the worker of this number, where they came back.
+pub(crate) fn back_at(backs: &[Option<MemoryParts>], number: u32) -> Option<&MemoryParts>
+    ensures { option_map (λ p. parts_told p.now) result ≡ came_back backs.now number }
+{
+    let place = number as usize;
+    if place < backs.len() {
+        backs[place].as_ref()
+    } else {
+        None
     }
 }

@@ -1,4 +1,5 @@
-ghost use Rattle.std.specs.Prelude.{◌≡◌, [], Some};
+ghost use Rattle.std.specs.Prelude.{◌≡◌, [], Some, None, IfSome, OnSome, set};
+ghost use Rattle.side_memory.specs.Scripts.{IsAt};
 
 use crate::memory_acceptor::{AcceptorAnswers, MemoryAcceptor};
 use crate::memory_clock::{MemoryClock, Steps};
@@ -41,5 +42,21 @@ impl WorkerScript {
             link: MemoryLink::new(alloc, link_answers, failing_calls),
             clock: MemoryClock::new(first, steps),
         }
+    }
+}
+
+/// Takes the script of this number, where there is one that was not taken.
+pub(crate) fn take_script(
+    scripts: &mut Vec<Option<WorkerScript>>,
+    number: u32,
+) -> Option<WorkerScript>
+    ensures at { IfSome result (IsAt scripts.old.items number) }
+    ensures taken { OnSome result (scripts.new.items ≡ set scripts.old.items number None) }
+{
+    let place = number as usize;
+    if place < scripts.len() {
+        scripts[place].take()
+    } else {
+        None
     }
 }

@@ -9,7 +9,8 @@ use std::thread::{Threads, for_each_mut};
 
 /// Runs all workers side by side, on a thread for each where threads can be had, until each has ended. Takes no memory.
 ///
-/// A worker looks at the stop word before each `accept`, and ends where it finds it set. It passes the gate before and after each connection that it serves.
+/// A worker looks at the stop word before each `accept`, and ends where it finds it set. It passes the gate before and after
+/// each connection that it serves.
 pub fn run_workers<W: Work + Send, G: Gate + Sync, R: Threads + Wait + Sync>(
     rt: &R,
     slots: &mut [Slot<W>],
