@@ -1,5 +1,5 @@
 -- One attempt of a state call.
-use Rattle.std.proofs.Common.{◌≡◌, ℕ, ◌≤◌, List, [], ◌∷◌, ◌++◌, Option, Some, Result, Ok, Err, refl, sym, ap, subst, ◌∙◌, arith}
+use Rattle.std.proofs.Common.{◌≡◌, ℕ, ◌≤◌, List, [], ◌∷◌, ◌++◌, Option, Some, Result, Err, refl, sym, ap, subst, ◌∙◌, arith}
 use Rattle.std.specs.Prelude.{◌⊎◌}
 use Rattle.std.proofs.Common.{inl, inr}
 use Rattle.turn_cell.specs.declared.error.ApiErr.{ApiErr}
@@ -8,7 +8,6 @@ use Rattle.policy_run.specs.declared.outcome.Outcome.{Outcome}
 use Rattle.policy_run.specs.declared.outcome.Outcome.TheVariants as outcomes
 use Rattle.state_api.specs.declared.running.Ran.{Ran}
 use Rattle.state_api.specs.Ran.{ran_of}
-use Rattle.side_world.specs.Moments.{Between, Rises}
 use Rattle.turn_cell.specs.declared.object.Object.{Ghosts}
 use Rattle.turn_cell.specs.History.{IsLegal}
 use Rattle.turn_cell.specs.Sitting.{Begun, Sitting, Extends, Exhausts, entry_by}
@@ -22,7 +21,6 @@ use Rattle.policy_run.specs.declared.operation.Attempt.{Attempt}
 use Rattle.policy_run.specs.declared.operation.Attempt.TheVariants as attempt
 use Rattle.policy_run.specs.Event.{Event, own, moment}
 use Rattle.policy_run.specs.Effects.{Clocked, Effects}
-use Rattle.breaker_core.specs.Course.{Step as BreakerStep}
 use Rattle.state_api.specs.declared.call.StateAnswer.{StateAnswer}
 use Rattle.state_api.specs.declared.call.StateAnswer.TheVariants.{Replied, Exhausted}
 use Rattle.state_api.specs.Moment.{moved_again}
@@ -35,27 +33,32 @@ module _ {O : Type 0} (object : Ghosts O Cmd Reply) (cell : Begun O) (seat-name 
   pub stepped : (reply : Reply) → Extends object cell.first seat (at_moment now cmd) reply seat'
       → ((history before after : List Step) (entry : Step) → IsLegal object cell.first history → history ≡ before ++ entry ∷ after → Fits entry.cmd entry.reply)
       → (events : List (Event Step)) × Makes cmd (answer_of reply) events × Effects events (λ xs. Did object cell seat-name cmd-name seat cmd xs cell seat-name cmd-name seat' (at_moment now cmd)) (λ xs. xs ≡ []) clock clock' (λ xs. xs ≡ [])
-  stepped reply did fits = let step : Step = entry_by seat (at_moment now cmd) reply did.mark in (moment now ∷ own step ∷ [],
-      makes.stepped now step refl (fits seat'.seen (seat.seen ++ did.others) [] step did.sound.legal (ap (λ (z : Sitting O Cmd Reply). z.seen) did.whole)) refl refl,
-      record {
-        owned = record { same_cell = refl; same_seat = refl; same_place = refl; same_cmd = moved_again cmd now; grew = called object cell.first seat (at_moment now cmd) reply seat' did };
-        guards = refl;
-        times = (omega (arith, later, reads), omega (arith, reads));
-        pauses = (omega (arith, paused), λ below. omega (arith, paused));
-        words = refl;
-      })
+  stepped reply did fits = let step : Step = entry_by seat (at_moment now cmd) reply did.mark in (
+    moment now ∷ own step ∷ [],
+    makes.stepped now step refl (fits seat'.seen (seat.seen ++ did.others) [] step did.sound.legal (ap (λ (z : Sitting O Cmd Reply). z.seen) did.whole)) refl refl,
+    record {
+      owned = record { same_cell = refl; same_seat = refl; same_place = refl; same_cmd = moved_again cmd now; grew = called object cell.first seat (at_moment now cmd) reply seat' did };
+      guards = refl;
+      times = (omega (arith, later, reads), omega (arith, reads));
+      pauses = (omega (arith, paused), λ below. omega (arith, paused));
+      words = refl;
+    },
+  )
 
   -- the store's cell was exhausted
   pub unstepped : (count : ℕ) → Exhausts object cell.first seat count seat'
       → (events : List (Event Step)) × Makes cmd (attempt.Good (Exhausted count)) events × Effects events (λ xs. Did object cell seat-name cmd-name seat cmd xs cell seat-name cmd-name seat' (at_moment now cmd)) (λ xs. xs ≡ []) clock clock' (λ xs. xs ≡ [])
-  unstepped count did = (moment now ∷ [], makes.exhausted now count refl refl,
-      record {
-        owned = record { same_cell = refl; same_seat = refl; same_place = refl; same_cmd = moved_again cmd now; grew = exhausted object cell.first seat count seat' did };
-        guards = refl;
-        times = (omega (arith, later, reads), omega (arith, reads));
-        pauses = (omega (arith, paused), λ below. omega (arith, paused));
-        words = refl;
-      })
+  unstepped count did = (
+    moment now ∷ [],
+    makes.exhausted now count refl refl,
+    record {
+      owned = record { same_cell = refl; same_seat = refl; same_place = refl; same_cmd = moved_again cmd now; grew = exhausted object cell.first seat count seat' did };
+      guards = refl;
+      times = (omega (arith, later, reads), omega (arith, reads));
+      pauses = (omega (arith, paused), λ below. omega (arith, paused));
+      words = refl;
+    },
+  )
 
   abbrev Comes : Attempt StateAnswer (Unit {0}) → Cmd → Type 0
   Comes answer after = (events : List (Event Step)) × Makes cmd answer events × Effects events (λ xs. Did object cell seat-name cmd-name seat cmd xs cell seat-name cmd-name seat' after) (λ xs. xs ≡ []) clock clock' (λ xs. xs ≡ [])

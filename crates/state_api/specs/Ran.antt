@@ -1,5 +1,5 @@
 -- What a state call under its policies came to.
-use Rattle.std.specs.Prelude.{ℕ, Result, Ok, Err}
+use Rattle.std.specs.Prelude.{Result, Ok, Err}
 use Rattle.turn_cell.specs.declared.error.ApiErr.{ApiErr}
 use Rattle.turn_cell.specs.declared.error.ApiErr.TheVariants as error
 use Rattle.state_core.specs.declared.reply.Reply.TheVariants.{Failed}

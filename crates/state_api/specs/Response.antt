@@ -1,5 +1,5 @@
 -- The response to what a state call came to.
-use Rattle.std.specs.Prelude.{◌≡◌, ℕ, ◌≤◌, Bool, true, false, List, [], ◌∷◌, ◌++◌, map, drop, codes, decimal, Option, Some, None, All}
+use Rattle.std.specs.Prelude.{ℕ, Bool, true, false, List, [], ◌∷◌, ◌++◌, map, drop, codes, decimal, Option, Some, None, All}
 use Rattle.std.specs.Str.{IsCharBoundary}
 use Rattle.json_text.specs.Spelling.{string_of}
 use Rattle.side_base.specs.declared.message.Field.{Field}

@@ -1,7 +1,6 @@
 ghost use Rattle.std.specs.Prelude.{◌≡◌};
 ghost use Rattle.state_api.specs.Call.{answer_of};
 
-
 use keeper_core::Keeper;
 use policy_run::{Attempt, Operation};
 use side_world::Clock;
