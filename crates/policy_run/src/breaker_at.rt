@@ -5,6 +5,7 @@ use std::sync::Wait;
 use turn_cell::{Exhausted, Object, Seat, TurnCell};
 
 /// The breaker of a target: its cell, and the caller's seat of it.
+#[derive(Drop)]
 pub struct BreakerAt<'a> {
     pub cell: &'a TurnCell<Breaker>,
     pub seat: &'a mut Seat<Breaker>,

@@ -40,6 +40,9 @@ pub trait Operation {
     // How the state goes on through what attempts did of their own.
     ghost did: { Self → List Self.Own → Self → Type 0 };
 
+    // What a good attempt that answered so leaves to be seen, as the count that a seat shows.
+    ghost shown: { Self → Self.Good → Type 0 };
+
     /// Makes one attempt, which may take `limit` milliseconds; 0 is no limit. It reads the clock, and does not pause it.
     fn attempt<W: Wait, C: Clock>(
         &mut self,
@@ -49,7 +52,8 @@ pub trait Operation {
     ) -> Attempt<Self::Good, Self::Bad>
         requires ready { ready self.old }
         ensures made { (events : List (Event Self.Own)) × makes self.old limit result events × Effects events (λ xs. did self.old xs self.new) (λ xs. xs ≡ []) (clocked C.Clock clock.old) (clocked C.Clock clock.new) (λ xs. xs ≡ []) }
-        ensures paused { C.paused clock.new ≡ C.paused clock.old };
+        ensures paused { C.paused clock.new ≡ C.paused clock.old }
+        ensures shown { (good : Self.Good) → result ≡ Attempt.Good good → shown self.new good };
 
     ghost none: { (a : Self) → ready a → did a [] a };
 

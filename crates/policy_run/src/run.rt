@@ -35,6 +35,7 @@ pub fn run_call<P: Operation, G: Guard, C: Clock, R: Rng, W: Wait>(
     ensures attempts { (events : List (Event P.Own)) × Attempts bound.now (G.there guard.old) (P.makes op.old) result events × Effects events (λ xs. P.did op.old xs op.new) (λ xs. G.held guard.old xs guard.new) (clocked C.Clock clock.old) (clocked C.Clock clock.new) (λ ws. Drawn next_u64 (R.stream rng.old) ws (R.stream rng.new)) }
     ensures there { G.there guard.new ≡ G.there guard.old }
     ensures shows { (count : ℕ) → result ≡ Outcome.Exhausted count → G.shows guard.new count }
+    ensures shown { (good : P.Good) → result ≡ Outcome.Good good → P.shown op.new good }
 {
     let limit = bound.timeout_ms.unwrap_or(0);
     match &bound.retry {
@@ -69,6 +70,7 @@ fn run_with<P: Operation, G: Guard, C: Clock, R: Rng, W: Wait>(
     ensures attempts { (events : List (Event P.Own)) × Attempted (Some policy.now) (G.there guard.old) (P.makes op.old limit) result events × Effects events (λ xs. P.did op.old xs op.new) (λ xs. G.held guard.old xs guard.new) (clocked C.Clock clock.old) (clocked C.Clock clock.new) (λ ws. Drawn next_u64 (R.stream rng.old) ws (R.stream rng.new)) }
     ensures there { G.there guard.new ≡ G.there guard.old }
     ensures shows { (count : ℕ) → result ≡ Outcome.Exhausted count → G.shows guard.new count }
+    ensures shown { (good : P.Good) → result ≡ Outcome.Good good → P.shown op.new good }
 {
     let mut run = RetryRun::start(policy);
     for _ in rt.forever() {

@@ -44,6 +44,7 @@ pub(crate) fn turn<P: Operation, G: Guard, C: Clock, W: Wait>(
     ensures turn { (events : List (Event P.Own)) × TurnsTo (G.there guard.old) (P.makes op.old limit) result events × Effects events (λ xs. P.did op.old xs op.new) (λ xs. G.held guard.old xs guard.new) (clocked C.Clock clock.old) (clocked C.Clock clock.new) (λ xs. xs ≡ []) }
     ensures there { G.there guard.new ≡ G.there guard.old }
     ensures shows { (count : ℕ) → result ≡ Turned.Ended (Outcome.Exhausted count) → G.shows guard.new count }
+    ensures shown { (good : P.Good) → result ≡ Turned.Ended (Outcome.Good good) → P.shown op.new good }
 {
     match admit::<P, G, C, W>(rt, guard, clock) {
         Admission::LetThrough { generation } => attempt(rt, limit, generation, guard, op, clock),
@@ -100,6 +101,7 @@ fn attempt<P: Operation, G: Guard, C: Clock, W: Wait>(
     ensures rest { (made report : List (Event P.Own)) × (answer : Attempt P.Good P.Bad) × P.makes op.old limit answer made × IsRest (G.there guard.old) generation answer result report × Effects (made ++ report) (λ xs. P.did op.old xs op.new) (λ xs. G.held guard.old xs guard.new) (clocked C.Clock clock.old) (clocked C.Clock clock.new) (λ xs. xs ≡ []) }
     ensures there { G.there guard.new ≡ G.there guard.old }
     ensures shows { (count : ℕ) → result ≡ Turned.Ended (Outcome.Exhausted count) → G.shows guard.new count }
+    ensures shown { (good : P.Good) → result ≡ Turned.Ended (Outcome.Good good) → P.shown op.new good }
 {
     let answer = op.attempt(rt, limit, clock);
     match report::<P, G, C, W>(rt, generation, is_good(&answer), guard, clock) {

@@ -1,0 +1,4 @@
+pub mod Moment
+pub mod Call
+pub mod Ran
+pub mod Response

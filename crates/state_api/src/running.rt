@@ -1,0 +1,74 @@
+ghost use Rattle.std.specs.Prelude.{◌≡◌, ℕ, List, Err, Some, is_some, ◌⊎◌};
+ghost use Rattle.rand_core.specs.Stream.{next_u64};
+ghost use Rattle.side_world.specs.Moments.{Drawn};
+ghost use Rattle.retry_core.specs.Bound.{IsWithinLimit};
+ghost use Rattle.turn_cell.specs.Sitting.{IsSeatOf};
+ghost use Rattle.turn_cell.specs.Growth.{Grew};
+ghost use Rattle.state_core.specs.History.{Step};
+ghost use Rattle.state_core.specs.Taken.{IsTaken};
+ghost use Rattle.policy_run.specs.Event.{Event};
+ghost use Rattle.policy_run.specs.Effects.{Effects, clocked};
+ghost use Rattle.policy_run.specs.Attempts.{Attempts};
+ghost use Rattle.policy_run.specs.declared.outcome.Outcome.{Outcome as OutcomeOf};
+ghost use Rattle.state_api.specs.declared.call.StateAnswer.{StateAnswer as AnswerData};
+ghost use Rattle.state_api.specs.Moment.{IsSame};
+ghost use Rattle.state_api.specs.Call.{Makes};
+ghost use Rattle.state_api.specs.Ran.{ran_of};
+
+use crate::{StateAnswer, StoreCall};
+use keeper_core::Keeper;
+use policy_run::{Guard, Outcome, Refusal, run_call};
+use rand_core::Rng;
+use retry_core::Bound;
+use side_world::Clock;
+use state_core::{Cmd, Reply, Store};
+use std::sync::Wait;
+use turn_cell::{ApiErr, Object, Seat, TurnCell};
+
+/// What a state call came to.
+#[derive(Debug, Drop)]
+pub enum Ran {
+    /// The store's last reply.
+    Replied(Reply),
+    /// The breaker did not let an attempt through.
+    Refused(Refusal),
+}
+
+/// Gives a command to a store under the policies that are bound to it: each attempt is one step of the store, at the moment of the
+/// clock, and fails exactly where the store answers that its keeper failed. The command is left at the moment of the last attempt.
+pub fn run<K: Keeper, G: Guard, C: Clock, R: Rng, W: Wait>(
+    rt: &W,
+    cmd: &mut Cmd,
+    cell: &TurnCell<Store<K>>,
+    seat: &mut Seat<Store<K>>,
+    bound: &Bound,
+    guard: &mut G,
+    clock: &mut C,
+    rng: &mut R,
+) -> Result<Ran, ApiErr>
+    requires limits { IsWithinLimit bound.now }
+    requires seat { IsSeatOf cell.now seat.old }
+    requires taken { IsTaken cmd.old }
+    requires guard { G.ready guard.old }
+    ensures ran { (events : List (Event Step)) × (outcome : OutcomeOf AnswerData (Unit {0})) × Attempts bound.now (G.there guard.old) (λ limit. Makes cmd.old) outcome events × (result ≡ ran_of outcome) × Effects events (λ xs. Grew ⟦<Store<K> as Object>⟧ cell.now.first seat.old xs seat.new) (λ xs. G.held guard.old xs guard.new) (clocked C.Clock clock.old) (clocked C.Clock clock.new) (λ ws. Drawn next_u64 (R.stream rng.old) ws (R.stream rng.new)) }
+    ensures same { IsSame cmd.old cmd.new }
+    ensures there { G.there guard.new ≡ G.there guard.old }
+    ensures shows { (count : ℕ) → result ≡ Err (ApiErr.Exhausted count) → G.shows guard.new count ⊎ (seat.new.count ≡ Some count) }
+{
+    let mut call = StoreCall { cell, seat, cmd };
+    ran_of(run_call(rt, bound, guard, &mut call, clock, rng))
+}
+
+/// What an outcome is as an answer.
+fn ran_of(outcome: Outcome<StateAnswer, ()>) -> Result<Ran, ApiErr>
+    ensures { result ≡ ran_of outcome }
+{
+    match outcome {
+        Outcome::Good(StateAnswer::Replied(reply)) => Ok(Ran::Replied(reply)),
+        Outcome::Good(StateAnswer::Exhausted { count }) => Err(ApiErr::Exhausted { count }),
+        Outcome::Bad(()) => Ok(Ran::Replied(Reply::Failed)),
+        Outcome::Refused(refusal) => Ok(Ran::Refused(refusal)),
+        Outcome::Exhausted { count } => Err(ApiErr::Exhausted { count }),
+        Outcome::NoMemory => Err(ApiErr::NoMemory),
+    }
+}
