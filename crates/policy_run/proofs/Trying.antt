@@ -100,11 +100,11 @@ module _ {E G B : Type 0} (there : Bool) (makes : Attempt G B → List (Event E)
   only_turn (Ended NoMemory) turn h = h
 
 module _ {E G B : Type 0} (there : Bool) (makes : ℕ → Attempt G B → List (Event E) → Type 0) (limit taken : ℕ) (same : taken ≡ limit) where
-  pub once : (retry : Option RetryPolicy) (did : List E → Type 0) (held : List Step → Type 0) (clock clock' : Clocked) (drawn : List ℕ → Type 0) (turned : Turned G B) (outcome : Outcome G B) → retry ≡ None → drawn [] → outcome ≡ last_outcome turned
-      → ((turn : List (Event E)) × TurnsTo there (makes taken) turned turn × Effects turn did held clock clock' (λ xs. xs ≡ []))
+  pub once : (there' : Bool) (retry : Option RetryPolicy) (did : List E → Type 0) (held : List Step → Type 0) (clock clock' : Clocked) (drawn : List ℕ → Type 0) (turned : Turned G B) (outcome : Outcome G B) → there' ≡ there → retry ≡ None → drawn [] → outcome ≡ last_outcome turned
+      → ((turn : List (Event E)) × TurnsTo there' (makes taken) turned turn × Effects turn did held clock clock' (λ xs. xs ≡ []))
       → (events : List (Event E)) × Attempted retry there (makes limit) outcome events × Effects events did held clock clock' drawn
-  once retry did held clock clock' drawn turned outcome none-is none-drawn is t = (
+  once there' retry did held clock clock' drawn turned outcome same-there none-is none-drawn is t = (
     t.0,
-    subst (λ z. Attempted z there (makes limit) outcome t.0) (sym none-is) (subst (λ z. Attempted None there (makes limit) z t.0) (sym is) (record { words = []; before = []; last = t.0; tried = refl; ends = only_turn there (makes limit) turned t.0 (subst (λ n. TurnsTo there (makes n) turned t.0) same t.1); whole = refl })),
+    subst (λ z. Attempted z there (makes limit) outcome t.0) (sym none-is) (subst (λ z. Attempted None there (makes limit) z t.0) (sym is) (record { words = []; before = []; last = t.0; tried = refl; ends = only_turn there (makes limit) turned t.0 (subst (λ n. TurnsTo there (makes n) turned t.0) same (subst (λ b. TurnsTo b (makes taken) turned t.0) same-there t.1)); whole = refl })),
     record { owned = t.2.owned; guards = t.2.guards; times = t.2.times; pauses = t.2.pauses; words = subst drawn (sym t.2.words) none-drawn },
   )

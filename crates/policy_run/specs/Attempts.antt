@@ -1,5 +1,5 @@
 -- The attempts of a call under a policy, turn by turn.
-use Rattle.std.specs.Prelude.{◌≡◌, ℕ, Bool, true, false, List, [], ◌∷◌, ◌++◌, Option, Some, None, unwrap_or}
+use Rattle.std.specs.Prelude.{◌≡◌, ℕ, Bool, true, false, List, [], ◌∷◌, ◌++◌, Option, Some, None, unwrap_or, is_some}
 use Rattle.retry_core.specs.declared.policy.Bound.{Bound}
 use Rattle.retry_core.specs.declared.policy.RetryPolicy.{RetryPolicy}
 use Rattle.retry_core.specs.RetryRun.{Run, run_after}
@@ -77,6 +77,6 @@ pub record Attempted {E G B : Type 0} (retry : Option RetryPolicy) (there : Bool
   pub ends : Ends there makes retry words outcome last
   pub whole : events ≡ before ++ last
 
--- A call under what is bound to its target. `makes` is what an attempt with a limit and an answer does
-abbrev pub Attempts : {E G B : Type 0} → Bound → Bool → (ℕ → Attempt G B → List (Event E) → Type 0) → Outcome G B → List (Event E) → Type 0
-Attempts bound there makes outcome events = Attempted bound.retry there (makes (limit_of bound)) outcome events
+-- A call under what is bound to its target; a breaker guards it exactly where one is bound. `makes` is what an attempt with a limit and an answer does
+abbrev pub Attempts : {E G B : Type 0} → Bound → (ℕ → Attempt G B → List (Event E) → Type 0) → Outcome G B → List (Event E) → Type 0
+Attempts bound makes outcome events = Attempted bound.retry (is_some bound.breaker) (makes (limit_of bound)) outcome events

@@ -1,4 +1,4 @@
-ghost use Rattle.std.specs.Prelude.{◌≡◌, ℕ, List, [], Some};
+ghost use Rattle.std.specs.Prelude.{◌≡◌, ℕ, List, [], Some, is_some};
 ghost use Rattle.retry_core.specs.Bound.{IsWithinLimit};
 ghost use Rattle.retry_core.specs.RetryPolicy.{IsWithinLimit as IsRetryWithinLimit};
 ghost use Rattle.retry_core.specs.RetryRun.{run_after};
@@ -19,7 +19,7 @@ use std::sync::Wait;
 /// Makes attempts of `op` until one ends the call, as the policies that are bound say (Dapr's resiliency policies): each is let
 /// through by the breaker, if there is one, made, and reported to it.
 ///
-/// After a failing attempt under a retry policy one random word is drawn, which decides how long to wait before the next one;
+/// The guard has a breaker exactly where one is bound. After a failing attempt under a retry policy one random word is drawn, which decides how long to wait before the next one;
 /// without such a policy, or where it gives up, the call ends with the last failing answer.
 pub fn run_call<P: Operation, G: Guard, C: Clock, R: Rng, W: Wait>(
     rt: &W,
@@ -30,9 +30,10 @@ pub fn run_call<P: Operation, G: Guard, C: Clock, R: Rng, W: Wait>(
     rng: &mut R,
 ) -> Outcome<P::Good, P::Bad>
     requires limits { IsWithinLimit bound.now }
+    requires breaker { G.there guard.old ≡ is_some bound.now.breaker }
     requires guard { G.ready guard.old }
     requires op { P.ready op.old }
-    ensures attempts { (events : List (Event P.Own)) × Attempts bound.now (G.there guard.old) (P.makes op.old) result events × Effects events (λ xs. P.did op.old xs op.new) (λ xs. G.held guard.old xs guard.new) (clocked C.Clock clock.old) (clocked C.Clock clock.new) (λ ws. Drawn next_u64 (R.stream rng.old) ws (R.stream rng.new)) }
+    ensures attempts { (events : List (Event P.Own)) × Attempts bound.now (P.makes op.old) result events × Effects events (λ xs. P.did op.old xs op.new) (λ xs. G.held guard.old xs guard.new) (clocked C.Clock clock.old) (clocked C.Clock clock.new) (λ ws. Drawn next_u64 (R.stream rng.old) ws (R.stream rng.new)) }
     ensures there { G.there guard.new ≡ G.there guard.old }
     ensures shows { (count : ℕ) → result ≡ Outcome.Exhausted count → G.shows guard.new count }
     ensures shown { (good : P.Good) → result ≡ Outcome.Good good → P.shown op.new good }

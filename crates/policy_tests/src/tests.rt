@@ -1,3 +1,4 @@
+ghost use Rattle.std.specs.Prelude.{◌≡◌, true, is_some, OnOk};
 ghost use Rattle.turn_cell.specs.Sitting.{IsSeatOf};
 ghost use Rattle.retry_core.specs.Bound.{IsWithinLimit};
 
@@ -10,6 +11,7 @@ use retry_core::{Bound, BreakerPolicy, RetryKind, RetryPolicy, trip_of};
 use side_base::{Moment, Sequence};
 use side_memory::MemoryClock;
 use side_world::Clock;
+use std::process::Abort;
 use std::sync::Wait;
 use std::test::Fail;
 use turn_cell::{Seat, TurnCell};
@@ -33,16 +35,44 @@ fn refused(refusal: Refusal) -> (u8, u64) {
     }
 }
 
-const CONSTANT: RetryKind = RetryKind::Constant { duration_ms: 100 };
+/// How long a call waits before it is made again.
+#[derive(Clone, Copy)]
+enum Waits {
+    /// It isn't made again.
+    Never,
+    /// 100 ms each.
+    Constant,
+    /// 1 ms each, whatever the random word: at least 1, and at most the greatest wait.
+    Shortest,
+}
 
-/// Each wait of it is 1 ms, whatever the random word: at least 1, and at most this.
-const SHORTEST: RetryKind = RetryKind::Exponential { max_interval_ms: 1 };
+fn bound_of(waits: Waits, max_retries: Option<u32>, breaker: Option<u32>) -> Bound
+    ensures limits { IsWithinLimit result }
+    ensures breaker { result.breaker ≡ breaker }
+{
+    let kind = match waits {
+        Waits::Never => {
+            return Bound {
+                timeout_ms: None,
+                retry: None,
+                breaker,
+            };
+        }
+        Waits::Constant => RetryKind::Constant { duration_ms: 100 },
+        Waits::Shortest => RetryKind::Exponential { max_interval_ms: 1 },
+    };
+    Bound {
+        timeout_ms: None,
+        retry: Some(RetryPolicy { kind, max_retries }),
+        breaker,
+    }
+}
 
 /// A call without a breaker: the policy, if there is one, and what the attempts answer; then how it ended, how many attempts were
 /// made, for how many milliseconds the clock was paused, and how many random words were drawn.
 #[derive(Clone, Copy)]
 struct Case {
-    kind: Option<RetryKind>,
+    waits: Waits,
     max_retries: Option<u32>,
     answers: &'static [u8],
     ended: (u8, u64),
@@ -53,7 +83,7 @@ struct Case {
 
 const CASES: [Case; 11] = [
     Case {
-        kind: None,
+        waits: Waits::Never,
         max_retries: None,
         answers: b"g",
         ended: (b'g', 1),
@@ -62,7 +92,7 @@ const CASES: [Case; 11] = [
         words: 0,
     },
     Case {
-        kind: None,
+        waits: Waits::Never,
         max_retries: None,
         answers: b"bg",
         ended: (b'b', 1),
@@ -71,7 +101,7 @@ const CASES: [Case; 11] = [
         words: 0,
     },
     Case {
-        kind: None,
+        waits: Waits::Never,
         max_retries: None,
         answers: b"m",
         ended: (b'm', 0),
@@ -80,7 +110,7 @@ const CASES: [Case; 11] = [
         words: 0,
     },
     Case {
-        kind: Some(CONSTANT),
+        waits: Waits::Constant,
         max_retries: None,
         answers: b"g",
         ended: (b'g', 1),
@@ -89,7 +119,7 @@ const CASES: [Case; 11] = [
         words: 0,
     },
     Case {
-        kind: Some(CONSTANT),
+        waits: Waits::Constant,
         max_retries: None,
         answers: b"bbg",
         ended: (b'g', 3),
@@ -98,7 +128,7 @@ const CASES: [Case; 11] = [
         words: 2,
     },
     Case {
-        kind: Some(CONSTANT),
+        waits: Waits::Constant,
         max_retries: Some(2),
         answers: b"bbbg",
         ended: (b'b', 3),
@@ -107,7 +137,7 @@ const CASES: [Case; 11] = [
         words: 3,
     },
     Case {
-        kind: Some(CONSTANT),
+        waits: Waits::Constant,
         max_retries: Some(0),
         answers: b"bg",
         ended: (b'b', 1),
@@ -116,7 +146,7 @@ const CASES: [Case; 11] = [
         words: 1,
     },
     Case {
-        kind: Some(CONSTANT),
+        waits: Waits::Constant,
         max_retries: Some(2),
         answers: b"bbg",
         ended: (b'g', 3),
@@ -125,7 +155,7 @@ const CASES: [Case; 11] = [
         words: 2,
     },
     Case {
-        kind: Some(CONSTANT),
+        waits: Waits::Constant,
         max_retries: Some(5),
         answers: b"bm",
         ended: (b'm', 0),
@@ -134,7 +164,7 @@ const CASES: [Case; 11] = [
         words: 1,
     },
     Case {
-        kind: Some(SHORTEST),
+        waits: Waits::Shortest,
         max_retries: None,
         answers: b"bbbg",
         ended: (b'g', 4),
@@ -143,7 +173,7 @@ const CASES: [Case; 11] = [
         words: 3,
     },
     Case {
-        kind: Some(SHORTEST),
+        waits: Waits::Shortest,
         max_retries: Some(1),
         answers: b"bbg",
         ended: (b'b', 2),
@@ -156,11 +186,7 @@ const CASES: [Case; 11] = [
 #[test]
 fn attempts_follow_the_policy(rt: HostRuntime) -> Result<(), Fail> {
     for case in CASES {
-        let bound = Bound {
-            timeout_ms: None,
-            retry: retry_of(case.kind, case.max_retries),
-            breaker: None,
-        };
+        let bound = bound_of(case.waits, case.max_retries, None);
         let mut script = Script::new(case.answers);
         let mut clock = MemoryClock::new(moment(0)?, Sequence::new(rt.alloc()));
         let mut words = Pcg64::seed_from_u64(7);
@@ -180,10 +206,6 @@ fn attempts_follow_the_policy(rt: HostRuntime) -> Result<(), Fail> {
     Ok(())
 }
 
-fn retry_of(kind: Option<RetryKind>, max_retries: Option<u32>) -> Option<RetryPolicy> {
-    kind.map(|kind| RetryPolicy { kind, max_retries })
-}
-
 fn moment(ms: u64) -> Result<Moment, Fail> {
     Ok(Moment::at(ms).ok_or("no moment")?)
 }
@@ -201,11 +223,7 @@ const FAILING: [u8; 5000] = [b'b'; 5000];
 
 #[test]
 fn every_policy_gives_up_after_4096_attempts(rt: HostRuntime) -> Result<(), Fail> {
-    let bound = Bound {
-        timeout_ms: None,
-        retry: retry_of(Some(SHORTEST), None),
-        breaker: None,
-    };
+    let bound = bound_of(Waits::Shortest, None, None);
     let mut script = Script::new(&FAILING);
     let mut clock = MemoryClock::new(moment(0)?, Sequence::new(rt.alloc()));
     let mut words = Pcg64::seed_from_u64(7);
@@ -296,28 +314,13 @@ fn a_breaker_is_asked_and_told(rt: HostRuntime) -> Result<(), Fail> {
         timeout_ms: 45_000,
         trip: trip_of(b"consecutiveFailures > 1")?,
     };
-    let bound = Bound {
-        timeout_ms: None,
-        retry: retry_of(Some(CONSTANT), Some(5)),
-        breaker: Some(0),
-    };
+    let bound = bound_of(Waits::Constant, Some(5), Some(0));
     let (cell, mut seat) = TurnCell::start(rt.alloc(), Breaker::new(&policy))?;
     let mut clock = MemoryClock::new(moment(0)?, Sequence::new(rt.alloc()));
     let mut words = Pcg64::seed_from_u64(7);
-    for case in GUARDED {
-        clock.pause(case.before);
-        let (ended, made) = call_guarded(
-            &rt,
-            &cell,
-            &mut seat,
-            &bound,
-            case.answers,
-            &mut clock,
-            &mut words,
-        );
-        assert_eq!(rt; ended, case.ended);
-        assert_eq!(rt; made, case.made);
-    }
+    make_calls(
+        &rt, &cell, &mut seat, &bound, &mut clock, &mut words, &GUARDED,
+    )?;
     let now = clock.now();
     // The breaker closed again; it opens by two failing calls, and lets one attempt through behind its last moment.
     let (ended, _) = call_guarded(&rt, &cell, &mut seat, &bound, b"bb", &mut clock, &mut words);
@@ -343,10 +346,35 @@ fn call_guarded<W: Wait>(
 ) -> ((u8, u64), usize)
     requires seat { IsSeatOf cell.now seat.old }
     requires limits { IsWithinLimit bound.now }
+    requires breaker { is_some bound.now.breaker ≡ true }
     ensures { IsSeatOf cell.now seat.new }
 {
     let mut script = Script::new(answers);
     let mut guard = BreakerAt { cell, seat };
     let outcome = run_call(rt, bound, &mut guard, &mut script, clock, words);
     (told(&outcome), script.made())
+}
+
+// The calls, one after the other.
+fn make_calls<W: Wait + Abort>(
+    rt: &W,
+    cell: &TurnCell<Breaker>,
+    seat: &mut Seat<Breaker>,
+    bound: &Bound,
+    clock: &mut MemoryClock,
+    words: &mut Pcg64,
+    calls: &[Guarded],
+) -> Result<(), Fail>
+    requires seat { IsSeatOf cell.now seat.old }
+    requires limits { IsWithinLimit bound.now }
+    requires breaker { is_some bound.now.breaker ≡ true }
+    ensures { OnOk result (IsSeatOf cell.now seat.new) }
+{
+    for call in calls {
+        clock.pause(call.before);
+        let (ended, made) = call_guarded(rt, cell, seat, bound, call.answers, clock, words);
+        assert_eq!(rt; ended, call.ended);
+        assert_eq!(rt; made, call.made);
+    }
+    Ok(())
 }

@@ -1,3 +1,5 @@
+pub mod Answered
 pub mod Attempted
+pub mod Cut
 pub mod Failing
 pub mod Joined

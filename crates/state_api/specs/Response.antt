@@ -95,13 +95,14 @@ response_to cmd Committed = done
 response_to cmd Failed = error_response 500 (code_of cmd) (codes "store failed")
 response_to cmd (Full len) = error_response 500 (code_of cmd) (codes "store full at " ++ decimal len)
 response_to cmd (Spent next) = error_response 500 (code_of cmd) (codes "versions spent at " ++ decimal next)
-response_to cmd NoMemory = error_response 503 code.NoMemory (codes "no memory")
+-- not asked for: a call that found no memory has no response of its own
+response_to cmd NoMemory = done
 
 abbrev pub response_of : Cmd → Ran → Response
 response_of cmd (Replied reply) = response_to cmd reply
 response_of cmd (Refused refusal) = error_response 500 (code_of cmd) (refusal_text refusal)
 
--- a bulk get's rows have keys whose first `skip` bytes end where a character does
-abbrev pub AreCut : ℕ → Ran → Type 0
-AreCut skip (Replied (Rows rows)) = All (λ row. IsCharBoundary row.key skip) rows
-AreCut skip other = Unit {0}
+-- of a bulk get the first `skip` bytes of each key end where a character does
+abbrev pub IsCut : Cmd → Type 0
+IsCut (Bulk keys skip now) = All (λ key. IsCharBoundary key skip) keys
+IsCut other = Unit {0}

@@ -1,7 +1,8 @@
 ghost use Rattle.std.specs.Prelude.{◌≡◌, ◌++◌, ◌∷◌, [], ℕ, List, map, codes, decimal, IfOk, OnOk, All, Some};
 ghost use Rattle.std.specs.Str.{IsCharBoundary};
 ghost use Rattle.api_error.specs.Body.{error_response, json_type};
-ghost use Rattle.state_api.specs.Response.{AreCut, bulk_text, code_of, done, etag_field, found_text, joined, json, mismatch_text, next_text, refusal_text, response_of, response_to, row_text, skip_of};
+ghost use Rattle.state_api.specs.Ran.{IsAnswer};
+ghost use Rattle.state_api.specs.Response.{IsCut, bulk_text, code_of, done, etag_field, found_text, joined, json, mismatch_text, next_text, refusal_text, response_of, response_to, row_text, skip_of};
 
 use crate::Ran;
 use api_error::{Code, error_response, json_fields};
@@ -14,9 +15,11 @@ use std::alloc::Global;
 
 /// The response to what a command came to. What the reply owns moves into it.
 ///
-/// Of a bulk get the key of each row must have a character's end, or its own, behind its first `skip` bytes.
+/// The reply is one that the command may have, and no want of memory. Of a bulk get each key has a character's end, or its own, behind its
+/// first `skip` bytes.
 pub fn response(alloc: Global, cmd: &Cmd, ran: Ran) -> Result<Response, NoMemory>
-    requires { AreCut (skip_of cmd.now) ran }
+    requires answer { IsAnswer cmd.now ran }
+    requires cut { IsCut cmd.now }
     ensures { IfOk result (λ response. response ≡ response_of cmd.now ran) }
 {
     match ran {
@@ -27,7 +30,8 @@ pub fn response(alloc: Global, cmd: &Cmd, ran: Ran) -> Result<Response, NoMemory
 
 /// The response to a store's reply.
 fn response_to(alloc: Global, cmd: &Cmd, reply: Reply) -> Result<Response, NoMemory>
-    requires { AreCut (skip_of cmd.now) (Ran.Replied reply) }
+    requires answer { IsAnswer cmd.now (Ran.Replied reply) }
+    requires cut { IsCut cmd.now }
     ensures { IfOk result (λ response. response ≡ response_to cmd.now reply) }
 {
     let code = code_of(cmd);
@@ -41,7 +45,7 @@ fn response_to(alloc: Global, cmd: &Cmd, reply: Reply) -> Result<Response, NoMem
         Reply::Failed => error_response(alloc, 500, code, "store failed"),
         Reply::Full { len } => numbered(alloc, 500, code, "store full at ", len),
         Reply::Spent { next } => numbered(alloc, 500, code, "versions spent at ", next),
-        Reply::NoMemory => error_response(alloc, 503, Code::NoMemory, "no memory"),
+        Reply::NoMemory => unreachable!(),
     }
 }
 

@@ -1,4 +1,4 @@
-ghost use Rattle.std.specs.Prelude.{◌≡◌, ℕ, List, Err, Some, is_some, ◌⊎◌};
+ghost use Rattle.std.specs.Prelude.{◌≡◌, ℕ, List, Err, Some, is_some, IfOk, ◌⊎◌};
 ghost use Rattle.rand_core.specs.Stream.{next_u64};
 ghost use Rattle.side_world.specs.Moments.{Drawn};
 ghost use Rattle.retry_core.specs.Bound.{IsWithinLimit};
@@ -13,7 +13,7 @@ ghost use Rattle.policy_run.specs.declared.outcome.Outcome.{Outcome as OutcomeOf
 ghost use Rattle.state_api.specs.declared.call.StateAnswer.{StateAnswer as AnswerData};
 ghost use Rattle.state_api.specs.Moment.{IsSame};
 ghost use Rattle.state_api.specs.Call.{Makes};
-ghost use Rattle.state_api.specs.Ran.{ran_of};
+ghost use Rattle.state_api.specs.Ran.{ran_of, IsAnswer};
 
 use crate::{StateAnswer, StoreCall};
 use keeper_core::Keeper;
@@ -47,10 +47,12 @@ pub fn run<K: Keeper, G: Guard, C: Clock, R: Rng, W: Wait>(
     rng: &mut R,
 ) -> Result<Ran, ApiErr>
     requires limits { IsWithinLimit bound.now }
+    requires breaker { G.there guard.old ≡ is_some bound.now.breaker }
     requires seat { IsSeatOf cell.now seat.old }
     requires taken { IsTaken cmd.old }
     requires guard { G.ready guard.old }
-    ensures ran { (events : List (Event Step)) × (outcome : OutcomeOf AnswerData (Unit {0})) × Attempts bound.now (G.there guard.old) (λ limit. Makes cmd.old) outcome events × (result ≡ ran_of outcome) × Effects events (λ xs. Grew ⟦<Store<K> as Object>⟧ cell.now.first seat.old xs seat.new) (λ xs. G.held guard.old xs guard.new) (clocked C.Clock clock.old) (clocked C.Clock clock.new) (λ ws. Drawn next_u64 (R.stream rng.old) ws (R.stream rng.new)) }
+    ensures ran { (events : List (Event Step)) × (outcome : OutcomeOf AnswerData (Unit {0})) × Attempts bound.now (λ limit. Makes cmd.old) outcome events × (result ≡ ran_of outcome) × Effects events (λ xs. Grew ⟦<Store<K> as Object>⟧ cell.now.first seat.old xs seat.new) (λ xs. G.held guard.old xs guard.new) (clocked C.Clock clock.old) (clocked C.Clock clock.new) (λ ws. Drawn next_u64 (R.stream rng.old) ws (R.stream rng.new)) }
+    ensures answer { IfOk result (IsAnswer cmd.old) }
     ensures same { IsSame cmd.old cmd.new }
     ensures there { G.there guard.new ≡ G.there guard.old }
     ensures shows { (count : ℕ) → result ≡ Err (ApiErr.Exhausted count) → G.shows guard.new count ⊎ (seat.new.count ≡ Some count) }

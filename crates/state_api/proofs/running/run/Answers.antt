@@ -1,4 +1,5 @@
 use Rattle.std.proofs.Common.{rules}
+use Rattle.state_api.proofs.Answered.{answer_fits}
 use Rattle.state_api.proofs.Attempted.{shows_count}
 use Rattle.state_api.proofs.running.run.Goals as goal
 
@@ -9,3 +10,6 @@ returns-clause-ran g c = let e = c.run_call.ensures.attempts in let own = e.2.ow
 pub returns-clause-shows : goal.returns-clause-shows
 returns-clause-shows g c = let e = c.run_call.ensures.attempts in let own = e.2.owned in let place = own.same_seat in
     shows_count _ c.run_call.new.op.seat.now.count (g.G.Guard.shows c.run_call.new.guard) c.run_call.result c.ran_of.result c.ran_of.ensures (search rules) c.run_call.ensures.shown c.run_call.ensures.shows
+
+pub returns-clause-answer : goal.returns-clause-answer
+returns-clause-answer g c = let e = c.run_call.ensures.attempts in answer_fits _ _ c.args.cmd.now c.run_call.result e.0 c.ran_of.result e.1 c.ran_of.ensures
