@@ -1,14 +1,22 @@
 -- What steps of a breaker do to a guard that holds a seat of it.
-use Rattle.std.specs.Prelude.{◌≡◌, ℕ, List, [], ◌++◌, refl}
+use Rattle.std.specs.Prelude.{◌≡◌, ℕ, List, [], ◌++◌, Result, Ok, Err, refl}
 use Rattle.std.proofs.Common.{◌∙◌, subst, sym}
 use Rattle.breaker_core.specs.declared.breaker.Breaker.{Breaker}
 use Rattle.breaker_core.specs.declared.command.BreakerCmd.{BreakerCmd}
 use Rattle.breaker_core.specs.declared.command.BreakerReply.{BreakerReply}
 use Rattle.breaker_core.specs.Course.{Step}
+use Rattle.turn_cell.specs.declared.error.Exhausted.{Exhausted}
+use Rattle.policy_run.specs.declared.guard.Stepped.{Stepped}
+use Rattle.policy_run.specs.declared.guard.Stepped.TheVariants as stepped
 use Rattle.turn_cell.specs.declared.object.Object.{Ghosts}
 use Rattle.turn_cell.specs.Sitting.{Begun, Sitting, IsSeatOf}
 use Rattle.turn_cell.specs.Growth.{Grew}
 use Rattle.turn_cell.proofs.Growing.{grew_none, grew_more, still_of}
+
+-- what a call of the breaker's cell came to
+abbrev pub stepped_of : Result BreakerReply Exhausted → Stepped
+stepped_of (Ok reply) = stepped.Answered reply
+stepped_of (Err exhausted) = stepped.Exhausted exhausted.count
 
 -- the guard still holds the same seat of the same cell, and the seat made these steps
 pub record Kept (object : Ghosts Breaker BreakerCmd BreakerReply) (cell : Begun Breaker) (name : ℕ) (seat : Sitting Breaker BreakerCmd BreakerReply) (steps : List Step) (cell' : Begun Breaker) (name' : ℕ) (seat' : Sitting Breaker BreakerCmd BreakerReply) : Type 0 where

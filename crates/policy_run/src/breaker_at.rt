@@ -1,4 +1,7 @@
-use crate::Guard;
+ghost use Rattle.std.specs.Prelude.{◌≡◌};
+ghost use Rattle.policy_run.specs.BreakerAt.{stepped_of};
+
+use crate::{Guard, Stepped};
 use breaker_core::laws::replies_fit_their_commands;
 use breaker_core::{Breaker, BreakerCmd, BreakerReply};
 use std::sync::Wait;
@@ -28,9 +31,9 @@ impl Guard for BreakerAt<'_> {
         true
     }
 
-    fn step<W: Wait>(&mut self, rt: &W, cmd: &BreakerCmd) -> Result<BreakerReply, Exhausted> {
+    fn step<W: Wait>(&mut self, rt: &W, cmd: &BreakerCmd) -> Stepped {
         replies_fit_their_commands();
-        self.cell.call(rt, self.seat, cmd)
+        stepped_by(self.cell.call(rt, self.seat, cmd))
     }
 
     ghost none = { λ at _. kept_none ⟦<Breaker as Object>⟧ at.cell.now at.seat.ghost_name at.seat.now };
@@ -38,4 +41,14 @@ impl Guard for BreakerAt<'_> {
     ghost more = { λ a b c xs ys. kept_more ⟦<Breaker as Object>⟧ a.cell.now a.seat.ghost_name a.seat.now xs b.cell.now b.seat.ghost_name b.seat.now ys c.cell.now c.seat.ghost_name c.seat.now };
 
     ghost stays = { λ a b xs. kept_stays ⟦<Breaker as Object>⟧ a.cell.now a.seat.ghost_name a.seat.now xs b.cell.now b.seat.ghost_name b.seat.now };
+}
+
+/// What a call of the breaker's cell came to.
+fn stepped_by(answer: Result<BreakerReply, Exhausted>) -> Stepped
+    ensures { result ≡ stepped_of answer }
+{
+    match answer {
+        Ok(reply) => Stepped::Answered(reply),
+        Err(Exhausted { count }) => Stepped::Exhausted { count },
+    }
 }

@@ -1,10 +1,21 @@
 use breaker_core::{BreakerCmd, BreakerReply};
 use std::sync::Wait;
-use turn_cell::Exhausted;
+
+/// What came of a step of a breaker.
+#[derive(Clone, Copy, Debug, PartialEq, Eq)]
+pub enum Stepped {
+    /// There is no breaker.
+    NoBreaker,
+    /// The breaker's reply.
+    Answered(BreakerReply),
+    /// The breaker's cell has no ticket left; `count` was read in it, and its seat shows it.
+    Exhausted { count: u64 },
+}
 
 /// What stands before each attempt: a circuit breaker, or none.
 pub trait Guard {
-    ghost use Rattle.std.specs.Prelude.{◌≡◌, ℕ, Bool, true, List, [], ◌∷◌, ◌++◌, IfOk, IfErr};
+    ghost use Rattle.std.specs.Prelude.{◌≡◌, ℕ, Bool, false, List, [], ◌∷◌, ◌++◌};
+    ghost use Rattle.breaker_core.specs.declared.command.BreakerReply.{BreakerReply};
     ghost use Rattle.breaker_core.specs.Course.{Step};
     ghost use Rattle.policy_run.specs.Turn.{Answers};
 
@@ -24,13 +35,13 @@ pub trait Guard {
     fn is_there(&self) -> bool
         ensures { result ≡ there self.now };
 
-    /// One step of the breaker.
-    fn step<W: Wait>(&mut self, rt: &W, cmd: &BreakerCmd) -> Result<BreakerReply, Exhausted>
-        requires there { there self.old ≡ true }
-        requires ready { ready self.old }
-        ensures there { there self.new ≡ true }
-        ensures ok { IfOk result (λ reply. (step : Step) × Answers step cmd.now reply × held self.old (step ∷ []) self.new) }
-        ensures err { IfErr result (λ e. held self.old [] self.new × shows self.new e.count) };
+    /// One step of the breaker, if there is one.
+    fn step<W: Wait>(&mut self, rt: &W, cmd: &BreakerCmd) -> Stepped
+        requires { ready self.old }
+        ensures there { there self.new ≡ there self.old }
+        ensures none { result ≡ Stepped.NoBreaker → there self.old ≡ false }
+        ensures answered { (reply : BreakerReply) → result ≡ Stepped.Answered reply → (step : Step) × Answers step cmd.now reply × held self.old (step ∷ []) self.new }
+        ensures exhausted { (count : ℕ) → result ≡ Stepped.Exhausted count → held self.old [] self.new × shows self.new count };
 
     ghost none: { (a : Self) → ready a → held a [] a };
 
@@ -59,8 +70,8 @@ impl Guard for NoBreaker {
         false
     }
 
-    fn step<W: Wait>(&mut self, _rt: &W, _cmd: &BreakerCmd) -> Result<BreakerReply, Exhausted> {
-        unreachable!()
+    fn step<W: Wait>(&mut self, _rt: &W, _cmd: &BreakerCmd) -> Stepped {
+        Stepped::NoBreaker
     }
 
     ghost none = { λ _ _. refl };

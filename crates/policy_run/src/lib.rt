@@ -10,7 +10,7 @@ mod run;
 mod turn;
 
 pub use breaker_at::BreakerAt;
-pub use guard::{Guard, NoBreaker};
+pub use guard::{Guard, NoBreaker, Stepped};
 pub use operation::{Attempt, Operation};
 pub use outcome::{Outcome, Refusal};
 pub use run::run_call;

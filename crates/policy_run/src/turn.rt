@@ -7,7 +7,7 @@ ghost use Rattle.policy_run.specs.Effects.{Effects, clocked};
 ghost use Rattle.policy_run.specs.Turn.{IsAdmission, IsAdmittedBy, IsReport, is_good};
 ghost use Rattle.policy_run.specs.Attempts.{TurnsTo, IsRest, turned_by};
 
-use crate::{Attempt, Guard, Operation, Outcome, Refusal};
+use crate::{Attempt, Guard, Operation, Outcome, Refusal, Stepped};
 use breaker_core::{BreakerCmd, BreakerReply};
 use side_world::Clock;
 use std::sync::Wait;
@@ -69,8 +69,9 @@ fn admit<P: Operation, G: Guard, C: Clock, W: Wait>(
     }
     let now = clock.now();
     match guard.step(rt, &BreakerCmd::Admit { now }) {
-        Ok(reply) => admission_by(reply),
-        Err(Exhausted { count }) => Admission::Exhausted { count },
+        Stepped::Answered(reply) => admission_by(reply),
+        Stepped::Exhausted { count } => Admission::Exhausted { count },
+        Stepped::NoBreaker => unreachable!(),
     }
 }
 
@@ -157,7 +158,8 @@ fn report<P: Operation, G: Guard, C: Clock, W: Wait>(
             good,
         },
     ) {
-        Ok(_) => Ok(()),
-        Err(exhausted) => Err(exhausted),
+        Stepped::Answered(_) => Ok(()),
+        Stepped::Exhausted { count } => Err(Exhausted { count }),
+        Stepped::NoBreaker => unreachable!(),
     }
 }
