@@ -65,7 +65,7 @@ IsMark rest mark = (IsAsking rest × (mark ≡ continue_bytes)) ⊎ ((¬ IsAskin
 -- only the head of the response to a HEAD is sent
 abbrev pub is_head : Method → Bool
 is_head method.Head = true
-is_head other = false
+is_head _ = false
 
 -- an answered request; a response with which the session ends says so
 abbrev pub answer_bytes : {E : Type 0} → Exchanged E → List ℕ
