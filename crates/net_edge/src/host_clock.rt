@@ -1,4 +1,4 @@
-ghost use Rattle.std.specs.Prelude.{◌≡◌, IfOk};
+ghost use Rattle.std.specs.Prelude.{◌≡◌, None, IfOk};
 
 use side_base::{MOMENT_LIMIT, Moment};
 use side_world::Clock;
@@ -32,6 +32,8 @@ impl<R: time::Clock> Clock for HostClock<R> {
     ghost last = { λ c. c.last };
 
     ghost paused = { λ c. c.paused };
+
+    ghost ticks = { λ _. None };
 
     fn now(&mut self) -> Moment {
         if let Ok(moment) = host_moment(&self.rt) {

@@ -1,5 +1,5 @@
 -- What asking the breaker, and telling it, does.
-use Rattle.std.proofs.Common.{◌≡◌, ℕ, ◌≤◌, Bool, true, List, [], ◌∷◌, Ok, Err, refl, sym, subst, arith}
+use Rattle.std.proofs.Common.{◌≡◌, ℕ, Bool, true, List, [], ◌∷◌, Ok, Err, refl, sym, subst, arith}
 use Rattle.breaker_core.specs.declared.command.BreakerCmd.TheVariants.{Admit, Report}
 use Rattle.breaker_core.specs.declared.command.BreakerReply.{BreakerReply}
 use Rattle.breaker_core.specs.declared.command.BreakerReply.TheVariants.{Admitted, Opened, TooMany, Counted, Stale}
@@ -8,12 +8,8 @@ use Rattle.turn_cell.specs.declared.error.Exhausted.{Exhausted}
 use Rattle.policy_run.specs.declared.turn.Admission.{Admission}
 use Rattle.policy_run.specs.declared.turn.Admission.TheVariants as admission
 use Rattle.policy_run.specs.Event.{Event, guarded, moment}
-use Rattle.policy_run.specs.Effects.{Clocked, Effects}
+use Rattle.policy_run.specs.Effects.{Clocked, Effects, ReadsNow}
 use Rattle.policy_run.specs.Turn.{Answers, IsAdmittedBy, IsAdmission, IsReport}
-
--- the clock was read once, and told `now`
-abbrev pub ReadsNow : Clocked → ℕ → Clocked → Type 0
-ReadsNow clock now clock' = (clock.last ≤ clock'.last) × (now ≡ clock'.last) × (clock'.paused ≡ clock.paused)
 
 module _ (E : Type 0) (now : ℕ) where
   is_admission : (step : Step) (reply : BreakerReply) (a : Admission) → Answers step (Admit now) reply → IsAdmittedBy reply a → IsAdmission {E = E} true a (moment now ∷ guarded step ∷ [])
@@ -28,8 +24,9 @@ module _ {E : Type 0} (held : List Step → Type 0) (clock clock' : Clocked) (no
   asked_once step did = record {
     owned = refl;
     guards = did;
-    times = (omega (arith, reads.0, reads.1), omega (arith, reads.1));
-    pauses = (omega (arith, reads.2), λ below. omega (arith, reads.2));
+    times = (omega (arith, reads.later, reads.last), omega (arith, reads.last));
+    pauses = (omega (arith, reads.paused), omega (arith, reads.paused), λ below. omega (arith, reads.paused));
+    ticks = reads.ticks;
     words = refl;
   }
 
@@ -37,8 +34,9 @@ module _ {E : Type 0} (held : List Step → Type 0) (clock clock' : Clocked) (no
   looked did = record {
     owned = refl;
     guards = did;
-    times = (omega (arith, reads.0, reads.1), omega (arith, reads.1));
-    pauses = (omega (arith, reads.2), λ below. omega (arith, reads.2));
+    times = (omega (arith, reads.later, reads.last), omega (arith, reads.last));
+    pauses = (omega (arith, reads.paused), omega (arith, reads.paused), λ below. omega (arith, reads.paused));
+    ticks = reads.ticks;
     words = refl;
   }
 

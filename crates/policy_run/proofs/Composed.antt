@@ -5,8 +5,9 @@ use Rattle.std.proofs.lemmas.Grind.{flat_map-append}
 use Rattle.std.proofs.lemmas.List.Sums.{sum_by-append}
 use Rattle.breaker_core.specs.Course.{Step}
 use Rattle.side_world.specs.Moments.{Between, Rises}
-use Rattle.side_world.proofs.Composed.{between_on, rises_on}
-use Rattle.policy_run.specs.Event.{Event, own_of, step_of, word_of, moment_in, pause_of}
+use Rattle.side_world.specs.Told.{Tells}
+use Rattle.side_world.proofs.Composed.{between_on, rises_on, rises_nothing, tells_on, tells_nothing}
+use Rattle.policy_run.specs.Event.{Event, own_of, step_of, word_of, moment_in, pause_of, tick_of}
 use Rattle.policy_run.specs.Effects.{Clocked, Effects}
 
 module _ {E : Type 0} where
@@ -21,6 +22,7 @@ module _ {E : Type 0} where
     pauses = subst (λ ms. Rises clock.paused (sum_by (λ (n : ℕ). n) ms) clock'.paused) (sym (flat_map-append pause_of first second))
         (subst (λ n. Rises clock.paused n clock'.paused) (sym (sum_by-append (λ (n : ℕ). n) (flat_map pause_of first) (flat_map pause_of second)))
         (rises_on clock.paused (sum_by (λ (n : ℕ). n) (flat_map pause_of first)) between.paused (sum_by (λ (n : ℕ). n) (flat_map pause_of second)) clock'.paused e.pauses e'.pauses));
+    ticks = subst (λ ts. Tells clock.ticks clock'.ticks ts) (sym (flat_map-append tick_of first second)) (tells_on clock.ticks between.ticks clock'.ticks (flat_map tick_of first) (flat_map tick_of second) e.ticks e'.ticks);
     words = subst drawn-all (sym (flat_map-append word_of first second)) (drawn-on _ _ e.words e'.words);
   }
 
@@ -37,4 +39,4 @@ nothing_at_all xs ys none-first none-then = ap (λ l. l ++ ys) none-first ∙ no
 
 -- nothing was done
 pub no_effects : {E : Type 0} (did : List E → Type 0) (held : List Step → Type 0) (clock : Clocked) (drawn : List ℕ → Type 0) → did [] → held [] → drawn [] → Effects [] did held clock clock drawn
-no_effects did held clock drawn none-done none-held none-drawn = record { owned = none-done; guards = none-held; times = omega arith; pauses = (omega arith, λ below. omega arith); words = none-drawn }
+no_effects did held clock drawn none-done none-held none-drawn = record { owned = none-done; guards = none-held; times = omega arith; pauses = rises_nothing clock.paused; ticks = tells_nothing clock.ticks; words = none-drawn }

@@ -7,7 +7,9 @@ use Rattle.retry_core.specs.RetryRun.{Run, run_after}
 use Rattle.retry_core.specs.RetryPolicy.{decided}
 use Rattle.retry_core.specs.declared.run.Next.TheVariants.{GiveUp, Wait}
 use Rattle.side_world.specs.Moments.{Drawn, Rises}
-use Rattle.side_world.proofs.Composed.{drawn_on, drawn_one}
+use Rattle.side_world.specs.Told.{Tells}
+use Rattle.side_world.specs.declared.clock.Tick.TheVariants as tick
+use Rattle.side_world.proofs.Composed.{drawn_on, drawn_one, rises_nothing, tells_nothing}
 use Rattle.policy_run.specs.declared.operation.Attempt.{Attempt}
 use Rattle.policy_run.specs.declared.outcome.Outcome.{Outcome}
 use Rattle.policy_run.specs.declared.outcome.Outcome.TheVariants.{Good, Bad, Refused, Exhausted, NoMemory}
@@ -83,11 +85,11 @@ module _ {E : Type 0} (policy : RetryPolicy) (words : List ℕ) (run : Run) (clo
 module _ {E : Type 0} (policy : RetryPolicy) (words : List ℕ) (clock : Clocked) (stream stream' : Stream) (w : ℕ) (drawn : (w, stream') ≡ next_u64 stream) where
   pub gives_up : (run : Run) (attempts : ℕ) → decided policy (w ∷ words) ≡ GiveUp attempts
       → (after : List (Event E)) × Decides policy words false run after × Effects after (λ xs. xs ≡ []) (λ xs. xs ≡ []) clock clock (λ ws. Drawn next_u64 stream ws stream')
-  gives_up run attempts is = (word w ∷ [], (w, attempts, is, refl), record { owned = refl; guards = refl; times = omega arith; pauses = (omega arith, λ below. omega arith); words = drawn_one next_u64 stream stream' w drawn })
+  gives_up run attempts is = (word w ∷ [], (w, attempts, is, refl), record { owned = refl; guards = refl; times = omega arith; pauses = rises_nothing clock.paused; ticks = tells_nothing clock.ticks; words = drawn_one next_u64 stream stream' w drawn })
 
-  pub waits : (run : Run) (clock' : Clocked) (ms : ℕ) → decided policy (w ∷ words) ≡ Wait ms → run ≡ run_after policy (w ∷ words) → clock.last ≤ clock'.last → Rises clock.paused ms clock'.paused
+  pub waits : (run : Run) (clock' : Clocked) (ms : ℕ) → decided policy (w ∷ words) ≡ Wait ms → run ≡ run_after policy (w ∷ words) → clock.last ≤ clock'.last → Rises clock.paused ms clock'.paused → Tells clock.ticks clock'.ticks (tick.Paused ms ∷ [])
       → (after : List (Event E)) × Decides policy words true run after × Effects after (λ xs. xs ≡ []) (λ xs. xs ≡ []) clock clock' (λ ws. Drawn next_u64 stream ws stream')
-  waits run clock' ms is run-is later paused = (word w ∷ pause ms ∷ [], (w, ms, is, run-is, refl), record { owned = refl; guards = refl; times = later; pauses = (omega (arith, paused.0), λ below. omega (arith, paused.1 below)); words = drawn_one next_u64 stream stream' w drawn })
+  waits run clock' ms is run-is later paused ticks = (word w ∷ pause ms ∷ [], (w, ms, is, run-is, refl), record { owned = refl; guards = refl; times = later; pauses = (omega (arith, paused.0), omega (arith, paused.1), λ below. omega (arith, paused.2 below)); ticks = ticks; words = drawn_one next_u64 stream stream' w drawn })
 
 -- a call without a retry policy has one turn
 module _ {E G B : Type 0} (there : Bool) (makes : Attempt G B → List (Event E) → Type 0) where
@@ -106,5 +108,5 @@ module _ {E G B : Type 0} (there : Bool) (makes : ℕ → Attempt G B → List (
   once there' retry did held clock clock' drawn turned outcome same-there none-is none-drawn is t = (
     t.0,
     subst (λ z. Attempted z there (makes limit) outcome t.0) (sym none-is) (subst (λ z. Attempted None there (makes limit) z t.0) (sym is) (record { words = []; before = []; last = t.0; tried = refl; ends = only_turn there (makes limit) turned t.0 (subst (λ n. TurnsTo there (makes n) turned t.0) same (subst (λ b. TurnsTo b (makes taken) turned t.0) same-there t.1)); whole = refl })),
-    record { owned = t.2.owned; guards = t.2.guards; times = t.2.times; pauses = t.2.pauses; words = subst drawn (sym t.2.words) none-drawn },
+    record { owned = t.2.owned; guards = t.2.guards; times = t.2.times; pauses = t.2.pauses; ticks = t.2.ticks; words = subst drawn (sym t.2.words) none-drawn },
   )

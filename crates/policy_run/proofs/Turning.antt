@@ -59,7 +59,7 @@ module _ {E G B : Type 0} (there : Bool) (makes : Attempt G B → List (Event E)
   -- a turn whose breaker could not be asked, since its cell is exhausted
   pub not_asked : (count : ℕ) → did [] → ((events : List (Event E)) × IsAdmission there (admission.Exhausted count) events × Effects events (λ xs. xs ≡ []) held clock clock' (λ xs. xs ≡ []))
       → (events : List (Event E)) × (there ≡ true × CutOff makes events) × Effects events did held clock clock' (λ xs. xs ≡ [])
-  not_asked count none-done a = (a.0, (a.1.0, unasked a.1.1.0 a.1.1.1), record { owned = subst did (sym a.2.owned) none-done; guards = a.2.guards; times = a.2.times; pauses = a.2.pauses; words = a.2.words })
+  not_asked count none-done a = (a.0, (a.1.0, unasked a.1.1.0 a.1.1.1), record { owned = subst did (sym a.2.owned) none-done; guards = a.2.guards; times = a.2.times; pauses = a.2.pauses; ticks = a.2.ticks; words = a.2.words })
 
 -- what attempts do may be said of the operation as it was before
 module _ {E G B : Type 0} (there : Bool) (makes makes' : Attempt G B → List (Event E) → Type 0) (alike : (answer : Attempt G B) (events : List (Event E)) → makes' answer events → makes answer events) where

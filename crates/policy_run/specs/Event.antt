@@ -1,5 +1,7 @@
 -- What a call under a policy does, as a list of events in their order.
 use Rattle.std.specs.Prelude.{ℕ, List, [], ◌∷◌}
+use Rattle.side_world.specs.declared.clock.Tick.{Tick}
+use Rattle.side_world.specs.declared.clock.Tick.TheVariants as tick
 use Rattle.breaker_core.specs.Course.{Step}
 
 -- An event: what an attempt does of its own, of which nothing is known here; a step of the breaker; a random word that was drawn; a moment that
@@ -47,3 +49,11 @@ module _ {E : Type 0} where
   pause_of (word w) = []
   pause_of (moment m) = []
   pause_of (pause ms) = ms ∷ []
+
+  -- the calls of the clock
+  abbrev pub tick_of : Event E → List Tick
+  tick_of (own e) = []
+  tick_of (guarded step) = []
+  tick_of (word w) = []
+  tick_of (moment m) = tick.Read m ∷ []
+  tick_of (pause ms) = tick.Paused ms ∷ []

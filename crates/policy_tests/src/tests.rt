@@ -188,7 +188,7 @@ fn attempts_follow_the_policy(rt: HostRuntime) -> Result<(), Fail> {
     for case in CASES {
         let bound = bound_of(case.waits, case.max_retries, None);
         let mut script = Script::new(case.answers);
-        let mut clock = MemoryClock::new(moment(0)?, Sequence::new(rt.alloc()));
+        let mut clock = MemoryClock::new(rt.alloc(), moment(0)?, Sequence::new(rt.alloc()));
         let mut words = Pcg64::seed_from_u64(7);
         let outcome = run_call(
             &rt,
@@ -225,7 +225,7 @@ const FAILING: [u8; 5000] = [b'b'; 5000];
 fn every_policy_gives_up_after_4096_attempts(rt: HostRuntime) -> Result<(), Fail> {
     let bound = bound_of(Waits::Shortest, None, None);
     let mut script = Script::new(&FAILING);
-    let mut clock = MemoryClock::new(moment(0)?, Sequence::new(rt.alloc()));
+    let mut clock = MemoryClock::new(rt.alloc(), moment(0)?, Sequence::new(rt.alloc()));
     let mut words = Pcg64::seed_from_u64(7);
     let outcome = run_call(
         &rt,
@@ -316,7 +316,7 @@ fn a_breaker_is_asked_and_told(rt: HostRuntime) -> Result<(), Fail> {
     };
     let bound = bound_of(Waits::Constant, Some(5), Some(0));
     let (cell, mut seat) = TurnCell::start(rt.alloc(), Breaker::new(&policy))?;
-    let mut clock = MemoryClock::new(moment(0)?, Sequence::new(rt.alloc()));
+    let mut clock = MemoryClock::new(rt.alloc(), moment(0)?, Sequence::new(rt.alloc()));
     let mut words = Pcg64::seed_from_u64(7);
     make_calls(
         &rt, &cell, &mut seat, &bound, &mut clock, &mut words, &GUARDED,

@@ -1,11 +1,12 @@
 -- Files that are looked for.
-use Rattle.std.proofs.Common.{◌≡◌, ◌<◌, ◌+◌, ◌⊎◌, ◌↔◌, ◌&&◌, ℕ, Bool, true, false, List, [], ◌∷◌, ◌++◌, take, length, get_or, Some, None, refl, ap, sym, subst, inl, inr, ⊎_elim, true≢false, Result, Ok, Err, IfOk}
+use Rattle.std.proofs.Common.{◌≡◌, ◌<◌, ◌+◌, ◌⊎◌, ◌↔◌, ◌&&◌, ℕ, Bool, true, false, List, [], ◌∷◌, ◌++◌, take, length, get_or, Some, None, refl, ap, sym, subst, inl, inr, ⊎_elim, true≢false, Result, Ok, Err, IfOk, ◌∙◌}
 use Rattle.std.specs.Prelude.{if◌then◌else◌, bytes_eq, Contains, IsSome, Decides}
 use Rattle.std.proofs.lemmas.List.{take_more}
 use Rattle.std.proofs.lemmas.List.Elements.{Contains-append_left, Contains-push, Contains-push_cases}
 use Rattle.std.proofs.lemmas.Slice.Eq.{bytes_eq-Decides}
-use Rattle.side_world.specs.Files.{Folders, IsYamlName, ListsAll}
-use Rattle.side_memory.specs.MemoryFiles.{bytes_at}
+use Rattle.side_world.specs.Files.{Folders, IsYamlName, HasBytes, HasLength, ListsAll}
+use Rattle.side_memory.specs.MemoryFiles.{bytes_at, is_one_of, folders_of, files_of, told_of}
+use Rattle.side_memory.specs.declared.memory_files.MemoryFiles.{MemoryFiles}
 use Rattle.side_memory.specs.declared.memory_files.MemoryFile.{MemoryFile}
 
 both : (a b : Bool) (P Q : Type 0) → Decides a P → Decides b Q → Decides (a && b) (P × Q)
@@ -64,14 +65,27 @@ named_out files i d folder names so_far within elsewhere = subst (λ (z : List M
     ))
 
 -- the resource files among them
-pub lists_all : {E : Type 0} (result : Result (List (List ℕ)) E) (files : List MemoryFile) (folder : List ℕ) (lent names : List (List ℕ)) → NamesOf files folder names → lent ≡ names → IfOk result (λ listed. (name : List ℕ) → Contains listed name ↔ (IsYamlName name × Contains lent name)) → IfOk result (λ listed. ListsAll (Some (bytes_at files)) folder listed)
-lists_all (Ok listed) files folder lent names named is all = λ told same name.
+pub lists_all : {E : Type 0} (result : Result (List (List ℕ)) E) (files : List MemoryFile) (folder : List ℕ) (lent names : List (List ℕ)) → NamesOf files folder names → lent ≡ names → IfOk result (λ listed. (name : List ℕ) → Contains listed name ↔ (IsYamlName name × Contains lent name)) → IfOk result (λ listed. (name : List ℕ) → Contains listed name ↔ (IsYamlName name × IsSome (bytes_at files folder name)))
+lists_all (Ok listed) files folder lent names named is all = λ name.
     let here = named name in
-    let yaml = subst (λ (z : List (List ℕ)). Contains listed name ↔ (IsYamlName name × Contains z name)) is (all name) in
-    let told_is : bytes_at files ≡ told = told_of told same in (
-      λ has. let two = yaml.0 has in (two.0, subst (λ (f : Folders). IsSome (f folder name)) told_is (here.0 two.1)),
-      λ two. yaml.1 (two.0, here.1 (subst (λ (f : Folders). IsSome (f folder name)) (sym told_is) two.1)),
-    ) where
-      told_of : (told : Folders) → Some (bytes_at files) ≡ Some told → bytes_at files ≡ told
-      told_of told same = cc
+    let yaml = subst (λ (z : List (List ℕ)). Contains listed name ↔ (IsYamlName name × Contains z name)) is (all name) in (
+      λ has. let two = yaml.0 has in (two.0, here.0 two.1),
+      λ two. yaml.1 (two.0, here.1 two.1),
+    )
 lists_all (Err e) files folder lent names named is all = all
+
+-- a folder that is there is told with its files
+pub told_at : (files : MemoryFiles) (folder : List ℕ) (told : Folders) → is_one_of (folders_of files) folder ≡ true → Some (told_of files) ≡ Some told → told folder ≡ Some (files_of files folder)
+told_at files folder told there same = ap (λ (f : Folders). f folder) (sym (told_is same)) ∙ ap (λ (b : Bool). if b then Some (files_of files folder) else None) there where
+  told_is : Some (told_of files) ≡ Some told → told_of files ≡ told
+  told_is is = cc
+
+pub told_names : (files : MemoryFiles) (folder : List ℕ) (names : List (List ℕ)) → is_one_of (folders_of files) folder ≡ true → ((name : List ℕ) → Contains names name ↔ (IsYamlName name × IsSome (files_of files folder name))) → ListsAll (Some (told_of files)) folder names
+told_names files folder names is-there all = λ told same. (files_of files folder, told_at files folder told is-there same, all)
+
+pub told_bytes : {E : Type 0} (result : Result (List ℕ) E) (files : MemoryFiles) (folder name bytes : List ℕ) → is_one_of (folders_of files) folder ≡ true → files_of files folder name ≡ Some bytes → IfOk result (λ copy. copy ≡ bytes) → IfOk result (λ copy. HasBytes (Some (told_of files)) folder name copy)
+told_bytes (Ok copy) files folder name bytes is-there is same = λ told told-is. (files_of files folder, told_at files folder told is-there told-is, is ∙ ap Some (sym same))
+told_bytes (Err e) files folder name bytes is-there is same = same
+
+pub told_length : (files : MemoryFiles) (folder name bytes : List ℕ) (len : ℕ) → is_one_of (folders_of files) folder ≡ true → files_of files folder name ≡ Some bytes → length bytes ≡ len → HasLength (Some (told_of files)) folder name len
+told_length files folder name bytes len is-there is long = λ told same. (files_of files folder, (bytes, told_at files folder told is-there same, is, long))

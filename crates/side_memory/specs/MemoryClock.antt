@@ -1,5 +1,6 @@
 -- What contracts see of a clock in memory.
-use Rattle.std.specs.Prelude.{◌+◌, ℕ, min, List, [], ◌∷◌}
+use Rattle.std.specs.Prelude.{◌+◌, ℕ, min, List, [], ◌∷◌, Option}
+use Rattle.side_world.specs.declared.clock.Tick.{Tick}
 
 pub record ClockState : Type 0 where
   -- the moment
@@ -8,6 +9,8 @@ pub record ClockState : Type 0 where
   pub paused : ℕ
   -- how far the next readings move it on
   pub steps : List ℕ
+  -- its calls, where they are told
+  pub ticks : Option (List Tick)
 
 -- so many milliseconds later, at most the greatest moment
 abbrev pub later : ℕ → ℕ → ℕ

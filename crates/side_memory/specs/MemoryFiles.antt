@@ -1,22 +1,34 @@
 -- What contracts say of files in memory.
-use Rattle.std.specs.Prelude.{◌&&◌, ℕ, if◌then◌else◌, List, [], ◌∷◌, bytes_eq, Option, Some, None}
+use Rattle.std.specs.Prelude.{◌&&◌, ℕ, Bool, true, false, if◌then◌else◌, List, [], ◌∷◌, bytes_eq, Option, Some, None}
 use Rattle.side_world.specs.declared.files.FilesCall.{FilesCall}
-use Rattle.side_world.specs.Files.{Folders}
+use Rattle.side_world.specs.Files.{Folders, Held}
 use Rattle.side_memory.specs.declared.memory_files.MemoryFile.{MemoryFile}
 use Rattle.side_memory.specs.declared.memory_files.MemoryFiles.{MemoryFiles}
 
 -- the bytes of the first file of this name in this folder
-abbrev pub bytes_at : List MemoryFile → Folders
+abbrev pub bytes_at : List MemoryFile → List ℕ → Held
 bytes_at [] folder name = None
 bytes_at (file ∷ files) folder name =
     if bytes_eq file.folder folder && bytes_eq file.name name then Some file.bytes else bytes_at files folder name
 
-abbrev pub files_of : MemoryFiles → Folders
+abbrev pub files_of : MemoryFiles → List ℕ → Held
 files_of files = bytes_at files.files.items
 
 -- the folders that are there
 abbrev pub folders_of : MemoryFiles → List (List ℕ)
 folders_of files = files.folders.items
+
+-- one of these folders is this
+abbrev pub is_one_of : List (List ℕ) → List ℕ → Bool
+is_one_of [] folder = false
+is_one_of (one ∷ folders) folder = if bytes_eq one folder then true else is_one_of folders folder
+
+-- what is there: the files of each folder that is
+abbrev pub told_in : List (List ℕ) → (List ℕ → Held) → Folders
+told_in folders files folder = if is_one_of folders folder then Some (files folder) else None
+
+abbrev pub told_of : MemoryFiles → Folders
+told_of files = told_in (folders_of files) (files_of files)
 
 -- the calls, where they are told
 abbrev pub calls_of : MemoryFiles → Option (List FilesCall)

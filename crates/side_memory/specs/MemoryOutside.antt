@@ -54,6 +54,10 @@ backs_of outside = if outside.backs_told then Some (came_back outside.backs.item
 abbrev pub calls_of : MemoryOutside → Option (List OutsideCall)
 calls_of outside = outside.notes
 
+-- the numbers that it gave, where they are told
+abbrev pub given_of : MemoryOutside → Option (List ℕ)
+given_of outside = outside.given
+
 abbrev pub faults_of : MemoryOutside → ℕ
 faults_of outside = outside.schedule.faults
 
@@ -62,6 +66,7 @@ pub record IsUnused (outside : MemoryOutside) : Type 0 where
   pub disks : (bare : Disks) × (disks_of outside ≡ Some bare) × ((path : List ℕ) → bare path ≡ None)
   pub backs : (none : Backs) × (backs_of outside ≡ Some none) × ((number : ℕ) → none number ≡ None)
   pub calls : calls_of outside ≡ Some []
+  pub numbers : given_of outside ≡ Some []
   pub no_faults : faults_of outside ≡ 0
 
 -- what is held at each path

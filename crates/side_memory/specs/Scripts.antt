@@ -14,4 +14,4 @@ IsAt scripts number script = (number < length scripts) × (slice_index_or script
 pub record IsBegun (script : WorkerScript) (parts : WorkerParts AcceptorState LinkState ClockState) : Type 0 where
   pub acceptor : parts.acceptor ≡ record { answers = script.answers; notes = Some []; faults = 0 }
   pub link : parts.link ≡ record { answers = script.link_answers; calls = Some []; faults = 0; expiries = 0 }
-  pub clock : parts.clock ≡ record { last = script.first; paused = 0; steps = script.steps }
+  pub clock : parts.clock ≡ record { last = script.first; paused = 0; steps = script.steps; ticks = Some [] }

@@ -1,8 +1,8 @@
-ghost use Rattle.std.specs.Prelude.{◌≡◌, ◌<◌, ◌≤◌, ◌↔◌, ℕ, List, Contains, Some, IsTrue, IsSome, IfOk, IsErrOf, length, option_map};
-ghost use Rattle.side_world.specs.Files.{IsListing, ListsAll};
+ghost use Rattle.std.specs.Prelude.{◌≡◌, ◌<◌, ◌≤◌, ◌↔◌, ℕ, List, Contains, Some, IsSome, IfOk, IsErrOf, length, option_map};
+ghost use Rattle.side_world.specs.Files.{IsListing, IsYamlName};
 ghost use Rattle.side_world.specs.declared.files.FilesErr.TheVariants as refused;
 ghost use Rattle.side_world.specs.declared.files.FilesCall.TheVariants as call;
-ghost use Rattle.side_memory.specs.MemoryFiles.{bytes_at};
+ghost use Rattle.side_memory.specs.MemoryFiles.{bytes_at, is_one_of};
 
 use crate::memory_files::MemoryFile;
 use side_base::{Blob, Names, NoMemory, Text};
@@ -11,7 +11,7 @@ use std::alloc::Global;
 
 /// Whether this folder is one of those.
 pub(crate) fn is_there(folders: &[Blob], folder: &[u8]) -> bool
-    ensures { IsTrue result ↔ Contains folders.now folder.now }
+    ensures { result ≡ is_one_of folders.now folder.now }
 {
     for i in 0..folders.len() {
         if folders[i].bytes() == folder {
@@ -55,7 +55,7 @@ pub(crate) fn copied(bytes: &Blob) -> Result<Blob, FilesErr>
 /// The names of the resource files in a folder.
 pub(crate) fn listing(alloc: Global, files: &[MemoryFile], folder: &[u8]) -> Result<Names, NoMemory>
     ensures names { IfOk result IsListing }
-    ensures all { IfOk result (λ names. ListsAll (Some (bytes_at files.now)) folder.now names) }
+    ensures all { IfOk result (λ names. (name : List ℕ) → Contains names name ↔ (IsYamlName name × IsSome (bytes_at files.now folder.now name))) }
 {
     let names = names_in(alloc, files, folder)?;
     yaml_names(alloc, &names)

@@ -83,19 +83,17 @@ impl MemoryFiles {
 }
 
 impl MemoryFiles {
-    ghost use Rattle.std.specs.Prelude.{◌≡◌, ◌≤◌, ◌<◌, ℕ, List, Contains, Some, IfOk, IsErrOf, length};
-    ghost use Rattle.side_world.specs.Files.{IsListing, ListsAll, CountsFault};
+    ghost use Rattle.std.specs.Prelude.{◌≡◌, ◌≤◌, ◌<◌, ℕ, Some, IfOk, IsErrOf, length};
+    ghost use Rattle.side_world.specs.Files.{IsListing, ListsAll, HasBytes, HasLength, CountsFault};
     ghost use Rattle.side_world.specs.declared.files.FilesErr.TheVariants as refused;
-    ghost use Rattle.side_memory.specs.MemoryFiles.{files_of, folders_of, calls_of, faults_of};
+    ghost use Rattle.side_memory.specs.MemoryFiles.{told_of, calls_of, faults_of};
 
     // Lists a folder, and counts a fault where the call is to fail or the folder isn't there.
     fn listed(&mut self, folder: &[u8]) -> Result<Names, FilesErr>
         ensures names { IfOk result IsListing }
-        ensures all { IfOk result (λ names. ListsAll (Some (files_of self.old)) folder.now names) }
-        ensures there { IfOk result (λ _. Contains (folders_of self.old) folder.now) }
+        ensures all { IfOk result (λ names. ListsAll (Some (told_of self.old)) folder.now names) }
         ensures no_file { (len : ℕ) → IsErrOf result (refused.TooLong len) → ⊥ }
-        ensures folders { folders_of self.new ≡ folders_of self.old }
-        ensures files { files_of self.new ≡ files_of self.old }
+        ensures told { told_of self.new ≡ told_of self.old }
         ensures calls { calls_of self.new ≡ calls_of self.old }
         ensures faults { CountsFault result (faults_of self.old) (faults_of self.new) }
         ensures no_fewer { faults_of self.old ≤ faults_of self.new }
@@ -115,17 +113,20 @@ impl MemoryFiles {
 
     // Reads a file, and counts a fault where the call is to fail or the file isn't there.
     fn found(&mut self, folder: &[u8], name: &[u8]) -> Result<Blob, FilesErr>
-        ensures bytes { IfOk result (λ bytes. files_of self.old folder.now name.now ≡ Some bytes) }
+        ensures bytes { IfOk result (λ bytes. HasBytes (Some (told_of self.old)) folder.now name.now bytes) }
         ensures within { IfOk result (λ bytes. length bytes ≤ 1048576) }
         ensures too_long { (len : ℕ) → IsErrOf result (refused.TooLong len) → 1048576 < len }
-        ensures length { (len : ℕ) → IsErrOf result (refused.TooLong len) → (bytes : List ℕ) × (files_of self.old folder.now name.now ≡ Some bytes) × (length bytes ≡ len) }
-        ensures folders { folders_of self.new ≡ folders_of self.old }
-        ensures files { files_of self.new ≡ files_of self.old }
+        ensures length { (len : ℕ) → IsErrOf result (refused.TooLong len) → HasLength (Some (told_of self.old)) folder.now name.now len }
+        ensures told { told_of self.new ≡ told_of self.old }
         ensures calls { calls_of self.new ≡ calls_of self.old }
         ensures faults { CountsFault result (faults_of self.old) (faults_of self.new) }
         ensures no_fewer { faults_of self.old ≤ faults_of self.new }
     {
         if let Err(Failed) = self.schedule.call() {
+            return Err(FilesErr::Failed);
+        }
+        if !is_there(&self.folders, folder) {
+            self.schedule.fail();
             return Err(FilesErr::Failed);
         }
         match find(&self.files, folder, name) {
@@ -140,9 +141,9 @@ impl MemoryFiles {
 
 impl Files for MemoryFiles {
     ghost use Rattle.std.specs.Prelude.{Some};
-    ghost use Rattle.side_memory.specs.MemoryFiles.{files_of, calls_of, faults_of};
+    ghost use Rattle.side_memory.specs.MemoryFiles.{told_of, calls_of, faults_of};
 
-    ghost folders = { λ f. Some (files_of f) };
+    ghost folders = { λ f. Some (told_of f) };
 
     ghost calls = { calls_of };
 

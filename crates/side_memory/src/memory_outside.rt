@@ -25,6 +25,7 @@ pub struct MemoryOutside {
     backs: Vec<Option<MemoryParts>>,
     backs_told: bool,
     numbers: Numbers,
+    given: Notes<u64>,
     notes: Notes<OutsideCall>,
     schedule: Schedule,
 }
@@ -48,6 +49,7 @@ impl MemoryOutside {
             backs: Vec::new(alloc),
             backs_told: true,
             numbers,
+            given: Notes::new(alloc),
             notes: Notes::new(alloc),
             schedule: Schedule::new(Sizes::new(alloc), failing),
         }
@@ -101,7 +103,7 @@ impl MemoryOutside {
     ghost use Rattle.std.specs.Prelude.{◌≡◌, ◌≤◌, IfOk, OnOk, OnErr, IsNone};
     ghost use Rattle.side_world.specs.Faults.{Rose};
     ghost use Rattle.side_world.specs.Outside.{IsTaken, IsNewDisk, AreNew};
-    ghost use Rattle.side_memory.specs.MemoryOutside.{disks_of, backs_of, scripts_of, BeginsAs, calls_of, faults_of};
+    ghost use Rattle.side_memory.specs.MemoryOutside.{disks_of, backs_of, scripts_of, BeginsAs, calls_of, given_of, faults_of};
 
     // Takes a disk, and counts a fault where the call is to fail, or there is no memory.
     fn open_disk(&mut self, path: &[u8]) -> Result<MemoryDisk, Failed>
@@ -109,6 +111,7 @@ impl MemoryOutside {
         ensures taken { IfOk result (λ disk. IsTaken ⟦<MemoryDisk as Disk>⟧ disk path.now (disks_of self.old) (disks_of self.new)) }
         ensures backs { backs_of self.new ≡ backs_of self.old }
         ensures calls { calls_of self.new ≡ calls_of self.old }
+        ensures numbers { given_of self.new ≡ given_of self.old }
         ensures no_fault { OnOk result (faults_of self.new ≡ faults_of self.old) }
         ensures failed { OnErr result (Rose (faults_of self.old) (faults_of self.new)) }
         ensures untouched { OnErr result (disks_of self.new ≡ disks_of self.old) }
@@ -131,6 +134,7 @@ impl MemoryOutside {
         ensures disks { disks_of self.new ≡ disks_of self.old }
         ensures backs { backs_of self.new ≡ backs_of self.old }
         ensures calls { calls_of self.new ≡ calls_of self.old }
+        ensures numbers { given_of self.new ≡ given_of self.old }
         ensures no_fault { OnOk result (faults_of self.new ≡ faults_of self.old) }
         ensures failed { OnErr result (Rose (faults_of self.old) (faults_of self.new)) }
         ensures no_fewer { faults_of self.old ≤ faults_of self.new }
@@ -158,13 +162,15 @@ impl Outside for MemoryOutside {
     ghost use Rattle.std.specs.Prelude.{◌≡◌, ◌≤◌};
     ghost use Rattle.side_world.specs.Faults.{RoseWith};
     ghost use Rattle.side_world.specs.Outside.{IsBack};
-    ghost use Rattle.side_memory.specs.MemoryOutside.{disks_of, backs_of, calls_of, faults_of};
+    ghost use Rattle.side_memory.specs.MemoryOutside.{disks_of, backs_of, calls_of, given_of, faults_of};
 
     ghost disks = { disks_of };
 
     ghost calls = { calls_of };
 
     ghost backs = { backs_of };
+
+    ghost numbers = { given_of };
 
     ghost faults = { faults_of };
 
@@ -194,6 +200,7 @@ impl Outside for MemoryOutside {
         ensures disks { disks_of self.new ≡ disks_of self.old }
         ensures calls { calls_of self.new ≡ calls_of self.old }
         ensures back { IsBack ⟦<MemoryAcceptor as Acceptor>⟧ ⟦<MemoryLink as Link>⟧ number parts (backs_of self.old) (backs_of self.new) }
+        ensures numbers { given_of self.new ≡ given_of self.old }
         ensures faults { RoseWith parts.acceptor.faults (faults_of self.old) (faults_of self.new) }
         ensures no_fewer { faults_of self.old ≤ faults_of self.new }
     {
@@ -204,9 +211,11 @@ impl Outside for MemoryOutside {
     }
 
     fn start_number(&mut self) -> u64 {
-        match self.numbers.take_first() {
+        let number = match self.numbers.take_first() {
             Some(number) => number,
             None => 0,
-        }
+        };
+        self.given.add(number);
+        number
     }
 }

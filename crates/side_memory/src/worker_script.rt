@@ -27,7 +27,7 @@ impl WorkerScript {
     pub(crate) fn into_parts(self, alloc: Global) -> MemoryParts
         ensures acceptor { result.acceptor ≡ record { answers = self.answers; notes = Some []; faults = 0 } }
         ensures link { result.link ≡ record { answers = self.link_answers; calls = Some []; faults = 0; expiries = 0 } }
-        ensures clock { result.clock ≡ record { last = self.first; paused = 0; steps = self.steps } }
+        ensures clock { result.clock ≡ record { last = self.first; paused = 0; steps = self.steps; ticks = Some [] } }
     {
         let WorkerScript {
             answers,
@@ -40,7 +40,7 @@ impl WorkerScript {
         WorkerParts {
             acceptor: MemoryAcceptor::new(alloc, answers, failing_accepts),
             link: MemoryLink::new(alloc, link_answers, failing_calls),
-            clock: MemoryClock::new(first, steps),
+            clock: MemoryClock::new(alloc, first, steps),
         }
     }
 }

@@ -87,17 +87,17 @@ between_rises first (moment ∷ moments) last rise = omega (arith, rise.0, betwe
 
 -- a sum that nothing was added to
 pub rises_nothing : (sum : ℕ) → Rises sum 0 sum
-rises_nothing sum = (omega arith, λ below. omega arith)
+rises_nothing sum = (omega arith, omega arith, λ below. omega arith)
 
 -- sums of two calls
 pub rises_on : (before : ℕ) (first : ℕ) (between : ℕ) (second : ℕ) (after : ℕ) → Rises before first between → Rises between second after → Rises before (first + second) after
-rises_on before first between second after one two = (omega (arith, one.0, two.0), λ below. last below (one.1 (omega (arith, two.0, below))) (two.1 below)) where
+rises_on before first between second after one two = (omega (arith, one.0, two.0), omega (arith, one.1, two.1), λ below. last below (one.2 (omega (arith, two.0, below))) (two.2 below)) where
   last : after < 2 ^ 64 - 1 → between ≡ before + first → after ≡ between + second → after ≡ before + (first + second)
   last below p q = omega arith
 
 -- a sum that stops at the end of its type rises so
 pub rises_stopping : (before n after : ℕ) → before ≤ 2 ^ 64 - 1 → after ≡ min (before + n) (2 ^ 64 - 1) → Rises before n after
-rises_stopping before n after within is = (omega arith, λ below. omega arith)
+rises_stopping before n after within is = (omega arith, omega arith, λ below. omega arith)
 
 -- no word was drawn
 pub drawn_nothing : {S : Type 0} (next : S → ℕ × S) (stream : S) → Drawn next stream [] stream

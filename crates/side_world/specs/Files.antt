@@ -7,9 +7,13 @@ use Rattle.side_world.specs.declared.files.FilesErr.{FilesErr}
 use Rattle.side_world.specs.declared.files.FilesErr.TheVariants.{Failed, TooLong, NoMemory}
 use Rattle.side_world.specs.Faults.{Rose}
 
--- the bytes of each file that is there, by its folder and its name
+-- the bytes of each file of a folder, by its name
+abbrev pub Held : Type 0
+Held = List ℕ → Option (List ℕ)
+
+-- the folders that are there, by their names
 abbrev pub Folders : Type 0
-Folders = List ℕ → List ℕ → Option (List ℕ)
+Folders = List ℕ → Option Held
 
 -- a name ends in .yaml or .yml
 abbrev pub IsYamlName : List ℕ → Type 0
@@ -24,19 +28,19 @@ pub record IsListing (names : List (List ℕ)) : Type 0 where
   pub rising : AreRising names
   pub named : All IsYamlName names
 
--- where the files are told, a name is listed exactly where it names a resource file of the folder
+-- where the folders are told, this one is there, and a name is listed exactly where it names a resource file of it
 abbrev pub ListsAll : Option Folders → List ℕ → List (List ℕ) → Type 0
 ListsAll told folder names =
-    (files : Folders) → told ≡ Some files → (name : List ℕ) → Contains names name ↔ (IsYamlName name × IsSome (files folder name))
+    (folders : Folders) → told ≡ Some folders → (held : Held) × (folders folder ≡ Some held) × ((name : List ℕ) → Contains names name ↔ (IsYamlName name × IsSome (held name)))
 
--- where the files are told, this one has these bytes
+-- where the folders are told, this file of this folder has these bytes
 abbrev pub HasBytes : Option Folders → List ℕ → List ℕ → List ℕ → Type 0
-HasBytes told folder name bytes = (files : Folders) → told ≡ Some files → files folder name ≡ Some bytes
+HasBytes told folder name bytes = (folders : Folders) → told ≡ Some folders → (held : Held) × (folders folder ≡ Some held) × (held name ≡ Some bytes)
 
--- where the files are told, this one has so many bytes
+-- where the folders are told, this file of this folder has so many bytes
 abbrev pub HasLength : Option Folders → List ℕ → List ℕ → ℕ → Type 0
 HasLength told folder name len =
-    (files : Folders) → told ≡ Some files → (bytes : List ℕ) × (files folder name ≡ Some bytes) × (length bytes ≡ len)
+    (folders : Folders) → told ≡ Some folders → (held : Held) × ((bytes : List ℕ) × (folders folder ≡ Some held) × (held name ≡ Some bytes) × (length bytes ≡ len))
 
 -- the count of faults rose exactly where the call failed
 abbrev pub CountsFault : {X : Type 0} → Result X FilesErr → ℕ → ℕ → Type 0

@@ -8,7 +8,7 @@ Between first (moment ∷ moments) last = (first ≤ moment) × Between moment m
 
 -- a sum that stops at 2^64 - 1 has risen by n
 abbrev pub Rises : ℕ → ℕ → ℕ → Type 0
-Rises before n after = (before ≤ after) × (after < 2 ^ 64 - 1 → after ≡ before + n)
+Rises before n after = (before ≤ after) × (after ≤ before + n) × (after < 2 ^ 64 - 1 → after ≡ before + n)
 
 -- these words are the next ones of a stream, where `next` gives a word and the stream behind it
 abbrev pub Drawn : {S : Type 0} → (S → ℕ × S) → S → List ℕ → S → Type 0

@@ -1,5 +1,5 @@
 -- What the whole outside keeps: the disks that it holds, and what came back of each worker.
-use Rattle.std.specs.Prelude.{◌≡◌, ◌≢◌, ℕ, List, [], Option, Some, None}
+use Rattle.std.specs.Prelude.{◌≡◌, ◌≢◌, ℕ, List, [], length, Option, Some, None}
 use Rattle.side_world.specs.declared.acceptor.Acceptor.{Ghosts as Accepts}
 use Rattle.side_world.specs.declared.disk.Disk.{Ghosts as Keeps}
 use Rattle.side_world.specs.declared.link.Link.{Ghosts as Asks}
@@ -30,10 +30,10 @@ module _ {D : Type 0} (keeps : Keeps D) where
     pub no_faults : keeps.faults disk ≡ 0
     pub synced : LeavesOnly (keeps.contents disk) (keeps.leaves disk)
 
-  -- where both are told, the disk that was taken has what was held at its path, or nothing; and nothing is held there then
+  -- where both are told, the disk that was taken has what was held at its path, or nothing, and its length; and nothing is held there then
   abbrev pub IsTaken : D → List ℕ → Option Disks → Option Disks → Type 0
   IsTaken disk path before after =
-      ChangesAt path before after (λ held held'. (held' ≡ None) × ((bytes : List ℕ) → keeps.contents disk ≡ Some bytes → bytes ≡ bytes_or_none held))
+      ChangesAt path before after (λ held held'. (held' ≡ None) × (keeps.size disk ≡ length (bytes_or_none held)) × ((bytes : List ℕ) → keeps.contents disk ≡ Some bytes → bytes ≡ bytes_or_none held))
 
   -- where they are told, what is held at the path are the contents of the disk that came back
   abbrev pub IsGiven : D → List ℕ → Option Disks → Option Disks → Type 0

@@ -18,7 +18,7 @@ mod source;
 
 pub use acceptor::{Accepted, Acceptor};
 pub use bytes_source::BytesSource;
-pub use clock::Clock;
+pub use clock::{Clock, Tick};
 pub use disk::Disk;
 pub use failed::Failed;
 pub use files::{Files, FilesCall, FilesErr};

@@ -45,6 +45,9 @@ pub trait Outside {
     // What came back of each worker, where it is told.
     ghost backs: { Self → Option Backs };
 
+    // The numbers that it gave, in order, where they are told.
+    ghost numbers: { Self → Option (List ℕ) };
+
     // How often it has failed, or a part of it that came back had. The count stops at 2^64 - 1.
     ghost faults: { Self → ℕ };
 
@@ -56,6 +59,7 @@ pub trait Outside {
         ensures taken { IfOk result (λ disk. IsTaken Self.Disk.Disk disk path.now (disks self.old) (disks self.new)) }
         ensures calls { Tells (calls self.old) (calls self.new) (call.TakeDisk path.now ∷ []) }
         ensures backs { backs self.new ≡ backs self.old }
+        ensures numbers { numbers self.new ≡ numbers self.old }
         ensures no_fault { OnOk result (faults self.new ≡ faults self.old) }
 
         ensures failed { OnErr result (Rose (faults self.old) (faults self.new)) }
@@ -67,6 +71,7 @@ pub trait Outside {
         ensures given { IsGiven Self.Disk.Disk disk path.now (disks self.old) (disks self.new) }
         ensures calls { calls self.new ≡ calls self.old }
         ensures backs { backs self.new ≡ backs self.old }
+        ensures numbers { numbers self.new ≡ numbers self.old }
         ensures faults { RoseWith (Self.Disk.faults disk) (faults self.old) (faults self.new) }
         ensures no_fewer { faults self.old ≤ faults self.new };
 
@@ -82,6 +87,7 @@ pub trait Outside {
         ensures disks { disks self.new ≡ disks self.old }
         ensures calls { Tells (calls self.old) (calls self.new) (call.Worker port number ∷ []) }
         ensures backs { backs self.new ≡ backs self.old }
+        ensures numbers { numbers self.new ≡ numbers self.old }
         ensures no_fault { OnOk result (faults self.new ≡ faults self.old) }
 
         ensures failed { OnErr result (Rose (faults self.old) (faults self.new)) }
@@ -97,6 +103,7 @@ pub trait Outside {
         ensures disks { disks self.new ≡ disks self.old }
         ensures calls { calls self.new ≡ calls self.old }
         ensures back { IsBack Self.Acceptor.Acceptor Self.Link.Link number parts (backs self.old) (backs self.new) }
+        ensures numbers { numbers self.new ≡ numbers self.old }
         ensures faults { RoseWith (Self.Acceptor.faults parts.acceptor) (faults self.old) (faults self.new) }
         ensures no_fewer { faults self.old ≤ faults self.new };
 
@@ -105,5 +112,6 @@ pub trait Outside {
         ensures disks { disks self.new ≡ disks self.old }
         ensures calls { calls self.new ≡ calls self.old }
         ensures backs { backs self.new ≡ backs self.old }
+        ensures numbers { Tells (numbers self.old) (numbers self.new) (result ∷ []) }
         ensures faults { faults self.new ≡ faults self.old };
 }

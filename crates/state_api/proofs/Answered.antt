@@ -1,5 +1,5 @@
 -- The last reply of a state call fits its command.
-use Rattle.std.proofs.Common.{◌≡◌, ◌≢◌, ℕ, Bool, List, [], ◌∷◌, ◌++◌, Option, Some, None, Result, Ok, Err, refl, sym, ap, subst, ◌∙◌}
+use Rattle.std.proofs.Common.{◌≡◌, ◌≢◌, ℕ, Bool, List, Option, Some, None, Result, refl, sym, subst}
 use Rattle.std.specs.Prelude.{IfOk}
 use Rattle.turn_cell.specs.declared.error.ApiErr.{ApiErr}
 use Rattle.state_core.specs.declared.command.Item.{Item}
@@ -10,9 +10,7 @@ use Rattle.state_core.specs.declared.reply.Reply.TheVariants.{Value, Absent, Sav
 use Rattle.state_core.specs.History.{Step}
 use Rattle.state_core.specs.Moved.{at_moment}
 use Rattle.state_core.specs.Fits.{Fits, IsGet, IsSave, IsDelete, IsBulk, IsTransact, MayWrite, MayStopAt}
-use Rattle.retry_core.specs.declared.policy.Bound.{Bound}
 use Rattle.retry_core.specs.declared.policy.RetryPolicy.{RetryPolicy}
-use Rattle.policy_run.specs.declared.operation.Attempt.{Attempt}
 use Rattle.policy_run.specs.declared.operation.Attempt.TheVariants as attempt
 use Rattle.policy_run.specs.declared.outcome.Outcome.{Outcome}
 use Rattle.policy_run.specs.declared.outcome.Outcome.TheVariants as outcomes

@@ -1,5 +1,5 @@
 -- One attempt of a state call.
-use Rattle.std.proofs.Common.{◌≡◌, ℕ, ◌≤◌, List, [], ◌∷◌, ◌++◌, Option, Some, Result, Err, refl, sym, ap, subst, ◌∙◌, arith}
+use Rattle.std.proofs.Common.{◌≡◌, ℕ, List, [], ◌∷◌, ◌++◌, Option, Some, Result, Err, refl, sym, ap, subst, ◌∙◌, arith}
 use Rattle.std.specs.Prelude.{◌⊎◌}
 use Rattle.std.proofs.Common.{inl, inr}
 use Rattle.turn_cell.specs.declared.error.ApiErr.{ApiErr}
@@ -20,7 +20,7 @@ use Rattle.state_core.specs.Fits.{Fits}
 use Rattle.policy_run.specs.declared.operation.Attempt.{Attempt}
 use Rattle.policy_run.specs.declared.operation.Attempt.TheVariants as attempt
 use Rattle.policy_run.specs.Event.{Event, own, moment}
-use Rattle.policy_run.specs.Effects.{Clocked, Effects}
+use Rattle.policy_run.specs.Effects.{Clocked, Effects, ReadsNow}
 use Rattle.state_api.specs.declared.call.StateAnswer.{StateAnswer}
 use Rattle.state_api.specs.declared.call.StateAnswer.TheVariants.{Replied, Exhausted}
 use Rattle.state_api.specs.Moment.{moved_again}
@@ -28,7 +28,7 @@ use Rattle.state_api.specs.Call.{Makes, Did, Shows, answer_of}
 use Rattle.state_api.specs.Call as makes
 
 module _ {O : Type 0} (object : Ghosts O Cmd Reply) (cell : Begun O) (seat-name cmd-name : ℕ) (seat seat' : Sitting O Cmd Reply) (cmd : Cmd) (now : ℕ) (clock clock' : Clocked)
-    (later : clock.last ≤ clock'.last) (reads : now ≡ clock'.last) (paused : clock'.paused ≡ clock.paused) where
+    (reads : ReadsNow clock now clock') where
   -- the store made a step
   pub stepped : (reply : Reply) → Extends object cell.first seat (at_moment now cmd) reply seat'
       → ((history before after : List Step) (entry : Step) → IsLegal object cell.first history → history ≡ before ++ entry ∷ after → Fits entry.cmd entry.reply)
@@ -39,8 +39,9 @@ module _ {O : Type 0} (object : Ghosts O Cmd Reply) (cell : Begun O) (seat-name 
     record {
       owned = record { same_cell = refl; same_seat = refl; same_place = refl; same_cmd = moved_again cmd now; grew = called object cell.first seat (at_moment now cmd) reply seat' did };
       guards = refl;
-      times = (omega (arith, later, reads), omega (arith, reads));
-      pauses = (omega (arith, paused), λ below. omega (arith, paused));
+      times = (omega (arith, reads.later, reads.last), omega (arith, reads.last));
+      pauses = (omega (arith, reads.paused), omega (arith, reads.paused), λ below. omega (arith, reads.paused));
+      ticks = reads.ticks;
       words = refl;
     },
   )
@@ -54,8 +55,9 @@ module _ {O : Type 0} (object : Ghosts O Cmd Reply) (cell : Begun O) (seat-name 
     record {
       owned = record { same_cell = refl; same_seat = refl; same_place = refl; same_cmd = moved_again cmd now; grew = exhausted object cell.first seat count seat' did };
       guards = refl;
-      times = (omega (arith, later, reads), omega (arith, reads));
-      pauses = (omega (arith, paused), λ below. omega (arith, paused));
+      times = (omega (arith, reads.later, reads.last), omega (arith, reads.last));
+      pauses = (omega (arith, reads.paused), omega (arith, reads.paused), λ below. omega (arith, reads.paused));
+      ticks = reads.ticks;
       words = refl;
     },
   )

@@ -4,7 +4,6 @@ ghost use Rattle.std.specs.Thread.{IsSync};
 ghost use Rattle.std.proofs.Common.{rules};
 ghost use Rattle.turn_cell.specs.Sitting.{IsSeatOf};
 ghost use Rattle.turn_cell.specs.Growth.{Stays};
-ghost use Rattle.turn_cell.specs.Passes.{IsRootOf, EachSeat, EachRoot, EachAlone, EachSound, EachSplitOff, EachSplit, EachMet};
 
 use crate::{ApiErr, Exhausted, Object, Seat, TurnCell};
 use std::alloc::{AllocError, Global};
@@ -365,75 +364,6 @@ fn a_cell_has_65536_seats(rt: HostRuntime) -> Result<(), Fail> {
     assert_eq!(rt; root.made(), 65536);
     let register = cell.close(root);
     assert_eq!(rt; register.used(), 0);
-    Ok(())
-}
-
-/// So many cells that have just begun, and their roots.
-fn start_pass(
-    alloc: Global,
-    count: usize,
-) -> Result<(Vec<TurnCell<Register>>, Vec<Seat<Register>>), ApiErr>
-    ensures { IfOk result (λ made. EachSeat (λ cell root. IsRootOf 0 cell root × (root.made ≡ 1)) made.0.items made.1.items) }
-{
-    let mut cells = Vec::with_capacity(alloc, count)?;
-    let mut roots = Vec::with_capacity(alloc, count)?;
-    for _ in 0..count {
-        let (cell, root) = TurnCell::start(alloc, blank(None))?;
-        cells.push_reserved(cell);
-        roots.push_reserved(root);
-    }
-    Ok((cells, roots))
-}
-
-/// A seat of each cell, split off its root.
-fn split_pass<O: Object>(
-    alloc: Global,
-    cells: &[TurnCell<O>],
-    roots: &mut [Seat<O>],
-) -> Result<Vec<Seat<O>>, ApiErr>
-    requires { EachRoot 0 cells.now roots.old × EachSeat (λ _ root. root.made < 65536) cells.now roots.old }
-    ensures { IfOk result (λ pass. EachSplit roots.old roots.new pass.items) }
-{
-    let mut pass = Vec::with_capacity(alloc, cells.len())?;
-    for place in 0..cells.len() {
-        pass.push_reserved(cells[place].split(&mut roots[place]));
-    }
-    Ok(pass)
-}
-
-/// Each root takes its seat of the pass back.
-fn meet_pass<O: Object>(cells: &[TurnCell<O>], roots: &mut [Seat<O>], pass: Vec<Seat<O>>)
-    requires { EachRoot 1 cells.now roots.old × EachSplitOff cells.now pass.items }
-    ensures { EachMet O.Object cells.now roots.old pass.items roots.new }
-{
-    let mut place = 0;
-    for seat in pass {
-        cells[place].meet(&mut roots[place], seat);
-        place += 1;
-    }
-}
-
-/// Splits a pass off the roots and takes it back, after which each root is alone again.
-fn lend_pass<O: Object>(
-    alloc: Global,
-    cells: &[TurnCell<O>],
-    roots: &mut [Seat<O>],
-) -> Result<(), ApiErr>
-    requires { EachAlone cells.now roots.old × EachSeat (λ _ root. root.made < 65536) cells.now roots.old }
-    ensures { IfOk result (λ _. EachAlone cells.now roots.new × EachSound O.Object cells.now roots.new) }
-{
-    let pass = split_pass(alloc, cells, roots)?;
-    meet_pass(cells, roots, pass);
-    Ok(())
-}
-
-#[test]
-fn a_pass_is_split_and_met(rt: HostRuntime) -> Result<(), Fail> {
-    let alloc = rt.alloc();
-    let (cells, mut roots) = start_pass(alloc, 3)?;
-    lend_pass(alloc, cells.as_slice(), roots.as_mut_slice())?;
-    assert_eq!(rt; roots.len(), 3);
-    assert!(rt; roots.iter().all(|root| root.made() == 2));
     Ok(())
 }
 

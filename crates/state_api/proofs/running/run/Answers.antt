@@ -5,7 +5,7 @@ use Rattle.state_api.proofs.running.run.Goals as goal
 
 pub returns-clause-ran : goal.returns-clause-ran
 returns-clause-ran g c = let e = c.run_call.ensures.attempts in let own = e.2.owned in let place = own.same_seat in let grew = own.grew in
-    (e.0, c.run_call.result, e.1, c.ran_of.ensures, record { owned = search rules; guards = e.2.guards; times = e.2.times; pauses = e.2.pauses; words = e.2.words })
+    (e.0, c.run_call.result, e.1, c.ran_of.ensures, record { owned = search rules; guards = e.2.guards; times = e.2.times; pauses = e.2.pauses; ticks = e.2.ticks; words = e.2.words })
 
 pub returns-clause-shows : goal.returns-clause-shows
 returns-clause-shows g c = let e = c.run_call.ensures.attempts in let own = e.2.owned in let place = own.same_seat in

@@ -1,5 +1,5 @@
 use Rattle.std.proofs.Common.{◌≡◌, ◌++◌, ◌∷◌, [], ℕ, List, Some, None, ap, subst, ◌∙◌}
-use Rattle.side_world.specs.Files.{Folders}
+use Rattle.side_world.specs.Files.{Held}
 use Rattle.side_memory.specs.MemoryFiles.{bytes_at}
 use Rattle.side_memory.specs.declared.memory_files.MemoryFile.{MemoryFile}
 use Rattle.side_memory.proofs.Searched.{there}
@@ -11,6 +11,6 @@ returns-clause-there c = λ none.
     let name = c.args.name in
     let files = c.add_folder.new.self.files.items in
     let last : MemoryFile = record { folder = c.in_ok-from_bytes.field-0; name = name; bytes = c.args.bytes } in
-    let still = ap (λ (f : Folders). f folder name) c.in_ok-add_folder.ensures.files ∙ none in
+    let still = ap (λ (f : List ℕ → Held). f folder name) c.in_ok-add_folder.ensures.files ∙ none in
     let put = subst (λ (z : List ℕ). bytes_at files z name ≡ None → bytes_at (files ++ last ∷ []) z name ≡ Some c.args.bytes) c.in_ok-from_bytes.ensures (there files last) in
     ap (λ (z : List MemoryFile). bytes_at z folder name) c.in_ok-push.ensures.items ∙ put still

@@ -7,6 +7,7 @@ pub returns : goal.returns
 returns c = record {
   disks = (held_at c.new.result.items, refl, λ path. ap (λ (places : List DiskPlace). held_at places path) c.new.ensures.items);
   backs = (came_back c.new-3.result.items, refl, λ number. ap (λ (backs : List (Option Parts)). came_back backs number) c.new-3.ensures.items);
-  calls = c.new-4.ensures;
-  no_faults = c.new-6.ensures;
+  calls = c.new-5.ensures;
+  numbers = c.new-4.ensures;
+  no_faults = c.new-7.ensures;
 }

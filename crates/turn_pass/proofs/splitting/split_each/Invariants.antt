@@ -1,7 +1,7 @@
 use Rattle.std.proofs.Common.{◌≡◌, ◌≤◌, length, vec_len}
 use Rattle.std.specs.Vec.{vec_capacity}
 use Rattle.turn_cell.specs.Passes.{SplitTo}
-use Rattle.turn_cell.proofs.tests.split_pass.Given as goal
+use Rattle.turn_pass.proofs.splitting.split_each.Given as goal
 
 abbrev pub invariant-loop-place : goal.invariant-loop-place
 invariant-loop-place g l = record {

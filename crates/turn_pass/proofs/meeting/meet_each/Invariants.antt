@@ -1,6 +1,6 @@
 use Rattle.std.proofs.Common.{◌≡◌, ◌++◌, length}
 use Rattle.turn_cell.specs.Passes.{MetTo}
-use Rattle.turn_cell.proofs.tests.meet_pass.Given as goal
+use Rattle.turn_pass.proofs.meeting.meet_each.Given as goal
 
 abbrev pub invariant-loop-seat : goal.invariant-loop-seat
 invariant-loop-seat g l = record {
