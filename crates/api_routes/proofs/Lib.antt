@@ -3,8 +3,11 @@ pub mod Cuts
 pub mod Decoding
 pub mod Ending
 pub mod Finds
+pub mod Fitting
+pub mod Naming
 pub mod OneAnswer
 pub mod Paths
+pub mod Query
 pub mod Routing
 pub mod Seeks
 pub mod Serving

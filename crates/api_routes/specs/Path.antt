@@ -1,5 +1,5 @@
 -- What a path spells: its segments, each after a slash, with the parameters of a route among them.
-use Rattle.std.specs.Prelude.{◌≡◌, ◌≢◌, ◌+◌, ◌<◌, ◌==◌, ◌&&◌, ◌||◌, ℕ, Bool, true, false, not, List, [], ◌∷◌, ◌++◌, length, take, drop}
+use Rattle.std.specs.Prelude.{◌≡◌, ◌≢◌, ◌+◌, ◌<◌, ◌==◌, ◌&&◌, ◌||◌, if◌then◌else◌, ℕ, Bool, true, false, not, List, [], ◌∷◌, ◌++◌, length, take, drop}
 use Rattle.std.specs.Char.{is_ascii_graphic, is_ascii_hexdigit}
 use Rattle.std.specs.List.{prefix_len, AllByRecursion}
 use Rattle.api_routes.specs.Table.{Part}
@@ -71,6 +71,11 @@ Beats (Tail ∷ parts) (other ∷ others) = ⊥
 -- the target before its query
 abbrev pub path_of : List ℕ → List ℕ
 path_of target = take (prefix_len (λ byte. not (byte == 63)) target) target
+
+-- the query of the target: what stands behind its first `?`, and nothing where it has none
+abbrev pub query_of : List ℕ → List ℕ
+query_of [] = []
+query_of (byte ∷ target) = if byte == 63 then target else query_of target
 
 -- the bytes begin with two hexadecimal digits
 abbrev pub begins_with_digits : List ℕ → Bool

@@ -1,9 +1,11 @@
 -- What a router of one method holds: the paths of the table that have the method, as the router reads them.
-use Rattle.std.specs.Prelude.{◌≡◌, ◌⊎◌, ℕ, true, List, [], ◌∷◌, ◌++◌, Ok}
+use Rattle.std.specs.Prelude.{◌≡◌, ◌⊎◌, ℕ, Bool, true, not, ◌&&◌, ◌||◌, List, [], ◌∷◌, ◌++◌, Ok, None}
+use Rattle.std.specs.List.{list_all}
+use Rattle.matchit.specs.Conflict.{conflicts}
 use Rattle.matchit.specs.Order.{placed}
 use Rattle.matchit.specs.Rows.{RowsOf, param_token, catch_all_token}
 use Rattle.matchit.specs.Route.{Scan, parse_route}
-use Rattle.matchit.specs.Router.{RouteOf}
+use Rattle.matchit.specs.Router.{RouteOf, nearest}
 use Rattle.side_base.specs.declared.method.Method.{Method}
 use Rattle.api_routes.specs.declared.table.Kind.{Kind}
 use Rattle.api_routes.specs.declared.table.Row.{Row}
@@ -67,3 +69,29 @@ AllServe rows [] [] = Unit {0}
 AllServe rows [] (router ∷ routers) = ⊥
 AllServe rows (method ∷ methods) [] = ⊥
 AllServe rows (method ∷ methods) (router ∷ routers) = Serves rows method router × AllServe rows methods routers
+
+-- a router that has the first row takes the next one too
+abbrev pub stand_together : RouteRow → RouteRow → Bool
+stand_together first next = not (conflicts (pattern_of next.parts) (pattern_of first.parts))
+
+-- the next row has not the method, or stands in a router beside the first
+abbrev pub may_follow : Method → RouteRow → RouteRow → Bool
+may_follow method first next = not (has next.methods method) || stand_together first next
+
+-- those of the rows that have the method can stand in one router
+abbrev pub fit_together : Method → List RouteRow → Bool
+fit_together method [] = true
+fit_together method (row ∷ rows) =
+    (not (has row.methods method) || list_all (may_follow method row) rows) && fit_together method rows
+
+-- these rows of the code are rows that can stand in one router
+pub record AreFitting (method : Method) (rows : List Row) : Type 0 where
+  pub defined : List RouteRow
+  pub are_rows : AreRows rows defined
+  pub fit : fit_together method defined ≡ true
+
+-- the router can take this row of the code
+pub record IsFree (row : Row) (router : RowsOf (RouteOf Kind)) : Type 0 where
+  pub pattern : List ℕ
+  pub read : IsRead row.path.now pattern
+  pub free : nearest pattern router ≡ None

@@ -14,6 +14,7 @@ pub use methods::Methods;
 pub use route::{Route, RouteErr};
 pub use routers::Routers;
 pub use shutdown::is_shutdown;
+pub use target::query_of;
 
 /// The allocator had no room.
 pub use side_base::NoMemory;

@@ -1,7 +1,18 @@
-ghost use Rattle.std.specs.Prelude.{◌≡◌};
-ghost use Rattle.api_routes.specs.Methods.{has};
+ghost use Rattle.std.specs.Prelude.{◌≡◌, ◌++◌, length, take, OnOk, OnErr};
+ghost use Rattle.api_routes.specs.Methods.{allow_text, has, method_name};
 
-use side_base::Method;
+use side_base::{Blob, Method, NoMemory};
+
+/// The methods that a set can have, in alphabetical order.
+pub(crate) const METHODS: [Method; 7] = [
+    Method::Delete,
+    Method::Get,
+    Method::Head,
+    Method::Options,
+    Method::Patch,
+    Method::Post,
+    Method::Put,
+];
 
 /// A set of request methods: one flag for each that a route can have. `Method::Other` is in no set.
 #[derive(Clone, Copy, Debug, PartialEq, Eq)]
@@ -42,4 +53,50 @@ impl Methods {
             Method::Other => false,
         }
     }
+
+    /// Appends the value of a field `Allow` to `out`: the names of the methods in the set, in alphabetical order, joined by a comma and a space (RFC 9110,
+    /// section 10.2.1). Without memory `out` stays as it was.
+    pub fn push_allow(self, out: &mut Blob) -> Result<(), NoMemory>
+        ensures ok { OnOk result (out.new ≡ out.old ++ allow_text self) }
+        ensures err { OnErr result (out.new ≡ out.old) }
+    {
+        let before = out.len();
+        let pushed = push_names(self, out);
+        if pushed.is_err() {
+            out.truncate(before);
+        }
+        pushed
+    }
+}
+
+/// The name of a method of a set (RFC 9110, section 9.1).
+fn method_name(method: Method) -> &'static [u8]
+    ensures { result.now ≡ method_name method }
+{
+    match method {
+        Method::Delete => b"DELETE",
+        Method::Get => b"GET",
+        Method::Head => b"HEAD",
+        Method::Options => b"OPTIONS",
+        Method::Patch => b"PATCH",
+        Method::Post => b"POST",
+        Method::Put => b"PUT",
+        Method::Other => b"",
+    }
+}
+
+/// Appends the names of the methods in the set.
+fn push_names(methods: Methods, out: &mut Blob) -> Result<(), NoMemory>
+    ensures ok { OnOk result (out.new ≡ out.old ++ allow_text methods) }
+    ensures err { OnErr result (take (length out.old) out.new ≡ out.old) }
+{
+    let mut separator: &[u8] = b"";
+    for method in &METHODS {
+        if methods.has(*method) {
+            out.push(separator)?;
+            out.push(method_name(*method))?;
+            separator = b", ";
+        }
+    }
+    Ok(())
 }

@@ -47,6 +47,11 @@ pub enum RouteErr {
 }
 
 impl fmt::Display for RouteErr {
+    ghost use Rattle.std.specs.Prelude.{Some};
+    ghost use Rattle.api_routes.specs.Refusals.{refusal_text};
+
+    ghost output = { λ error. Some (refusal_text error) };
+
     fn fmt<W: fmt::Write>(&self, f: &mut fmt::Formatter<W>) -> fmt::Result {
         match self {
             RouteErr::NotFound => f.write_str("no route"),

@@ -5,29 +5,19 @@ ghost use Rattle.api_routes.specs.Path.{IsClean};
 ghost use Rattle.api_routes.specs.declared.methods.Methods.{Methods as MethodsRecord};
 ghost use Rattle.api_routes.specs.declared.route.Route.{Route as RouteRecord};
 ghost use Rattle.api_routes.specs.Route.{HasBadByte, HasParameter, HasRoute, IsBroken, IsNotAllowed, IsNotFound, IsRowOf, Means, Refuses};
-ghost use Rattle.api_routes.specs.Routers.{Adds, AllServe, AreRows, IsRead, Serves};
+ghost use Rattle.api_routes.specs.Routers.{Adds, AllServe, AreFitting, AreRows, IsFree, IsRead, Serves};
 ghost use Rattle.api_routes.specs.Table.{RouteRow, table};
 
+use crate::methods::METHODS;
 use crate::parameters::route_of;
 use crate::table::{Kind, Row, routes};
 use crate::target::{bad_place, path_of};
 use crate::{Methods, NoMemory, Route, RouteErr};
-use matchit::Router;
+use matchit::{InsertError, Router};
 use percent_encoding::ascii_str;
 use side_base::Method;
 use std::alloc::Global;
 use std::marker::Model;
-
-/// The methods that a route can have.
-const METHODS: [Method; 7] = [
-    Method::Delete,
-    Method::Get,
-    Method::Head,
-    Method::Options,
-    Method::Patch,
-    Method::Post,
-    Method::Put,
-];
 
 /// The routers of the interface: one for each method that a route can have.
 #[derive(Drop)]
@@ -39,7 +29,7 @@ pub struct Routers {
 impl Model for Routers {
     ghost use Rattle.api_routes.specs.Routers.{AllServe};
     ghost use Rattle.api_routes.specs.Table.{table};
-    ghost use Rattle.api_routes.specs.declared.routers.TheConstants.{METHODS};
+    ghost use Rattle.api_routes.specs.declared.methods.TheConstants.{METHODS};
 
     ghost Value = { Unit {0} };
 
@@ -50,17 +40,19 @@ impl Model for Routers {
 
 /// Adds a row to a router.
 fn add(router: &mut Router<Kind>, row: &Row) -> Result<(), NoMemory>
+    requires { IsFree row.now router.old }
     ensures { (pattern : List ℕ) → IsRead row.now.path.now pattern → OnOk result (Adds pattern row.now.kind router.old router.new) }
 {
     match router.insert(row.path, row.kind) {
         Ok(()) => Ok(()),
-        // Not a conflict: the paths of the table have none, or no test could make the routers.
-        Err(_) => Err(NoMemory),
+        Err(InsertError::OutOfMemory) => Err(NoMemory),
+        Err(_) => unreachable!(),
     }
 }
 
 /// The router of a method, with those of the rows that have it.
 fn router_of(alloc: Global, method: Method, rows: &[Row]) -> Result<Router<Kind>, NoMemory>
+    requires { AreFitting method rows.now }
     ensures { (defined : List RouteRow) → AreRows rows.now defined → IfOk result (Serves defined method) }
 {
     let mut router = Router::new(alloc);
@@ -78,6 +70,7 @@ fn routers_of(
     methods: &[Method],
     rows: &[Row],
 ) -> Result<Vec<Router<Kind>>, NoMemory>
+    requires { (method : MethodRecord) → AreFitting method rows.now }
     ensures { (defined : List RouteRow) → AreRows rows.now defined → IfOk result (λ all. AllServe defined methods.now all.items) }
 {
     let mut all = Vec::with_capacity(alloc, methods.len())?;

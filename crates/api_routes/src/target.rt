@@ -1,6 +1,6 @@
 ghost use Rattle.std.specs.Prelude.{◌≡◌, ◌≤◌, ◌==◌, not, length, IfSome, IfNone};
 ghost use Rattle.std.specs.List.{prefix_len};
-ghost use Rattle.api_routes.specs.Path.{IsClean, IsFirstBad, is_bad_start, path_of, begins_with_digits};
+ghost use Rattle.api_routes.specs.Path.{IsClean, IsFirstBad, is_bad_start, path_of, query_of, begins_with_digits};
 
 const PERCENT: u8 = b'%';
 
@@ -12,6 +12,18 @@ pub(crate) fn path_of(target: &[u8]) -> &[u8]
 {
     let (path, _) = target.split_at(path_len(target));
     path
+}
+
+/// The query of a request target: what stands behind the first `?`, and nothing where there is none (RFC 9112, section 3.2.1; RFC 3986, section 3.4). It is not
+/// decoded. Takes no memory.
+pub fn query_of(target: &[u8]) -> &[u8]
+    ensures { result.now ≡ query_of target.now }
+{
+    let (_, rest) = target.split_at(path_len(target));
+    match rest {
+        [] => rest,
+        [_, query @ ..] => query,
+    }
 }
 
 fn path_len(target: &[u8]) -> usize

@@ -1,5 +1,5 @@
-use crate::{Methods, Route, RouteErr, Routers, is_shutdown};
-use side_base::Method;
+use crate::{Methods, Route, RouteErr, Routers, is_shutdown, query_of};
+use side_base::{Blob, Method};
 use std::alloc::Global;
 use std::process::Abort;
 use std::test::Fail;
@@ -113,5 +113,26 @@ fn a_set_has_its_methods(rt: HostRuntime) {
         (Method::Other, false),
     ] {
         assert_eq!(rt; set.has(method), has);
+    }
+}
+
+#[test]
+fn a_set_is_written(rt: HostRuntime) -> Result<(), Fail> {
+    let post_and_put = Methods {
+        post: true,
+        put: true,
+        ..Methods::NONE
+    };
+    let mut out = Blob::from_bytes(rt.alloc(), b"Allow: ")?;
+    Methods::NONE.push_allow(&mut out)?;
+    post_and_put.push_allow(&mut out)?;
+    assert_eq!(rt; out.bytes(), b"Allow: POST, PUT".as_slice());
+    Ok(())
+}
+
+#[test]
+fn a_query_is_cut_off(rt: HostRuntime) {
+    for (target, query) in [("/a", ""), ("/a?", ""), ("/a?b=c?d", "b=c?d"), ("?", "")] {
+        assert_eq!(rt; query_of(target.as_bytes()), query.as_bytes());
     }
 }

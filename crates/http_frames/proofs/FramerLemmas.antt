@@ -1,9 +1,10 @@
 -- What a framer's calls do to what it holds.
-use Rattle.std.proofs.Common.{◌≡◌, ℕ, ◌<◌, ◌≤◌, Bool, true, false, List, [], ◌++◌, length, drop, None, Result, Ok, Err, ◌⊎◌, inl, inr, refl, sym, ap, ◌∙◌, subst, arith, length-append, length-drop, cond}
+use Rattle.std.proofs.Common.{◌≡◌, ℕ, ◌<◌, ◌≤◌, Bool, true, false, List, [], ◌∷◌, ◌++◌, length, drop, None, Result, Ok, Err, ◌⊎◌, inl, inr, refl, sym, ap, ◌∙◌, subst, arith, length-append, length-drop, cond}
 use Rattle.std.proofs.lemmas.List.{drop_all}
 use Rattle.std.specs.declared.alloc.AllocError.{AllocError}
 use Rattle.httparse.specs.Grammar.{RequestHead, print_request}
 use Rattle.side_base.specs.declared.message.Request.{Request}
+use Rattle.http_frames.specs.declared.step.Step.{Step}
 use Rattle.http_frames.specs.declared.refusal.FrameErr.{FrameErr}
 use Rattle.http_frames.specs.declared.refusal.FrameErr.TheVariants.{HeadTooLong, BadHead, TooManyHeaders, BadHost, BothLengths, TransferCoding, BadLength, Coding, TooLong, BadChunk, NoMemory}
 use Rattle.http_frames.specs.declared.framer.Stage.{Stage}
@@ -11,8 +12,8 @@ use Rattle.http_frames.specs.declared.framer.Stage.TheVariants as stage
 use Rattle.http_frames.specs.declared.turn.Turn.{Turn}
 use Rattle.http_frames.specs.declared.turn.Turn.TheVariants as turn
 use Rattle.http_frames.specs.declared.progress.Content.{Content}
-use Rattle.http_frames.specs.Framing.{State, waiting, ended, IsRequestStep, IsNeedStep, IsRefusal, IsNext}
-use Rattle.http_frames.specs.Framer.{state_at, IsStage}
+use Rattle.http_frames.specs.Framing.{State, Stands, Answers, waiting, ended, fed, IsRequestStep, IsNeedStep, IsRefusal, IsNext}
+use Rattle.http_frames.specs.Framer.{state_at, kept_of, IsStage}
 use Rattle.http_frames.specs.Lines.{beginning}
 use Rattle.http_frames.specs.Progress.{HoldsContent}
 use Rattle.http_frames.specs.Turns.{IsOpen, IsRequestTo, TakesTurn}
@@ -124,3 +125,33 @@ grown_bytes bytes old piece continued old_stage true is same =
     let P : List ℕ → Type 0 = λ t. IsStage t continued old_stage in subst P (sym same) (grown_stage old piece continued old_stage is)
 grown_bytes bytes old piece continued old_stage false is same =
     let P : List ℕ → Type 0 = λ t. IsStage t continued old_stage in subst P (sym same) is
+
+-- ---- what a framer stands for, which has dropped nothing
+
+no_bytes : (bytes : List ℕ) → length bytes ≡ 0 → bytes ≡ []
+no_bytes [] e = refl
+no_bytes (b ∷ bytes) e = absurd (omega (arith, e))
+
+pub stands_is : (state kept : State) → Stands state (kept_of kept) → state ≡ kept
+stands_is state kept is =
+    let pending = is.pending ∙ ap (λ (t : List ℕ). t ++ kept.pending) (no_bytes is.read is.count) in
+    λ i. record { pending = pending i; continued = is.continued i; refused = is.refused i }
+
+pub stands_for : (state : State) → Stands state (kept_of state)
+stands_for state = record { read = []; count = refl; pending = refl; continued = refl; refused = refl }
+
+pub stands_next : (old new : State) (answer : Result Step FrameErr) → IsNext old answer new → (state : State) → Stands state (kept_of old)
+    → Answers state answer (kept_of new)
+stands_next old new answer next state is =
+    let P : State → Type 0 = λ s. IsNext s answer new in
+    record { new = new; next = subst P (sym (stands_is state old is)) next; stands = stands_for new }
+
+pub stands_fed : (old new : State) (piece : List ℕ) → new ≡ fed old piece → (state : State) → Stands state (kept_of old) → Stands (fed state piece) (kept_of new)
+stands_fed old new piece same state is =
+    let P : State → Type 0 = λ s. Stands s (kept_of new) in
+    subst P (same ∙ ap (λ (s : State). fed s piece) (sym (stands_is state old is))) (stands_for new)
+
+pub stands_still : (old new : State) → new ≡ old → (state : State) → Stands state (kept_of old) → Stands state (kept_of new)
+stands_still old new same state is =
+    let P : State → Type 0 = λ s. Stands s (kept_of new) in
+    subst P (same ∙ sym (stands_is state old is)) (stands_for new)

@@ -9,9 +9,11 @@ mod HeadStepLemmas
 mod InChunksLemmas
 mod LengthLemmas
 mod LineLemmas
+mod MidLemmas
 mod OpenLemmas
 mod PlaceLemmas
 mod PlainLemmas
+mod PrintedLemmas
 mod ProgressLemmas
 mod RequestLemmas
 mod RowLemmas

@@ -39,7 +39,7 @@ asking_head text head after is asking =
     ap asks (request_unique text head asking.head after asking.after is.reads asking.heads.reads).0 ∙ asking.asking
 
 -- the steps of a whole request are its mark and the request
-mark_is : (head : RequestHead) (continued : Bool) → (continued ≡ true → asks head ≡ true) → (asks head ≡ true → continued ≡ true) → asks head ≡ continued
+pub mark_is : (head : RequestHead) (continued : Bool) → (continued ≡ true → asks head ≡ true) → (asks head ≡ true → continued ≡ true) → asks head ≡ continued
 mark_is head true there back = there refl
 mark_is head false there back = not_asking (asks head) back
   where
@@ -121,6 +121,14 @@ gives_on bytes more steps error is =
     less : {rest longer : List ℕ} (asking : IsAsking longer) → ((behind : List ℕ) × ReadsHead rest asking.head behind) → IsAsking rest
     less asking there = record { head = asking.head; after = there.0; heads = there.1; asking = asking.asking }
 
+pub asking_more : (text piece : List ℕ) → IsAsking text → IsAsking (text ++ piece)
+asking_more text piece asking = record {
+  head = asking.head;
+  after = asking.after ++ piece;
+  heads = head_more text piece asking.head asking.after asking.heads;
+  asking = asking.asking;
+}
+
 -- a run stands somewhere
 fed_stands : (bytes piece : List ℕ) (steps : List Step) (refused : Option FrameErr) (pending : List ℕ) (continued : Bool)
     → Stands bytes steps refused pending continued
@@ -129,16 +137,8 @@ fed_stands bytes piece steps None pending continued is = record {
   wholes = is.wholes;
   begins = begins_on bytes is.wholes pending piece is.begins;
   told = is.told;
-  asking = λ c. more pending piece (is.asking c);
+  asking = λ c. asking_more pending piece (is.asking c);
 }
-  where
-    more : (text piece : List ℕ) → IsAsking text → IsAsking (text ++ piece)
-    more text piece asking = record {
-      head = asking.head;
-      after = asking.after ++ piece;
-      heads = head_more text piece asking.head asking.after asking.heads;
-      asking = asking.asking;
-    }
 fed_stands bytes piece steps (Some error) pending continued is = gives_on bytes piece steps error is
 
 pub open_of : (bytes : List ℕ) (steps : List Step) (state : State) → StandsAt bytes steps state → state.refused ≡ None

@@ -1,6 +1,6 @@
 -- What the fields of a framer stand for.
 use Rattle.std.specs.Prelude.{◌≡◌, ℕ, ◌≤◌, List, length, drop, Bool, false}
-use Rattle.http_frames.specs.Framing.{State, waiting, ended}
+use Rattle.http_frames.specs.Framing.{State, Kept, waiting, ended}
 use Rattle.http_frames.specs.Lines.{IsPlace}
 use Rattle.http_frames.specs.Progress.{HoldsContent}
 use Rattle.http_frames.specs.declared.framer.Stage.{Stage}
@@ -18,6 +18,10 @@ pending_of framer = drop framer.start framer.bytes.items
 
 abbrev pub state_of : Inside → State
 state_of framer = state_at (pending_of framer) framer.continued framer.stage
+
+-- what is kept of a state of which nothing was dropped
+abbrev pub kept_of : State → Kept
+kept_of state = record { dropped = 0; buffered = state.pending; continued = state.continued; refused = state.refused }
 
 -- before its head is whole no request was answered by `Continue`, and so much of it is as read; then its head and the
 -- chunks that came are

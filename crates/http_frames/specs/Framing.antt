@@ -1,5 +1,5 @@
 -- What a framer holds, and what each of its calls does.
-use Rattle.std.specs.Prelude.{◌≡◌, ℕ, ◌⊎◌, List, [], ◌++◌, Bool, true, false, Option, Some, None, Result, Ok, Err}
+use Rattle.std.specs.Prelude.{◌≡◌, ℕ, ◌⊎◌, List, [], ◌++◌, length, Bool, true, false, Option, Some, None, Result, Ok, Err}
 use Rattle.httparse.specs.Grammar.{RequestHead}
 use Rattle.side_base.specs.declared.message.Request.{Request}
 use Rattle.http_frames.specs.HeadRules.{fields_of, asks_to_continue, request_of}
@@ -15,6 +15,21 @@ pub record State : Type 0 where
   pub pending : List ℕ
   pub continued : Bool
   pub refused : Option FrameErr
+
+-- What a framer keeps of a state: the number of bytes that it has read and dropped, the bytes behind them, and the rest
+pub record Kept : Type 0 where
+  pub dropped : ℕ
+  pub buffered : List ℕ
+  pub continued : Bool
+  pub refused : Option FrameErr
+
+-- The framer stands for the state: some bytes that were read and dropped, and then those that it keeps, are what is pending
+pub record Stands (state : State) (kept : Kept) : Type 0 where
+  pub read : List ℕ
+  pub count : length read ≡ kept.dropped
+  pub pending : state.pending ≡ read ++ kept.buffered
+  pub continued : state.continued ≡ kept.continued
+  pub refused : state.refused ≡ kept.refused
 
 -- a stream that is not refused
 abbrev pub waiting : List ℕ → Bool → State
@@ -79,3 +94,9 @@ IsNext old (Ok step.Continue) new = IsContinueStep old new
 IsNext old (Ok step.Need) new = IsNeedStep old new
 IsNext old (Err NoMemory) new = new ≡ old
 IsNext old (Err error) new = (new ≡ ended error) × ((old ≡ ended error) ⊎ IsRefusal old error)
+
+-- a call of `next` gives this, and the framer then stands for what the call leaves
+pub record Answers (old : State) (answer : Result Step FrameErr) (kept : Kept) : Type 0 where
+  pub new : State
+  pub next : IsNext old answer new
+  pub stands : Stands new kept

@@ -12,7 +12,9 @@ pub mod InTarget
 pub mod Lines
 pub mod Plain
 pub mod PlainReading
+pub mod Printed
 pub mod Progress
+pub mod Refusals
 pub mod Requests
 pub mod Streams
 pub mod Turns

@@ -1,4 +1,4 @@
--- How a response is written (RFC 9112, sections 2.1, 4, 5 and 6; RFC 9110, section 6.4).
+-- How a response is written (RFC 9112, sections 2.1, 4, 5 and 6; RFC 9110, sections 6.4 and 15.2.1).
 use Rattle.std.specs.Prelude.{ℕ, List, [], ◌∷◌, ◌++◌, length, Bool, ◌||◌, ◌==◌, if◌then◌else◌, codes, decimal, unwrap_or}
 use Rattle.std.specs.List.{flat_map}
 use Rattle.http.specs.StatusCode.{reason_phrase}
@@ -44,3 +44,7 @@ unfoldable pub written : Response → Bool → Bool → List ℕ
 written response head_only close =
     status_line response.status ++ flat_map field_line response.fields ++ length_line response
     ++ close_line close ++ line_end ++ content response head_only
+
+-- the response that tells that the content of a request is wanted: a status line and no field
+abbrev pub continue_bytes : List ℕ
+continue_bytes = codes "HTTP/1.1 100 Continue" ++ line_end ++ line_end

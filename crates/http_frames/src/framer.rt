@@ -1,5 +1,5 @@
 ghost use Rattle.std.specs.Prelude.{◌≡◌, ◌≤◌, [], false, IsTrue, ◌↔◌, OnOk, OnErr, length, drop};
-ghost use Rattle.http_frames.specs.Framing.{waiting, fed, IsNext};
+ghost use Rattle.http_frames.specs.Framing.{State, Stands, Answers, waiting, fed};
 
 use crate::lines::{Place, start};
 use crate::progress::Content;
@@ -24,7 +24,7 @@ pub(crate) enum Stage {
 /// Takes requests out of a stream of bytes that comes in pieces.
 ///
 /// `feed` brings the bytes, and `next` gives what they hold. What it gives depends on the bytes alone, and not on how
-/// they were cut into pieces.
+/// they were cut into pieces. Contracts speak of the state of the stream for which a framer stands.
 #[derive(Debug, Drop)]
 pub struct Framer {
     alloc: Global,
@@ -36,13 +36,13 @@ pub struct Framer {
 }
 
 impl Model for Framer {
-    ghost use Rattle.http_frames.specs.Framing.{State};
+    ghost use Rattle.http_frames.specs.Framing.{Kept};
 
-    ghost Value = { State };
+    ghost Value = { Kept };
 
-    ghost use Rattle.http_frames.specs.Framer.{state_of, IsFramer};
+    ghost use Rattle.http_frames.specs.Framer.{state_of, kept_of, IsFramer};
 
-    ghost view = { state_of };
+    ghost view = { λ framer. kept_of (state_of framer) };
 
     ghost invariant = { IsFramer };
 }
@@ -50,7 +50,7 @@ impl Model for Framer {
 impl Framer {
     /// A framer that was fed nothing; takes no memory.
     pub fn new(alloc: Global) -> Self
-        ensures { result ≡ waiting [] false }
+        ensures { Stands (waiting [] false) result }
     {
         Framer {
             alloc,
@@ -63,8 +63,8 @@ impl Framer {
 
     /// Takes the bytes that came. A refused stream takes none. Without memory nothing has changed.
     pub fn feed(&mut self, piece: &[u8]) -> Result<(), NoMemory>
-        ensures ok { OnOk result (self.new ≡ fed self.old piece.now) }
-        ensures err { OnErr result (self.new ≡ self.old) }
+        ensures ok { OnOk result ((state : State) → Stands state self.old → Stands (fed state piece.now) self.new) }
+        ensures err { OnErr result ((state : State) → Stands state self.old → Stands state self.new) }
     {
         if let Stage::Refused(_) = self.stage {
             return Ok(());
@@ -79,7 +79,7 @@ impl Framer {
     /// A refusal is given again by each further call. After `NoMemory` nothing has changed, and the call may be made
     /// again.
     pub fn next(&mut self) -> Result<Step, FrameErr>
-        ensures { IsNext self.old result self.new }
+        ensures { (state : State) → Stands state self.old → Answers state result self.new }
     {
         let stage = mem::replace(&mut self.stage, Stage::Head(start()));
         let pending = &self.bytes[self.start..];
@@ -106,7 +106,7 @@ impl Framer {
 
     /// Whether no byte of an unfinished request is held. Takes no memory.
     pub fn is_between(&self) -> bool
-        ensures { IsTrue result ↔ (self.now ≡ waiting [] false) }
+        ensures { (state : State) → Stands state self.now → IsTrue result ↔ (state ≡ waiting [] false) }
     {
         match self.stage {
             Stage::Head(_) => self.start == self.bytes.len(),

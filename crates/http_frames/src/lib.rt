@@ -38,5 +38,5 @@ pub use connection::closes;
 pub use framer::Framer;
 pub use plain::{PlainErr, PlainRequest, PlainRequests, plain_requests};
 pub use refusal::FrameErr;
-pub use response::push_response;
+pub use response::{continue_bytes, push_response};
 pub use step::Step;

@@ -1,7 +1,7 @@
 ghost use Rattle.std.specs.Prelude.{◌≡◌, ◌++◌, length, take, OnOk, OnErr};
 ghost use Rattle.std.specs.List.{flat_map};
 ghost use Rattle.http.specs.StatusCode.{IsStatusCode};
-ghost use Rattle.http_frames.specs.Written.{written, phrase, status_line, field_line, length_line, close_line, content, is_bare};
+ghost use Rattle.http_frames.specs.Written.{written, continue_bytes, phrase, status_line, field_line, length_line, close_line, content, is_bare};
 
 use http::StatusCode;
 use itoa::Buffer;
@@ -19,8 +19,17 @@ const CONTENT_LENGTH: &[u8] = b"Content-Length: ";
 
 const CONNECTION_CLOSE: &[u8] = b"Connection: close\r\n";
 
+const CONTINUE: &[u8] = b"HTTP/1.1 100 Continue\r\n\r\n";
+
 /// At least the bytes of a head without the response's own fields.
 const HEAD_ROOM: usize = 128;
+
+/// The bytes of the response that tells that the content of a request is wanted, `100 Continue` (RFC 9110, section 15.2.1). Takes no memory.
+pub fn continue_bytes() -> &'static [u8]
+    ensures { result.now ≡ continue_bytes }
+{
+    CONTINUE
+}
 
 /// Appends the bytes of `response` to `out` (RFC 9112, sections 4 to 6).
 ///

@@ -1,5 +1,5 @@
 use Rattle.api_routes.specs.Table.{table}
-use Rattle.api_routes.specs.declared.routers.TheConstants.{METHODS}
+use Rattle.api_routes.specs.declared.methods.TheConstants.{METHODS}
 use Rattle.api_routes.proofs.Serving.{serve-at}
 use Rattle.api_routes.proofs.routers.Routers.router.Goals as goal
 
