@@ -8,7 +8,7 @@ use Rattle.turn_cell.specs.declared.error.ApiErr.{ApiErr}
 use Rattle.http_frames.specs.HeadRules.{request_of}
 use Rattle.http_frames.specs.Closes.{closes_after}
 use Rattle.http_frames.specs.Streams.{Whole, asks, IsAsking}
-use Rattle.http_frames.specs.Written.{written, line_end}
+use Rattle.http_frames.specs.Written.{written, continue_bytes}
 use Rattle.api_routes.specs.declared.route.Route.TheVariants.{Shutdown}
 use Rattle.api_routes.specs.Route.{Means}
 use Rattle.conn_serve.specs.declared.ended.Ended.{Ended}
@@ -49,10 +49,6 @@ AreAnswered exchange number [] = Unit {0}
 AreAnswered exchange number (x ∷ xs) = exchange (request_in x.whole) x.trace (Ok x.response) × IsStop number (request_in x.whole) x.stop × AreAnswered exchange (suc number) xs
 
 -- ---- what is written
-
--- HTTP/1.1 100 Continue (RFC 9110, section 15.2.1)
-abbrev pub continue_bytes : List ℕ
-continue_bytes = codes "HTTP/1.1 100 Continue" ++ line_end ++ line_end
 
 -- before the response to a request that asks for it
 abbrev pub mark_of : Whole → List ℕ

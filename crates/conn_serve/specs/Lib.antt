@@ -1,2 +1,6 @@
 pub mod Exchanged
 pub mod Session
+pub mod Ends
+pub mod Answering
+pub mod Served
+pub mod Going

@@ -8,7 +8,7 @@ use Rattle.api_error.specs.declared.code.Code.TheVariants as code
 use Rattle.api_error.specs.Body.{error_response}
 use Rattle.api_error.specs.NoMemory.{no_memory_response}
 use Rattle.http_frames.specs.declared.refusal.FrameErr.{FrameErr}
-use Rattle.http_frames.specs.declared.refusal.FrameErr.TheVariants as refusal
+use Rattle.http_frames.specs.Refusals.{refused_status, refused_name}
 use Rattle.http_frames.specs.Requests.{IsRefused, IsAccepted}
 use Rattle.http_frames.specs.Streams.{Whole, Begins, IsStream}
 use Rattle.http_frames.specs.Written.{written}
@@ -17,27 +17,6 @@ use Rattle.conn_serve.specs.declared.ended.Ended.TheVariants.{Done, Closed, Aske
 use Rattle.conn_serve.specs.Exchanged.{Exchanged, Unanswered, AreAnswered, GoesOn, StopsWith, IsMark, request_in, is_head, mark_of, out_of, wholes_of}
 
 -- ---- responses that the connection gives by itself
-
-abbrev pub refused_status : FrameErr → ℕ
-refused_status refusal.HeadTooLong = 431
-refused_status refusal.TooManyHeaders = 431
-refused_status refusal.TransferCoding = 501
-refused_status refusal.Coding = 415
-refused_status refusal.TooLong = 413
-refused_status other = 400
-
-abbrev pub refused_name : FrameErr → List ℕ
-refused_name refusal.HeadTooLong = codes "HeadTooLong"
-refused_name refusal.BadHead = codes "BadHead"
-refused_name refusal.TooManyHeaders = codes "TooManyHeaders"
-refused_name refusal.BadHost = codes "BadHost"
-refused_name refusal.BothLengths = codes "BothLengths"
-refused_name refusal.TransferCoding = codes "TransferCoding"
-refused_name refusal.BadLength = codes "BadLength"
-refused_name refusal.Coding = codes "Coding"
-refused_name refusal.TooLong = codes "TooLong"
-refused_name refusal.BadChunk = codes "BadChunk"
-refused_name refusal.NoMemory = codes "NoMemory"
 
 -- to a request that was refused; its body is sent whatever its method
 abbrev pub refused_bytes : FrameErr → List ℕ
@@ -65,6 +44,10 @@ pub record AllAnswered {E : Type 0} (bytes : List ℕ) (done : List (Exchanged E
 abbrev pub LacksMemory : {E : Type 0} → (Request → List E → Result Response ApiErr → Type 0) → List ℕ → List (Exchanged E) → Option (Unanswered E) → Type 0
 LacksMemory exchange bytes done None = (left : List ℕ) × Begins bytes (wholes_of done) left
 LacksMemory exchange bytes done (Some next) = IsNext exchange bytes done next × (next.error ≡ error.NoMemory)
+
+-- what is sent for an exhausted cell, or in its place where there is no memory for that
+abbrev pub IsSpentAnswer : Bool → ℕ → List ℕ → Type 0
+IsSpentAnswer head count answer = (answer ≡ spent_bytes head count) ⊎ (answer ≡ no_memory_response)
 
 module _ {E : Type 0} (exchange : Request → List E → Result Response ApiErr → Type 0) (bytes : List ℕ) (done : List (Exchanged E)) (more : Option (Unanswered E)) (sent : List ℕ → Type 0) where
   -- the last answered request ends it so
@@ -107,7 +90,9 @@ module _ {E : Type 0} (exchange : Request → List E → Result Response ApiErr 
     pub is-next : IsNext exchange bytes done next
     pub why : next.error ≡ error.Exhausted count
     pub this : more ≡ Some next
-    pub wrote : sent (out_of done ++ mark_of next.whole ++ spent_bytes (is_head (request_in next.whole).method) count)
+    pub answer : List ℕ
+    pub answers : IsSpentAnswer (is_head (request_in next.whole).method) count answer
+    pub wrote : sent (out_of done ++ mark_of next.whole ++ answer)
 
   -- there is no memory; whether `Continue` was sent for what comes next is left open
   pub record EndsWithoutMemory : Type 0 where

@@ -1,0 +1,491 @@
+-- How a session ends.
+use Rattle.std.proofs.Common.{◌≡◌, ◌≢◌, ◌⊎◌, ◌↔◌, ℕ, ◌+◌, Bool, true, false, List, [], ◌∷◌, ◌++◌, Option, Some, None, is_some, flat_map, Result, Ok, Err, refl, sym, ap, subst, ◌∙◌, inl, inr, ⊎_elim, append-nil}
+use Rattle.std.proofs.lemmas.List.Elements.{All-push}
+use Rattle.side_base.specs.declared.message.Request.{Request}
+use Rattle.side_base.specs.declared.message.Response.{Response}
+use Rattle.side_world.specs.Told.{Told, Took, SentSome, IsDrained}
+use Rattle.side_world.specs.Faults.{Rose}
+use Rattle.side_world.proofs.Composed.{told_on, took_on}
+use Rattle.turn_cell.specs.declared.error.ApiErr.{ApiErr}
+use Rattle.turn_cell.specs.declared.error.ApiErr.TheVariants as error
+use Rattle.api_error.specs.NoMemory.{no_memory_response}
+use Rattle.http_frames.specs.declared.refusal.FrameErr.{FrameErr}
+use Rattle.http_frames.specs.declared.refusal.FrameErr.TheVariants as refusal
+use Rattle.http_frames.specs.declared.step.Step.{Step}
+use Rattle.http_frames.specs.declared.step.Step.TheVariants as step
+use Rattle.http_frames.specs.Framing.{State, Kept, Stands, waiting, fed, IsNext as IsNextStep, IsRequestStep, IsContinueStep, IsNeedStep}
+use Rattle.http_frames.specs.Requests.{IsAccepted}
+use Rattle.http_frames.specs.Written.{written, continue_bytes}
+use Rattle.http_frames.specs.Streams.{GoesOn as StreamGoesOn, Whole, Begins, IsStream, Midway, GivesRequest, IsAsking, IsMarked, IsWholeStream, asks}
+use Rattle.conn_serve.specs.declared.ended.Ended.{Ended}
+use Rattle.conn_serve.specs.declared.ended.Ended.TheVariants.{Done, Closed, Asked, ClosedByPeer, Refused, Limit, Spent, SourceFailed, SinkFailed, NoMemory}
+use Rattle.conn_serve.specs.Exchanged.{Exchanged, Unanswered, AreAnswered, IsStop, IsMark, StopsWith, request_in, is_head, out_of, wholes_of}
+use Rattle.conn_serve.specs.Session.{Session, IsNext, Ends, EndsSending, EndsAfter, EndsWithoutMemory, EndsRefused, EndsSpent, EndsWith, EndsBetween, CutWhileGoing, IsSpentAnswer, refused_bytes, trace_of}
+use Rattle.conn_serve.specs.Ends.{SinkAt, SourceAt, Sent, Cut, Passed, Read, HasEnded, HasFailed, IsFinish, wrote, failed}
+use Rattle.conn_serve.specs.Served.{Served, HasCause, NoFault, IsOver}
+use Rattle.conn_serve.specs.Answering.{Wants, Went, Answers, Finishes}
+use Rattle.conn_serve.specs.Answering as wants
+use Rattle.conn_serve.proofs.Moved.{finish_after, sent_then_cut}
+use Rattle.conn_serve.specs.Going.{Going, After, Continues, EndsBy, mark_at}
+use Rattle.conn_serve.proofs.Going.{marks, finish_all, sent_all, cut_all, fed_on, flushed_on, continue_on, answered_as, answered_too, traced, wholes_too, with_response, answered_on}
+
+-- a mark that is sent is one of what comes next
+mark_is : (rest : List ℕ) (continued : Bool) → (continued ≡ true → IsAsking rest) → (mark_at continued ≡ []) ⊎ IsMark rest (mark_at continued)
+mark_is rest true asking = inr (inl (asking refl, refl))
+mark_is rest false asking = inl refl
+
+marked_is : (rest : List ℕ) (continued : Bool) → IsMarked rest continued → IsMark rest (mark_at continued)
+marked_is rest true asking = inl (asking, refl)
+marked_is rest false asking = inr (asking, refl)
+
+module _ {E : Type 0} (exchange : Request → List E → Result Response ApiErr → Type 0) (did : List E → Type 0) (shows : ℕ → Type 0) (source source' : SourceAt) (sink sink' sink'' : SinkAt) (state : State) (number : ℕ) (out : List ℕ) (g : Going exchange did source source' sink sink' state number out) where
+  abbrev all : List ℕ → Type 0
+  all l = Told sink.contents sink''.contents l
+
+  abbrev front : List ℕ → Type 0
+  front l = SentSome sink.contents sink''.contents l
+
+  no_fault : {bytes : List ℕ} → Sent bytes sink sink'' → NoFault source source' sink sink''
+  no_fault sent = record { read = g.read.no_fault; wrote = sent.no_fault }
+
+  untraced : did (trace_of g.done None)
+  untraced = subst did (sym (append-nil (flat_map (λ x. x.trace) g.done))) g.acted
+
+  -- there was no memory, and no request of which steps were made
+  without_memory : (sent : List ℕ → Type 0) → sent ((out_of g.done ++ mark_at state.continued) ++ no_memory_response) → EndsWithoutMemory exchange g.bytes g.done None sent
+  without_memory sent was = record {
+    going = g.going;
+    lacks = (state.pending, g.midway.begins);
+    mark = mark_at state.continued;
+    rest = state.pending;
+    begins = g.midway.begins;
+    marked = mark_is state.pending state.continued g.midway.asking;
+    wrote = was;
+  }
+
+  pub lacking : (result : Ended) → IsFinish NoMemory (out ++ no_memory_response) sink' sink'' result → Served exchange did shows source source' sink sink'' result
+  lacking result how = by (finish_all exchange did source source' sink sink' state number out g NoMemory no_memory_response sink'' result how) where
+    by : IsFinish NoMemory ((out_of g.done ++ mark_at state.continued) ++ no_memory_response) sink sink'' result → Served exchange did shows source source' sink sink'' result
+    by (wrote is sent) = subst (λ e. Served exchange did shows source source' sink sink'' e) (sym is) record {
+      bytes = g.bytes;
+      done = g.done;
+      more = None;
+      session = record { answered = g.answered; ends = without_memory all sent.told };
+      took = g.read.took;
+      taken = g.read.taken;
+      acted = untraced;
+      cause = no_fault sent;
+    }
+    by (failed is cut) = subst (λ e. Served exchange did shows source source' sink sink'' e) (sym is) record {
+      bytes = g.bytes;
+      done = g.done;
+      more = None;
+      session = record { answered = g.answered; ends = inr (NoMemory, without_memory front cut.front) };
+      took = g.read.took;
+      taken = g.read.taken;
+      acted = untraced;
+      cause = (cut.failed, g.read.no_fault);
+    }
+
+  -- the sink failed while what was gathered was being sent
+  pub cut_off : Cut out sink' sink'' → Served exchange did shows source source' sink sink'' SinkFailed
+  cut_off cut = let whole = cut_all exchange did source source' sink sink' state number out g sink'' cut in record {
+    bytes = g.bytes;
+    done = g.done;
+    more = None;
+    session = record { answered = g.answered; ends = inl (record { going = g.going; rest = state.pending; begins = g.midway.begins; mark = mark_at state.continued; marked = mark_is state.pending state.continued g.midway.asking; no-more = refl; wrote = whole.front }) };
+    took = g.read.took;
+    taken = g.read.taken;
+    acted = untraced;
+    cause = (whole.failed, g.read.no_fault);
+  }
+
+  -- what comes next is refused
+  pub refused : (why : FrameErr) (result : Ended) → IsWholeStream g.bytes (wholes_of g.done) state (Some why) → (IsFinish (Refused why) (out ++ refused_bytes why) sink' sink'' result ⊎ IsFinish NoMemory (out ++ no_memory_response) sink' sink'' result) → Served exchange did shows source source' sink sink'' result
+  refused why result stream how = ⊎_elim (λ said. by (finish_all exchange did source source' sink sink' state number out g (Refused why) (refused_bytes why) sink'' result said)) (lacking result) how where
+    ends : (sent : List ℕ → Type 0) → sent ((out_of g.done ++ mark_at state.continued) ++ refused_bytes why) → EndsRefused exchange g.bytes g.done None sent why
+    ends sent was = record { going = g.going; rest = state.pending; stream = stream.stream; refused = stream.end; mark = mark_at state.continued; marked = marked_is state.pending state.continued stream.marked; no-more = refl; wrote = was }
+
+    by : IsFinish (Refused why) ((out_of g.done ++ mark_at state.continued) ++ refused_bytes why) sink sink'' result → Served exchange did shows source source' sink sink'' result
+    by (wrote is sent) = subst (λ e. Served exchange did shows source source' sink sink'' e) (sym is) record {
+      bytes = g.bytes;
+      done = g.done;
+      more = None;
+      session = record { answered = g.answered; ends = ends all sent.told };
+      took = g.read.took;
+      taken = g.read.taken;
+      acted = untraced;
+      cause = no_fault sent;
+    }
+    by (failed is cut) = subst (λ e. Served exchange did shows source source' sink sink'' e) (sym is) record {
+      bytes = g.bytes;
+      done = g.done;
+      more = None;
+      session = record { answered = g.answered; ends = inr (Refused why, ends front cut.front) };
+      took = g.read.took;
+      taken = g.read.taken;
+      acted = untraced;
+      cause = (cut.failed, g.read.no_fault);
+    }
+
+  module _ (stream : IsWholeStream g.bytes (wholes_of g.done) state None) (source'' : SourceAt) (sent : Sent out sink' sink'') where
+    whole_sent : Sent (out_of g.done ++ mark_at state.continued) sink sink''
+    whole_sent = sent_all exchange did source source' sink sink' state number out g sink'' sent
+
+    with_rest : EndsWith exchange g.bytes g.done None all state.pending
+    with_rest = record { all = record { going = g.going; stream = stream.stream; accepted = stream.end }; mark = mark_at state.continued; marked = marked_is state.pending state.continued stream.marked; no-more = refl; wrote = whole_sent.told }
+
+    module _ (has : HasEnded source' source'') where
+      no_more_taken : Told source.taken source''.taken g.bytes
+      no_more_taken = subst (λ l. Told source.taken source''.taken l) (append-nil g.bytes) (told_on source.taken source'.taken source''.taken g.bytes [] g.read.taken has.read.taken)
+
+      no_more_took : Took source.left source''.left g.bytes
+      no_more_took = subst (λ l. Took source.left source''.left l) (append-nil g.bytes) (took_on source.left source'.left source''.left g.bytes [] g.read.took has.read.took)
+
+      over_now : IsOver source source'' sink sink''
+      over_now = record { no_fault = record { read = has.read.no_fault ∙ g.read.no_fault; wrote = whole_sent.no_fault }; ended = has.ended; drained = has.drained }
+
+      -- the source has ended, between two requests
+      pub done_now : state ≡ waiting [] false → Served exchange did shows source source'' sink sink'' Done
+      done_now is = record {
+        bytes = g.bytes;
+        done = g.done;
+        more = None;
+        session = record {
+          answered = g.answered;
+          ends = record {
+            all = record { going = g.going; stream = subst (λ l. IsStream g.bytes (wholes_of g.done) l) (ap (λ (z : State). z.pending) is) stream.stream; accepted = subst (λ l. IsAccepted l) (ap (λ (z : State). z.pending) is) stream.end };
+            no-more = refl;
+            wrote = subst all (ap (λ (z : State). out_of g.done ++ mark_at z.continued) is ∙ append-nil (out_of g.done)) whole_sent.told;
+          };
+        };
+        took = no_more_took;
+        taken = no_more_taken;
+        acted = untraced;
+        cause = over_now;
+      }
+
+      -- or inside one
+      pub closed_now : state.pending ≢ [] → Served exchange did shows source source'' sink sink'' ClosedByPeer
+      closed_now some = record {
+        bytes = g.bytes;
+        done = g.done;
+        more = None;
+        session = record { answered = g.answered; ends = (state.pending, some, with_rest) };
+        took = no_more_took;
+        taken = no_more_taken;
+        acted = untraced;
+        cause = over_now;
+      }
+
+    -- a read failed
+    pub failed_now : HasFailed source' source'' → Served exchange did shows source source'' sink sink'' SourceFailed
+    failed_now has = record {
+      bytes = g.bytes;
+      done = g.done;
+      more = None;
+      session = record { answered = g.answered; ends = (state.pending, with_rest) };
+      took = subst (λ z. Took source.left z g.bytes) (sym has.left) g.read.took;
+      taken = subst (λ z. Told source.taken z g.bytes) (sym has.taken) g.read.taken;
+      acted = untraced;
+      cause = (subst (λ n. Rose n source''.faults) g.read.no_fault has.failed, whole_sent.no_fault);
+    }
+
+-- ---- the last request
+
+module _ {E : Type 0} (exchange : Request → List E → Result Response ApiErr → Type 0) (did did' : List E → Type 0) (shows : ℕ → Type 0) (source source' : SourceAt) (sink sink' sink'' : SinkAt) (state : State) (number : ℕ) (out : List ℕ) (g : Going exchange did source source' sink sink' state number out)
+    (request : Request) (state' : State) (gives : GivesRequest g.bytes (wholes_of g.done) state request state') (trace : List E) (acts : (xs : List E) → did xs → did' (xs ++ trace)) where
+  abbrev told : List ℕ → Type 0
+  told l = Told sink.contents sink''.contents l
+
+  abbrev some : List ℕ → Type 0
+  some l = SentSome sink.contents sink''.contents l
+
+  abbrev with : Response → Option Ended → List (Exchanged E)
+  with response stop = g.done ++ answered_as exchange did did' source source' sink sink' state number out g request state' gives trace acts response stop ∷ []
+
+  calm : {bytes : List ℕ} → Sent bytes sink sink'' → NoFault source source' sink sink''
+  calm sent = record { read = g.read.no_fault; wrote = sent.no_fault }
+
+  module _ (response : Response) (ran : exchange request trace (Ok response)) where
+    all_answered : (stop : Option Ended) → IsStop (number + 1) request stop → AreAnswered exchange 1 (with response stop)
+    all_answered stop stops = answered_too exchange did did' source source' sink sink' state number out g request state' gives trace acts response stop ran stops
+
+    all_acted : (stop : Option Ended) → did' (trace_of (with response stop) None)
+    all_acted stop = subst did' (sym (append-nil (flat_map (λ x. x.trace) (with response stop)))) (traced exchange did did' source source' sink sink' state number out g request state' gives trace acts response stop)
+
+    begins_with : (stop : Option Ended) → Midway g.bytes (wholes_of (with response stop)) state'
+    begins_with stop = wholes_too exchange did did' source source' sink sink' state number out g request state' gives trace acts response stop
+
+    written_with : (stop : Option Ended) → g.passed.sent ++ (out ++ written response (is_head request.method) (is_some stop)) ≡ out_of (with response stop)
+    written_with stop = with_response exchange did did' source source' sink sink' state number out g request state' gives trace acts response stop
+
+    after : (ended : Ended) (sent : List ℕ → Type 0) → sent (out_of (with response (Some ended))) → EndsAfter exchange g.bytes (with response (Some ended)) None sent ended
+    after ended sent was = record {
+      left = state'.pending;
+      begins = (begins_with (Some ended)).begins;
+      stops = record { before = g.done; last = answered_as exchange did did' source source' sink sink' state number out g request state' gives trace acts response (Some ended); going = g.going; stop = refl; whole = refl };
+      no-more = refl;
+      wrote = was;
+    }
+
+    -- the session ends with this response
+    stops_so : (ended : Ended) → IsStop (number + 1) request (Some ended) → Sent (out_of (with response (Some ended))) sink sink'' → Served exchange did' shows source source' sink sink'' ended
+    stops_so Asked stops sent = record { bytes = g.bytes; done = with response (Some Asked); more = None; session = record { answered = all_answered (Some Asked) stops; ends = after Asked told sent.told }; took = g.read.took; taken = g.read.taken; acted = all_acted (Some Asked); cause = calm sent }
+    stops_so Closed stops sent = record { bytes = g.bytes; done = with response (Some Closed); more = None; session = record { answered = all_answered (Some Closed) stops; ends = after Closed told sent.told }; took = g.read.took; taken = g.read.taken; acted = all_acted (Some Closed); cause = calm sent }
+    stops_so Limit stops sent = record { bytes = g.bytes; done = with response (Some Limit); more = None; session = record { answered = all_answered (Some Limit) stops; ends = after Limit told sent.told }; took = g.read.took; taken = g.read.taken; acted = all_acted (Some Limit); cause = calm sent }
+    stops_so Done stops sent = absurd stops
+    stops_so ClosedByPeer stops sent = absurd stops
+    stops_so (Refused why) stops sent = absurd stops
+    stops_so (Spent count) stops sent = absurd stops
+    stops_so SourceFailed stops sent = absurd stops
+    stops_so SinkFailed stops sent = absurd stops
+    stops_so NoMemory stops sent = absurd stops
+
+    sending : (ended : Ended) → IsStop (number + 1) request (Some ended) → some (out_of (with response (Some ended))) → EndsSending exchange g.bytes (with response (Some ended)) None some ended
+    sending Asked stops was = after Asked some was
+    sending Closed stops was = after Closed some was
+    sending Limit stops was = after Limit some was
+    sending Done stops was = absurd stops
+    sending ClosedByPeer stops was = absurd stops
+    sending (Refused why) stops was = absurd stops
+    sending (Spent count) stops was = absurd stops
+    sending SourceFailed stops was = absurd stops
+    sending SinkFailed stops was = absurd stops
+    sending NoMemory stops was = absurd stops
+
+    finished : (ended result : Ended) → IsStop (number + 1) request (Some ended) → IsFinish ended (out_of (with response (Some ended))) sink sink'' result → Served exchange did' shows source source' sink sink'' result
+    finished ended result stops (wrote is sent) = subst (λ e. Served exchange did' shows source source' sink sink'' e) (sym is) (stops_so ended stops sent)
+    finished ended result stops (failed is cut) = subst (λ e. Served exchange did' shows source source' sink sink'' e) (sym is) record {
+      bytes = g.bytes;
+      done = with response (Some ended);
+      more = None;
+      session = record { answered = all_answered (Some ended) stops; ends = inr (ended, sending ended stops cut.front) };
+      took = g.read.took;
+      taken = g.read.taken;
+      acted = all_acted (Some ended);
+      cause = (cut.failed, g.read.no_fault);
+    }
+
+    -- the sink failed while responses were being sent
+    unsent : IsStop (number + 1) request None → Cut (out_of (with response None)) sink sink'' → Served exchange did' shows source source' sink sink'' SinkFailed
+    unsent stops cut = record {
+      bytes = g.bytes;
+      done = with response None;
+      more = None;
+      session = record {
+        answered = all_answered None stops;
+        ends = inl (record {
+          going = All-push (λ (x : Exchanged E). x.stop ≡ None) g.done (answered_as exchange did did' source source' sink sink' state number out g request state' gives trace acts response None) g.going refl;
+          rest = state'.pending;
+          begins = (begins_with None).begins;
+          mark = [];
+          marked = inl refl;
+          no-more = refl;
+          wrote = subst some (sym (append-nil (out_of (with response None)))) cut.front;
+        });
+      };
+      took = g.read.took;
+      taken = g.read.taken;
+      acted = all_acted None;
+      cause = (cut.failed, g.read.no_fault);
+    }
+
+    went_to : (stop : Option Ended) (out' : List ℕ) (ended : Ended) → IsStop (number + 1) request stop → Went stop (out ++ written response (is_head request.method) (is_some stop)) out' sink' sink'' (Some ended) → Served exchange did' shows source source' sink sink'' ended
+    went_to (Some stop) out' ended stops (e, same, how) = subst (λ z. Served exchange did' shows source source' sink sink'' z) (sym (some_is same)) (finished stop e stops (subst (λ l. IsFinish stop l sink sink'' e) (written_with (Some stop)) (finish_after stop g.passed.sent (out ++ written response (is_head request.method) true) sink sink' sink'' e g.passed.went how))) where
+      some_is : Some ended ≡ Some e → ended ≡ e
+      some_is is = cc
+    went_to None out' ended stops went = ⊎_elim (λ (on : (Some ended ≡ None) × Passed (out ++ written response (is_head request.method) false) out' sink' sink''). absurd (none_is on.0))
+        (λ (off : (Some ended ≡ Some SinkFailed) × Cut (out ++ written response (is_head request.method) false) sink' sink''). subst (λ z. Served exchange did' shows source source' sink sink'' z) (sym (fails off.0)) (unsent stops (subst (λ l. Cut l sink sink'') (written_with None) (sent_then_cut g.passed.sent (out ++ written response (is_head request.method) false) sink sink' sink'' g.passed.went off.1)))) went where
+          none_is : Some ended ≡ None → ⊥
+          none_is is = absurd (cc)
+
+          fails : Some ended ≡ Some SinkFailed → ended ≡ SinkFailed
+          fails is = cc
+
+  -- the next request, for which there is no response of its own
+  abbrev next_with : ApiErr → Unanswered E
+  next_with why = record { whole = gives.whole; trace = trace; error = why }
+
+  next_is : (why : ApiErr) → exchange request trace (Err why) → IsNext exchange g.bytes g.done (next_with why)
+  next_is why ran = record { left = state'.pending; begins = gives.midway.begins; ran = subst (λ r. exchange r trace (Err why)) gives.is ran }
+
+  next_acted : (why : ApiErr) → did' (trace_of g.done (Some (next_with why)))
+  next_acted why = acts (flat_map (λ x. x.trace) g.done) g.acted
+
+  no_room : (result : Ended) → exchange request trace (Err error.NoMemory) → IsFinish NoMemory (out ++ no_memory_response) sink' sink'' result → Served exchange did' shows source source' sink sink'' result
+  no_room result ran how = by (finish_all exchange did source source' sink sink' state number out g NoMemory no_memory_response sink'' result how) where
+    ends : (sent : List ℕ → Type 0) → sent ((out_of g.done ++ mark_at state.continued) ++ no_memory_response) → EndsWithoutMemory exchange g.bytes g.done (Some (next_with error.NoMemory)) sent
+    ends sent was = record { going = g.going; lacks = (next_is error.NoMemory ran, refl); mark = mark_at state.continued; rest = state.pending; begins = g.midway.begins; marked = mark_is state.pending state.continued g.midway.asking; wrote = was }
+
+    by : IsFinish NoMemory ((out_of g.done ++ mark_at state.continued) ++ no_memory_response) sink sink'' result → Served exchange did' shows source source' sink sink'' result
+    by (wrote is sent) = subst (λ e. Served exchange did' shows source source' sink sink'' e) (sym is) record {
+      bytes = g.bytes;
+      done = g.done;
+      more = Some (next_with error.NoMemory);
+      session = record { answered = g.answered; ends = ends told sent.told };
+      took = g.read.took;
+      taken = g.read.taken;
+      acted = next_acted error.NoMemory;
+      cause = calm sent;
+    }
+    by (failed is cut) = subst (λ e. Served exchange did' shows source source' sink sink'' e) (sym is) record {
+      bytes = g.bytes;
+      done = g.done;
+      more = Some (next_with error.NoMemory);
+      session = record { answered = g.answered; ends = inr (NoMemory, ends some cut.front) };
+      took = g.read.took;
+      taken = g.read.taken;
+      acted = next_acted error.NoMemory;
+      cause = (cut.failed, g.read.no_fault);
+    }
+
+  spent : (count : ℕ) (answer : List ℕ) (result : Ended) → exchange request trace (Err (error.Exhausted count)) → shows count → IsSpentAnswer (is_head request.method) count answer → IsFinish (Spent count) (out ++ answer) sink' sink'' result → Served exchange did' shows source source' sink sink'' result
+  spent count answer result ran shown is_answer how = by (finish_all exchange did source source' sink sink' state number out g (Spent count) answer sink'' result how) where
+    ends : (sent : List ℕ → Type 0) → sent ((out_of g.done ++ mark_at state.continued) ++ answer) → EndsSpent exchange g.bytes g.done (Some (next_with (error.Exhausted count))) sent count
+    ends sent was = record {
+      going = g.going;
+      next = next_with (error.Exhausted count);
+      is-next = next_is (error.Exhausted count) ran;
+      why = refl;
+      this = refl;
+      answer = answer;
+      answers = subst (λ r. IsSpentAnswer (is_head r.method) count answer) gives.is is_answer;
+      wrote = subst (λ m. sent ((out_of g.done ++ m) ++ answer)) (sym (marks (asks gives.whole.head) state.continued gives.told)) was;
+    }
+
+    by : IsFinish (Spent count) ((out_of g.done ++ mark_at state.continued) ++ answer) sink sink'' result → Served exchange did' shows source source' sink sink'' result
+    by (wrote is sent) = subst (λ e. Served exchange did' shows source source' sink sink'' e) (sym is) record {
+      bytes = g.bytes;
+      done = g.done;
+      more = Some (next_with (error.Exhausted count));
+      session = record { answered = g.answered; ends = ends told sent.told };
+      took = g.read.took;
+      taken = g.read.taken;
+      acted = next_acted (error.Exhausted count);
+      cause = (calm sent, shown);
+    }
+    by (failed is cut) = subst (λ e. Served exchange did' shows source source' sink sink'' e) (sym is) record {
+      bytes = g.bytes;
+      done = g.done;
+      more = Some (next_with (error.Exhausted count));
+      session = record { answered = g.answered; ends = inr (Spent count, ends some cut.front) };
+      took = g.read.took;
+      taken = g.read.taken;
+      acted = next_acted (error.Exhausted count);
+      cause = (cut.failed, g.read.no_fault);
+    }
+
+  -- the session ends with this request
+  pub ends_with : (out' : List ℕ) (reply : Result Response ApiErr) (ended : Ended) → exchange request trace reply → ((count : ℕ) → reply ≡ Err (error.Exhausted count) → shows count) → Answers (number + 1) request out out' sink' sink'' reply (Some ended) → Served exchange did' shows source source' sink sink'' ended
+  ends_with out' (Ok response) ended ran shown said = went_to response ran said.stop out' ended said.stops said.went
+  ends_with out' (Err error.NoMemory) ended ran shown (e, same, how) = subst (λ z. Served exchange did' shows source source' sink sink'' z) (sym (some_is same)) (no_room e ran how) where
+    some_is : Some ended ≡ Some e → ended ≡ e
+    some_is is = cc
+  ends_with out' (Err (error.Exhausted count)) ended ran shown (answer, is_answer, (e, same, how)) = subst (λ z. Served exchange did' shows source source' sink sink'' z) (sym (some_is same)) (spent count answer e ran (shown count refl) is_answer how) where
+    some_is : Some ended ≡ Some e → ended ≡ e
+    some_is is = cc
+
+  -- or goes on
+  pub goes_with : (fresh : state'.continued ≡ false) (out' : List ℕ) (reply : Result Response ApiErr) → exchange request trace reply → Answers (number + 1) request out out' sink' sink'' reply None → Going exchange did' source source' sink sink'' state' (number + 1) out'
+  goes_with fresh out' (Ok response) ran said = by said.stop said.stops said.went where
+    by : (stop : Option Ended) → IsStop (number + 1) request stop → Went stop (out ++ written response (is_head request.method) (is_some stop)) out' sink' sink'' None → Going exchange did' source source' sink sink'' state' (number + 1) out'
+    by (Some stop) stops (e, same, how) = absurd (cc)
+    by None stops went = ⊎_elim (λ (on : (None ≡ None) × Passed (out ++ written response (is_head request.method) false) out' sink' sink''). answered_on exchange did did' source source' sink sink' state number out g request state' gives trace acts fresh response out' sink'' ran stops on.1)
+        (λ (off : (None ≡ Some SinkFailed) × Cut (out ++ written response (is_head request.method) false) sink' sink''). absurd (fails off.0)) went where
+          fails : None ≡ Some SinkFailed → ⊥
+          fails is = absurd (cc)
+  goes_with fresh out' (Err error.NoMemory) ran (e, same, how) = absurd (cc)
+  goes_with fresh out' (Err (error.Exhausted count)) ran (answer, is_answer, (e, same, how)) = absurd (cc)
+
+-- ---- more bytes are wanted
+
+module _ {E : Type 0} (exchange : Request → List E → Result Response ApiErr → Type 0) (did : List E → Type 0) (shows : ℕ → Type 0) (source source' source'' : SourceAt) (sink sink' sink'' : SinkAt) (state : State) (number : ℕ) (out out' : List ℕ) (kept : Kept) (g : Going exchange did source source' sink sink' state number out)
+    (stream : IsWholeStream g.bytes (wholes_of g.done) state None)
+    (feeds : (bytes piece : List ℕ) (wholes : List Whole) (at : State) → Midway bytes wholes at → Midway (bytes ++ piece) wholes (fed at piece)) where
+  pub wanted_on : Wants state out out' kept source' source'' sink' sink'' None → (piece : List ℕ) × Stands (fed state piece) kept × Going exchange did source source'' sink sink'' (fed state piece) number out'
+  wanted_on (wants.more piece same bare sent read stands) = (
+    piece,
+    stands,
+    subst (λ l. Going exchange did source source'' sink sink'' (fed state piece) number l) (sym bare)
+        (let f = flushed_on exchange did source source' sink sink' state number out g sink'' sent in fed_on exchange did source source' sink sink'' state number [] f piece source'' read (feeds f.bytes piece (wholes_of f.done) state f.midway)),
+  )
+  wanted_on (wants.lacks piece lacks read) = absurd (let same : None ≡ Some lacks.0 = lacks.1 in cc)
+  wanted_on (wants.cut same cut kept-source) = absurd (cc)
+  wanted_on (wants.done same is sent has) = absurd (cc)
+  wanted_on (wants.closed same is sent has) = absurd (cc)
+  wanted_on (wants.failed same sent has) = absurd (cc)
+
+  pub wanted_end : (between : state.pending ≡ [] → state ≡ waiting [] false) (ended : Ended) → Wants state out out' kept source' source'' sink' sink'' (Some ended) → Served exchange did shows source source'' sink sink'' ended
+  wanted_end between ended (wants.more piece same bare sent read stands) = absurd (cc)
+  wanted_end between ended (wants.lacks piece (e, same, how) read) = subst (λ z. Served exchange did shows source source'' sink sink'' z) (sym (some_is same))
+      (lacking exchange did shows source source'' sink sink' sink'' (fed state piece) number out (fed_on exchange did source source' sink sink' state number out g piece source'' read (feeds g.bytes piece (wholes_of g.done) state g.midway)) e how) where
+        some_is : Some ended ≡ Some e → ended ≡ e
+        some_is is = cc
+  wanted_end between ended (wants.cut same cut same-source) = subst (λ z. Served exchange did shows source z sink sink'' ended) (sym same-source) (subst (λ z. Served exchange did shows source source' sink sink'' z) (sym (some_is same)) (cut_off exchange did shows source source' sink sink' sink'' state number out g cut)) where
+    some_is : Some ended ≡ Some SinkFailed → ended ≡ SinkFailed
+    some_is is = cc
+  wanted_end between ended (wants.done same is sent has) = subst (λ z. Served exchange did shows source source'' sink sink'' z) (sym (some_is same)) (done_now exchange did shows source source' sink sink' sink'' state number out g stream source'' sent has is) where
+    some_is : Some ended ≡ Some Done → ended ≡ Done
+    some_is is = cc
+  wanted_end between ended (wants.closed same is sent has) = subst (λ z. Served exchange did shows source source'' sink sink'' z) (sym (some_is same)) (closed_now exchange did shows source source' sink sink' sink'' state number out g stream source'' sent has (λ bare. is (between bare))) where
+    some_is : Some ended ≡ Some ClosedByPeer → ended ≡ ClosedByPeer
+    some_is is = cc
+  wanted_end between ended (wants.failed same sent has) = subst (λ z. Served exchange did shows source source'' sink sink'' z) (sym (some_is same)) (failed_now exchange did shows source source' sink sink' sink'' state number out g stream source'' sent has) where
+    some_is : Some ended ≡ Some SourceFailed → ended ≡ SourceFailed
+    some_is is = cc
+
+-- ---- a turn, by what the stream gives
+
+module _ {E : Type 0} (exchange : Request → List E → Result Response ApiErr → Type 0) (did : List E → Type 0) (shows : ℕ → Type 0) (source source' source'' : SourceAt) (sink sink' sink'' : SinkAt) (state new : State) (number : ℕ) (out out' : List ℕ) (kept : Kept) (g : Going exchange did source source' sink sink' state number out)
+    (goes : (bytes : List ℕ) (wholes : List Whole) (old new : State) (answer : Result Step FrameErr) → Midway bytes wholes old → IsNextStep old answer new → StreamGoesOn bytes wholes old answer new) where
+  pub after_request : (did' : List E → Type 0) (request : Request) → Stands new kept → IsRequestStep state request new → (result : Option Ended) (trace : List E) (reply : Result Response ApiErr) → exchange request trace reply → ((xs : List E) → did xs → did' (xs ++ trace)) → Answers (number + 1) request out out' sink' sink'' reply result → ((count : ℕ) → reply ≡ Err (error.Exhausted count) → shows count)
+      → After exchange did' shows source source' sink sink'' kept (number + 1) out' result
+  after_request did' request stands next None trace reply ran acts answers shown =
+      (new, stands, goes_with exchange did did' shows source source' sink sink' sink'' state number out g request new (goes g.bytes (wholes_of g.done) state new (Ok (step.Request request)) g.midway next) trace acts (ap (λ (z : State). z.continued) next.after) out' reply ran answers)
+  after_request did' request stands next (Some ended) trace reply ran acts answers shown =
+      ends_with exchange did did' shows source source' sink sink' sink'' state number out g request new (goes g.bytes (wholes_of g.done) state new (Ok (step.Request request)) g.midway next) trace acts out' reply ended ran shown answers
+
+  pub after_continue : Stands new kept → IsContinueStep state new → (result : Option Ended) → Continues out out' sink' sink'' result → After exchange did shows source source' sink sink'' kept number out' result
+  after_continue stands next None gathered = ⊎_elim
+      (λ (on : (None ≡ None) × (out' ≡ out ++ continue_bytes) × (sink'' ≡ sink')). (new, stands, subst (λ z. Going exchange did source source' sink z new number out') (sym on.2) (continue_on exchange did source source' sink sink' state number out g new out' (goes g.bytes (wholes_of g.done) state new (Ok step.Continue) g.midway next) on.1)))
+      (λ (off : Finishes NoMemory (out ++ no_memory_response) sink' sink'' None). absurd (let same : None ≡ Some off.0 = off.1 in cc)) gathered
+  after_continue stands next (Some ended) gathered = ⊎_elim
+      (λ (on : (Some ended ≡ None) × (out' ≡ out ++ continue_bytes) × (sink'' ≡ sink')). absurd (let same : Some ended ≡ None = on.0 in cc))
+      (λ (off : Finishes NoMemory (out ++ no_memory_response) sink' sink'' (Some ended)). subst (λ z. Served exchange did shows source source' sink sink'' z) (sym (some_is off.0 off.1)) (lacking exchange did shows source source' sink sink' sink'' state number out g off.0 off.2)) gathered where
+        some_is : (e : Ended) → Some ended ≡ Some e → ended ≡ e
+        some_is e is = cc
+
+  pub after_need : (feeds : (bytes piece : List ℕ) (wholes : List Whole) (at : State) → Midway bytes wholes at → Midway (bytes ++ piece) wholes (fed at piece)) → (between : (bytes : List ℕ) (wholes : List Whole) (at : State) → Midway bytes wholes at → (at ≡ waiting [] false) ↔ (at.pending ≡ [])) → IsNeedStep state new → (result : Option Ended)
+      → Wants new out out' kept source' source'' sink' sink'' result → After exchange did shows source source'' sink sink'' kept number out' result
+  after_need feeds between next None wanted = let stream = (goes g.bytes (wholes_of g.done) state new (Ok step.Need) g.midway next).0 in
+      let on = wanted_on exchange did shows source source' source'' sink sink' sink'' state number out out' kept g stream feeds (subst (λ z. Wants z out out' kept source' source'' sink' sink'' None) next.same wanted) in (fed state on.0, on.1, on.2)
+  after_need feeds between next (Some ended) wanted = let stream = (goes g.bytes (wholes_of g.done) state new (Ok step.Need) g.midway next).0 in
+      wanted_end exchange did shows source source' source'' sink sink' sink'' state number out out' kept g stream feeds (between g.bytes (wholes_of g.done) state g.midway).1 ended (subst (λ z. Wants z out out' kept source' source'' sink' sink'' (Some ended)) next.same wanted)
+
+  pub after_refusal : (why : FrameErr) (result : Ended) → IsNextStep state (Err why) new → EndsBy why out sink' sink'' result → Served exchange did shows source source' sink sink'' result
+  after_refusal refusal.NoMemory result next how = lacking exchange did shows source source' sink sink' sink'' state number out g result how
+  after_refusal refusal.HeadTooLong result next how = refused exchange did shows source source' sink sink' sink'' state number out g refusal.HeadTooLong result (goes g.bytes (wholes_of g.done) state new (Err refusal.HeadTooLong) g.midway next).0 how
+  after_refusal refusal.BadHead result next how = refused exchange did shows source source' sink sink' sink'' state number out g refusal.BadHead result (goes g.bytes (wholes_of g.done) state new (Err refusal.BadHead) g.midway next).0 how
+  after_refusal refusal.TooManyHeaders result next how = refused exchange did shows source source' sink sink' sink'' state number out g refusal.TooManyHeaders result (goes g.bytes (wholes_of g.done) state new (Err refusal.TooManyHeaders) g.midway next).0 how
+  after_refusal refusal.BadHost result next how = refused exchange did shows source source' sink sink' sink'' state number out g refusal.BadHost result (goes g.bytes (wholes_of g.done) state new (Err refusal.BadHost) g.midway next).0 how
+  after_refusal refusal.BothLengths result next how = refused exchange did shows source source' sink sink' sink'' state number out g refusal.BothLengths result (goes g.bytes (wholes_of g.done) state new (Err refusal.BothLengths) g.midway next).0 how
+  after_refusal refusal.TransferCoding result next how = refused exchange did shows source source' sink sink' sink'' state number out g refusal.TransferCoding result (goes g.bytes (wholes_of g.done) state new (Err refusal.TransferCoding) g.midway next).0 how
+  after_refusal refusal.BadLength result next how = refused exchange did shows source source' sink sink' sink'' state number out g refusal.BadLength result (goes g.bytes (wholes_of g.done) state new (Err refusal.BadLength) g.midway next).0 how
+  after_refusal refusal.Coding result next how = refused exchange did shows source source' sink sink' sink'' state number out g refusal.Coding result (goes g.bytes (wholes_of g.done) state new (Err refusal.Coding) g.midway next).0 how
+  after_refusal refusal.TooLong result next how = refused exchange did shows source source' sink sink' sink'' state number out g refusal.TooLong result (goes g.bytes (wholes_of g.done) state new (Err refusal.TooLong) g.midway next).0 how
+  after_refusal refusal.BadChunk result next how = refused exchange did shows source source' sink sink' sink'' state number out g refusal.BadChunk result (goes g.bytes (wholes_of g.done) state new (Err refusal.BadChunk) g.midway next).0 how
+
+-- the ways to end of a refusal that isn't want of memory
+pub ends_by : (why : FrameErr) (out : List ℕ) (sink sink' : SinkAt) (result : Ended) → why ≢ refusal.NoMemory → (IsFinish (Refused why) (out ++ refused_bytes why) sink sink' result ⊎ IsFinish NoMemory (out ++ no_memory_response) sink sink' result) → EndsBy why out sink sink' result
+ends_by refusal.NoMemory out sink sink' result is how = absurd (is refl)
+ends_by refusal.HeadTooLong out sink sink' result is how = how
+ends_by refusal.BadHead out sink sink' result is how = how
+ends_by refusal.TooManyHeaders out sink sink' result is how = how
+ends_by refusal.BadHost out sink sink' result is how = how
+ends_by refusal.BothLengths out sink sink' result is how = how
+ends_by refusal.TransferCoding out sink sink' result is how = how
+ends_by refusal.BadLength out sink sink' result is how = how
+ends_by refusal.Coding out sink sink' result is how = how
+ends_by refusal.TooLong out sink sink' result is how = how
+ends_by refusal.BadChunk out sink sink' result is how = how

@@ -1,0 +1,55 @@
+-- What the parts of a session do: one request is answered, and more bytes are wanted.
+use Rattle.std.specs.Prelude.{◌≡◌, ◌≢◌, ◌⊎◌, ℕ, false, List, [], ◌++◌, Option, Some, None, is_some, Result, Ok, Err}
+use Rattle.side_base.specs.declared.message.Request.{Request}
+use Rattle.side_base.specs.declared.message.Response.{Response}
+use Rattle.turn_cell.specs.declared.error.ApiErr.{ApiErr}
+use Rattle.turn_cell.specs.declared.error.ApiErr.TheVariants as error
+use Rattle.api_error.specs.NoMemory.{no_memory_response}
+use Rattle.http_frames.specs.Framing.{State, Kept, Stands, waiting, fed}
+use Rattle.http_frames.specs.Written.{written}
+use Rattle.conn_serve.specs.declared.ended.Ended.{Ended}
+use Rattle.conn_serve.specs.declared.ended.Ended.TheVariants.{Done, ClosedByPeer, Spent, SourceFailed, SinkFailed, NoMemory}
+use Rattle.conn_serve.specs.Exchanged.{IsStop, is_head}
+use Rattle.conn_serve.specs.Session.{IsSpentAnswer}
+use Rattle.conn_serve.specs.Ends.{SinkAt, SourceAt, Sent, Cut, Passed, IsFinish, Read, HasEnded, HasFailed}
+
+-- the session is over, and ended so
+abbrev pub Finishes : Ended → List ℕ → SinkAt → SinkAt → Option Ended → Type 0
+Finishes ended bytes sink sink' result = (e : Ended) × (result ≡ Some e) × IsFinish ended bytes sink sink' e
+
+-- after a response: the session ends with it, or goes on, with all that was gathered sent or still kept, or the sink fails
+abbrev pub Went : Option Ended → List ℕ → List ℕ → SinkAt → SinkAt → Option Ended → Type 0
+Went (Some ended) bytes kept sink sink' result = Finishes ended bytes sink sink' result
+Went None bytes kept sink sink' result = ((result ≡ None) × Passed bytes kept sink sink') ⊎ ((result ≡ Some SinkFailed) × Cut bytes sink sink')
+
+-- there was no memory, and the response that takes none was sent behind what was gathered
+abbrev pub LacksRoom : List ℕ → SinkAt → SinkAt → Option Ended → Type 0
+LacksRoom out sink sink' result = Finishes NoMemory (out ++ no_memory_response) sink sink' result
+
+-- the response to the request of this number was gathered behind `out`, and says whether the session ends with it
+pub record IsSaid (number : ℕ) (request : Request) (response : Response) (out out' : List ℕ) (sink sink' : SinkAt) (result : Option Ended) : Type 0 where
+  pub stop : Option Ended
+  pub stops : IsStop number request stop
+  pub went : Went stop (out ++ written response (is_head request.method) (is_some stop)) out' sink sink' result
+
+-- what an exchange makes of the session
+abbrev pub Answers : ℕ → Request → List ℕ → List ℕ → SinkAt → SinkAt → Result Response ApiErr → Option Ended → Type 0
+Answers number request out out' sink sink' (Ok response) result = IsSaid number request response out out' sink sink' result
+Answers number request out out' sink sink' (Err error.NoMemory) result = LacksRoom out sink sink' result
+Answers number request out out' sink sink' (Err (error.Exhausted count)) result =
+    (answer : List ℕ) × IsSpentAnswer (is_head request.method) count answer × Finishes (Spent count) (out ++ answer) sink sink' result
+
+-- More bytes are wanted: what was gathered is sent, and then the source is read, whose bytes the framer takes
+pub data Wants (state : State) (out out' : List ℕ) (kept : Kept) (source source' : SourceAt) (sink sink' : SinkAt) (result : Option Ended) : Type 0 where
+  more : (piece : List ℕ) → result ≡ None → out' ≡ [] → Sent out sink sink' → Read piece source source' → Stands (fed state piece) kept → Wants state out out' kept source source' sink sink' result
+  lacks : (piece : List ℕ) → LacksRoom out sink sink' result → Read piece source source' → Wants state out out' kept source source' sink sink' result
+  cut : result ≡ Some SinkFailed → Cut out sink sink' → source' ≡ source → Wants state out out' kept source source' sink sink' result
+  done : result ≡ Some Done → state ≡ waiting [] false → Sent out sink sink' → HasEnded source source' → Wants state out out' kept source source' sink sink' result
+  closed : result ≡ Some ClosedByPeer → state ≢ waiting [] false → Sent out sink sink' → HasEnded source source' → Wants state out out' kept source source' sink sink' result
+  failed : result ≡ Some SourceFailed → Sent out sink sink' → HasFailed source source' → Wants state out out' kept source source' sink sink' result
+
+-- how a session ends whose source has ended: between two requests, or inside one
+abbrev pub IsEnd : State → Ended → Type 0
+IsEnd state Done = state ≡ waiting [] false
+IsEnd state ClosedByPeer = state ≢ waiting [] false
+IsEnd state _ = ⊥

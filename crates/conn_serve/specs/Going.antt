@@ -1,0 +1,50 @@
+-- A session that goes on, and one turn of it: what the bytes that were read hold next.
+use Rattle.std.specs.Prelude.{◌≡◌, ◌≢◌, ◌⊎◌, ℕ, ◌<◌, Bool, true, false, List, [], ◌++◌, length, flat_map, Option, Some, None, Result}
+use Rattle.side_base.specs.declared.message.Request.{Request}
+use Rattle.side_base.specs.declared.message.Response.{Response}
+use Rattle.turn_cell.specs.declared.error.ApiErr.{ApiErr}
+use Rattle.api_error.specs.NoMemory.{no_memory_response}
+use Rattle.http_frames.specs.declared.refusal.FrameErr.{FrameErr}
+use Rattle.http_frames.specs.declared.refusal.FrameErr.TheVariants as refusal
+use Rattle.http_frames.specs.Framing.{State, Kept, Stands}
+use Rattle.http_frames.specs.Written.{continue_bytes}
+use Rattle.http_frames.specs.Streams.{Midway}
+use Rattle.conn_serve.specs.declared.ended.Ended.{Ended}
+use Rattle.conn_serve.specs.declared.ended.Ended.TheVariants.{Refused, NoMemory}
+use Rattle.conn_serve.specs.Exchanged.{Exchanged, AreAnswered, GoesOn, out_of, wholes_of}
+use Rattle.conn_serve.specs.Session.{refused_bytes}
+use Rattle.conn_serve.specs.Ends.{SinkAt, SourceAt, Passed, Read, IsFinish}
+use Rattle.conn_serve.specs.Answering.{Finishes, LacksRoom}
+use Rattle.conn_serve.specs.Served.{Served}
+
+-- `Continue` where it was given for what comes next
+abbrev pub mark_at : Bool → List ℕ
+mark_at true = continue_bytes
+mark_at false = []
+
+-- so far: these bytes were read, and these requests answered, whose responses were sent or are kept in `out`
+pub record Going {E : Type 0} (exchange : Request → List E → Result Response ApiErr → Type 0) (did : List E → Type 0) (source source' : SourceAt) (sink sink' : SinkAt) (state : State) (number : ℕ) (out : List ℕ) : Type 0 where
+  pub bytes : List ℕ
+  pub done : List (Exchanged E)
+  pub midway : Midway bytes (wholes_of done) state
+  pub answered : AreAnswered exchange 1 done
+  pub going : GoesOn done
+  pub count : length done ≡ number
+  pub below : number < 100000
+  pub acted : did (flat_map (λ x. x.trace) done)
+  pub passed : Passed (out_of done ++ mark_at state.continued) out sink sink'
+  pub read : Read bytes source source'
+
+-- what a turn leaves: the session goes on, or it is over
+abbrev pub After : {E : Type 0} → (Request → List E → Result Response ApiErr → Type 0) → (List E → Type 0) → (ℕ → Type 0) → SourceAt → SourceAt → SinkAt → SinkAt → Kept → ℕ → List ℕ → Option Ended → Type 0
+After exchange did shows source source' sink sink' kept number out None = (state : State) × Stands state kept × Going exchange did source source' sink sink' state number out
+After exchange did shows source source' sink sink' kept number out (Some ended) = Served exchange did shows source source' sink sink' ended
+
+-- `Continue` was gathered, or there was no room for it
+abbrev pub Continues : List ℕ → List ℕ → SinkAt → SinkAt → Option Ended → Type 0
+Continues out out' sink sink' result = ((result ≡ None) × (out' ≡ out ++ continue_bytes) × (sink' ≡ sink)) ⊎ LacksRoom out sink sink' result
+
+-- how a session ends with bytes that are refused, or for want of memory
+abbrev pub EndsBy : FrameErr → List ℕ → SinkAt → SinkAt → Ended → Type 0
+EndsBy refusal.NoMemory out sink sink' result = IsFinish NoMemory (out ++ no_memory_response) sink sink' result
+EndsBy why out sink sink' result = IsFinish (Refused why) (out ++ refused_bytes why) sink sink' result ⊎ IsFinish NoMemory (out ++ no_memory_response) sink sink' result

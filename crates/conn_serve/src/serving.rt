@@ -1,0 +1,147 @@
+ghost use Rattle.std.specs.Prelude.{◌≡◌, ◌<◌, ℕ, None, Ok};
+ghost use Rattle.http_frames.specs.Framing.{State, Stands, IsNext};
+ghost use Rattle.conn_serve.specs.Ends.{SourceAt, SinkAt, sink_at, source_at};
+ghost use Rattle.conn_serve.specs.Going.{Going, After, Continues, EndsBy};
+ghost use Rattle.conn_serve.specs.Served.{Served};
+
+use crate::answering::answer;
+use crate::ending::{finish_refused, finish_without_memory};
+use crate::wanting::want;
+use crate::{Ended, Handler};
+use http_frames::laws::{answers_go_on, between_requests_nothing_is_left, bytes_go_on};
+use http_frames::{FrameErr, Framer, Step, continue_bytes};
+use side_base::Blob;
+use side_world::{Sink, Source};
+use std::alloc::Global;
+use std::sync::Wait;
+
+/// How many bytes are read at once.
+const PIECE: usize = 16_384;
+
+/// What a connection keeps while it is served.
+#[derive(Drop)]
+struct Progress {
+    framer: Framer,
+    /// Where bytes are read to.
+    piece: [u8; PIECE],
+    /// Responses that are not sent yet.
+    out: Blob,
+    /// How many requests were answered.
+    answered: u32,
+}
+
+/// Serves one connection: reads requests from `source`, answers each by `handler`, in order, and writes the responses to `sink`.
+///
+/// Responses to requests that came together go out together, before more is read.
+pub fn serve<H: Handler, S: Source, N: Sink, W: Wait>(
+    rt: &W,
+    alloc: Global,
+    handler: &mut H,
+    source: &mut S,
+    sink: &mut N,
+) -> Ended
+    requires { H.ready handler.old }
+    ensures { Served (H.exchange handler.old) (λ events. H.did handler.old events handler.new) (H.shows handler.new) (source_at S.Source source.old) (source_at S.Source source.new) (sink_at N.Sink sink.old) (sink_at N.Sink sink.new) result }
+{
+    bytes_go_on();
+    let mut progress = Progress {
+        framer: Framer::new(alloc),
+        piece: [0; PIECE],
+        out: Blob::new(alloc),
+        answered: 0,
+    };
+    for _ in rt.forever() {
+        if let Some(ended) = turn(rt, alloc, &mut progress, handler, source, sink) {
+            return ended;
+        }
+    }
+    unreachable!()
+}
+
+/// Takes the next step of the stream, and says how the session ends, if it does.
+fn turn<H: Handler, S: Source, N: Sink, W: Wait>(
+    rt: &W,
+    alloc: Global,
+    progress: &mut Progress,
+    handler: &mut H,
+    source: &mut S,
+    sink: &mut N,
+) -> Option<Ended>
+    requires ready { H.ready handler.old }
+    requires below { progress.old.answered < 100000 }
+    ensures ready { H.ready handler.new }
+    ensures below { result ≡ None → progress.new.answered < 100000 }
+    ensures after { (first : H) (source0 : SourceAt) (sink0 : SinkAt) (state : State) → Stands state progress.old.framer → Going (H.exchange first) (λ events. H.did first events handler.old) source0 (source_at S.Source source.old) sink0 (sink_at N.Sink sink.old) state progress.old.answered progress.old.out → After (H.exchange first) (λ events. H.did first events handler.new) (H.shows handler.new) source0 (source_at S.Source source.new) sink0 (sink_at N.Sink sink.new) progress.new.framer progress.new.answered progress.new.out result }
+{
+    bytes_go_on();
+    answers_go_on();
+    between_requests_nothing_is_left();
+    match progress.framer.next() {
+        Ok(step) => take(rt, alloc, progress, step, handler, source, sink),
+        Err(why) => Some(refuse(alloc, why, &mut progress.out, sink)),
+    }
+}
+
+/// Goes on with a step of the stream.
+fn take<H: Handler, S: Source, N: Sink, W: Wait>(
+    rt: &W,
+    alloc: Global,
+    progress: &mut Progress,
+    step: Step,
+    handler: &mut H,
+    source: &mut S,
+    sink: &mut N,
+) -> Option<Ended>
+    requires ready { H.ready handler.old }
+    requires below { progress.old.answered < 100000 }
+    ensures ready { H.ready handler.new }
+    ensures below { result ≡ None → progress.new.answered < 100000 }
+    ensures after { (first : H) (source0 : SourceAt) (sink0 : SinkAt) (state new : State) → Stands new progress.old.framer → IsNext state (Ok step) new → Going (H.exchange first) (λ events. H.did first events handler.old) source0 (source_at S.Source source.old) sink0 (sink_at N.Sink sink.old) state progress.old.answered progress.old.out → After (H.exchange first) (λ events. H.did first events handler.new) (H.shows handler.new) source0 (source_at S.Source source.new) sink0 (sink_at N.Sink sink.new) progress.new.framer progress.new.answered progress.new.out result }
+{
+    bytes_go_on();
+    answers_go_on();
+    between_requests_nothing_is_left();
+    match step {
+        Step::Request(request) => {
+            progress.answered += 1;
+            let number = progress.answered;
+            answer(
+                rt,
+                alloc,
+                handler,
+                number,
+                &request,
+                &mut progress.out,
+                sink,
+            )
+        }
+        Step::Continue => gather_continue(&mut progress.out, sink),
+        Step::Need => want(
+            &mut progress.framer,
+            &mut progress.piece,
+            &mut progress.out,
+            source,
+            sink,
+        ),
+    }
+}
+
+/// Gathers the response that asks for the content of a request.
+fn gather_continue<N: Sink>(out: &mut Blob, sink: &mut N) -> Option<Ended>
+    ensures { Continues out.old out.new (sink_at N.Sink sink.old) (sink_at N.Sink sink.new) result }
+{
+    match out.push(continue_bytes()) {
+        Ok(()) => None,
+        Err(_) => Some(finish_without_memory(Ended::NoMemory, out, sink)),
+    }
+}
+
+/// Ends the session with bytes that are refused, or for want of memory.
+fn refuse<N: Sink>(alloc: Global, why: FrameErr, out: &mut Blob, sink: &mut N) -> Ended
+    ensures { EndsBy why out.old (sink_at N.Sink sink.old) (sink_at N.Sink sink.new) result }
+{
+    match why {
+        FrameErr::NoMemory => finish_without_memory(Ended::NoMemory, out, sink),
+        _ => finish_refused(alloc, why, out, sink),
+    }
+}
