@@ -111,7 +111,7 @@ nothing_asks text none asking =
     let token = asking.heads.reads.0.method.0 in
     omega (arith, ap length none, ap length asking.heads.reads.1, length-append (print_request asking.head) asking.after, head_some asking.head token)
 
-untold : (text : List ℕ) (continued : Bool) → (continued ≡ true → IsAsking text) → text ≡ [] → continued ≡ false
+pub untold : (text : List ℕ) (continued : Bool) → (continued ≡ true → IsAsking text) → text ≡ [] → continued ≡ false
 untold text true asking none = absurd (nothing_asks text none (asking refl))
 untold text false asking none = refl
 
