@@ -119,10 +119,10 @@ pub between_rest : (bytes : List ℕ) (steps : List Step) (state new : State) (w
     → IsNeedStep state new → IsStream bytes wholes rest → (state ≡ waiting [] false → rest ≡ []) × (rest ≡ [] → state ≡ waiting [] false)
 between_rest bytes steps state new wholes rest run need stream =
     let is = open_of bytes steps state (run_stands bytes steps state run) need.waits in
-    let same = (stream_unique bytes is.wholes wholes state.pending rest (record { begins = is.begins; none = need.none }) stream).1 in (
+    let same = (stream_unique bytes is.wholes wholes state.pending rest (record { begins = is.midway.begins; none = need.none }) stream).1 in (
       λ between. sym same ∙ ap (λ (s : State). s.pending) between,
       λ none.
           let nothing = same ∙ none in
-          let told = untold state.pending state.continued is.asking nothing in
+          let told = untold state.pending state.continued is.midway.asking nothing in
           λ i. record { pending = nothing i; continued = told i; refused = need.waits i },
     )

@@ -92,7 +92,7 @@ mid_next bytes wholes old new (Err BadChunk) is next = mid_refused bytes wholes 
 pub run_mid : (bytes : List ℕ) (steps : List Step) (state : State) → Run bytes steps state → state.refused ≡ None → HasGiven bytes steps state
 run_mid bytes steps state run waits =
     let is = open_of bytes steps state (run_stands bytes steps state run) waits in
-    record { wholes = is.wholes; midway = record { waits = waits; begins = is.begins; asking = is.asking }; all = is.told }
+    record { wholes = is.wholes; midway = record { waits = waits; begins = is.midway.begins; asking = is.midway.asking }; all = is.all }
 
 -- where nothing is pending the stream is between requests
 pub mid_between : (bytes : List ℕ) (wholes : List Whole) (state : State) → Midway bytes wholes state
