@@ -1,4 +1,4 @@
-use Rattle.std.proofs.Common.{◌≡◌, ◌∙◌, ◌∷◌, [], false, Result, Ok, ap, subst}
+use Rattle.std.proofs.Common.{◌≡◌, ◌∙◌, [], false, Result, Ok, ap, subst}
 use Rattle.http_frames.specs.declared.step.Step.{Step}
 use Rattle.http_frames.specs.declared.step.Step.TheVariants as step
 use Rattle.http_frames.specs.declared.refusal.FrameErr.{FrameErr}
