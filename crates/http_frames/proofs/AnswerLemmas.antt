@@ -66,7 +66,7 @@ whole_front one other same = ([], sym same ∙ sym (append-nil one))
 -- the requests that an open stream gave begin those of its bytes
 goes_of : (bytes : List ℕ) (steps all : List Step) (pending : List ℕ) (continued : Bool) (refusal : Option FrameErr)
     (is : Open bytes steps pending continued) (it : Gives bytes all refusal) → Goes is.wholes it.wholes pending it.rest
-goes_of bytes steps all pending continued refusal is it = elim (meet bytes is.wholes it.wholes pending it.rest is.begins it.stream.begins) [
+goes_of bytes steps all pending continued refusal is it = elim (meet bytes is.wholes it.wholes pending it.rest is.midway.begins it.stream.begins) [
   | inl goes ↦ goes
   | inr goes ↦
       let ends = ends_there it.rest goes.others pending it.stream.none goes.begins in
@@ -81,9 +81,9 @@ stands_front : (bytes : List ℕ) (steps all : List Step) (refused : Option Fram
     → Stands bytes steps refused pending continued → Gives bytes all refusal → IsFront steps all
 stands_front bytes steps all None pending continued refusal is it =
     let goes = goes_of bytes steps all pending continued refusal is it in
-    same_front steps all _ _ is.told it.all
+    same_front steps all _ _ is.all it.all
     (longer is.wholes goes.others it.wholes it.mark (mark_of continued) goes.is
-    (behind pending goes.others it.rest it.mark continued goes.begins is.asking it.marked))
+    (behind pending goes.others it.rest it.mark continued goes.begins is.midway.asking it.marked))
 stands_front bytes steps all (Some e) pending continued refusal is it =
     whole_front steps all (gives_unique bytes steps all (Some e) refusal is it).0
 
@@ -123,14 +123,14 @@ next_answer bytes steps all state new (Err e) refusal run it next = elim (refuse
 
 -- two runs over the same bytes
 open_fronts : (bytes : List ℕ) (one other : List Step) (p q : List ℕ) (c d : Bool) → Open bytes one p c → Open bytes other q d → AreFronts one other
-open_fronts bytes one other p q c d is it = elim (meet bytes is.wholes it.wholes p q is.begins it.begins) [
-  | inl goes ↦ elim (behind_both p goes.others q c d goes.begins is.asking) [
-    | inl front ↦ inl (same_front one other _ _ is.told it.told (longer is.wholes goes.others it.wholes (mark_of d) (mark_of c) goes.is front))
-    | inr front ↦ inr (same_front other one _ _ it.told is.told (shorter is.wholes goes.others it.wholes (mark_of d) (mark_of c) goes.is front))
+open_fronts bytes one other p q c d is it = elim (meet bytes is.wholes it.wholes p q is.midway.begins it.midway.begins) [
+  | inl goes ↦ elim (behind_both p goes.others q c d goes.begins is.midway.asking) [
+    | inl front ↦ inl (same_front one other _ _ is.all it.all (longer is.wholes goes.others it.wholes (mark_of d) (mark_of c) goes.is front))
+    | inr front ↦ inr (same_front other one _ _ it.all is.all (shorter is.wholes goes.others it.wholes (mark_of d) (mark_of c) goes.is front))
   ]
-  | inr goes ↦ elim (behind_both q goes.others p d c goes.begins it.asking) [
-    | inl front ↦ inr (same_front other one _ _ it.told is.told (longer it.wholes goes.others is.wholes (mark_of c) (mark_of d) goes.is front))
-    | inr front ↦ inl (same_front one other _ _ is.told it.told (shorter it.wholes goes.others is.wholes (mark_of c) (mark_of d) goes.is front))
+  | inr goes ↦ elim (behind_both q goes.others p d c goes.begins it.midway.asking) [
+    | inl front ↦ inr (same_front other one _ _ it.all is.all (longer it.wholes goes.others is.wholes (mark_of c) (mark_of d) goes.is front))
+    | inr front ↦ inl (same_front one other _ _ is.all it.all (shorter it.wholes goes.others is.wholes (mark_of c) (mark_of d) goes.is front))
   ]
 ]
 

@@ -111,7 +111,7 @@ nothing_asks text none asking =
     let token = asking.heads.reads.0.method.0 in
     omega (arith, ap length none, ap length asking.heads.reads.1, length-append (print_request asking.head) asking.after, head_some asking.head token)
 
-untold : (text : List ℕ) (continued : Bool) → (continued ≡ true → IsAsking text) → text ≡ [] → continued ≡ false
+pub untold : (text : List ℕ) (continued : Bool) → (continued ≡ true → IsAsking text) → text ≡ [] → continued ≡ false
 untold text true asking none = absurd (nothing_asks text none (asking refl))
 untold text false asking none = refl
 
@@ -119,10 +119,10 @@ pub between_rest : (bytes : List ℕ) (steps : List Step) (state new : State) (w
     → IsNeedStep state new → IsStream bytes wholes rest → (state ≡ waiting [] false → rest ≡ []) × (rest ≡ [] → state ≡ waiting [] false)
 between_rest bytes steps state new wholes rest run need stream =
     let is = open_of bytes steps state (run_stands bytes steps state run) need.waits in
-    let same = (stream_unique bytes is.wholes wholes state.pending rest (record { begins = is.begins; none = need.none }) stream).1 in (
+    let same = (stream_unique bytes is.wholes wholes state.pending rest (record { begins = is.midway.begins; none = need.none }) stream).1 in (
       λ between. sym same ∙ ap (λ (s : State). s.pending) between,
       λ none.
           let nothing = same ∙ none in
-          let told = untold state.pending state.continued is.asking nothing in
+          let told = untold state.pending state.continued is.midway.asking nothing in
           λ i. record { pending = nothing i; continued = told i; refused = need.waits i },
     )

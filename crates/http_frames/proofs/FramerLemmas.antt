@@ -12,7 +12,7 @@ use Rattle.http_frames.specs.declared.framer.Stage.TheVariants as stage
 use Rattle.http_frames.specs.declared.turn.Turn.{Turn}
 use Rattle.http_frames.specs.declared.turn.Turn.TheVariants as turn
 use Rattle.http_frames.specs.declared.progress.Content.{Content}
-use Rattle.http_frames.specs.Framing.{State, Stands, Answers, waiting, ended, fed, IsRequestStep, IsNeedStep, IsRefusal, IsNext}
+use Rattle.http_frames.specs.Framing.{State, Stands, Answers, waiting, ended, IsRequestStep, IsNeedStep, IsRefusal, IsNext}
 use Rattle.http_frames.specs.Framer.{state_at, kept_of, IsStage}
 use Rattle.http_frames.specs.Lines.{beginning}
 use Rattle.http_frames.specs.Progress.{HoldsContent}
@@ -145,13 +145,3 @@ pub stands_next : (old new : State) (answer : Result Step FrameErr) → IsNext o
 stands_next old new answer next state is =
     let P : State → Type 0 = λ s. IsNext s answer new in
     record { new = new; next = subst P (sym (stands_is state old is)) next; stands = stands_for new }
-
-pub stands_fed : (old new : State) (piece : List ℕ) → new ≡ fed old piece → (state : State) → Stands state (kept_of old) → Stands (fed state piece) (kept_of new)
-stands_fed old new piece same state is =
-    let P : State → Type 0 = λ s. Stands s (kept_of new) in
-    subst P (same ∙ ap (λ (s : State). fed s piece) (sym (stands_is state old is))) (stands_for new)
-
-pub stands_still : (old new : State) → new ≡ old → (state : State) → Stands state (kept_of old) → Stands state (kept_of new)
-stands_still old new same state is =
-    let P : State → Type 0 = λ s. Stands s (kept_of new) in
-    subst P (same ∙ sym (stands_is state old is)) (stands_for new)

@@ -10,6 +10,7 @@ use Rattle.http_frames.specs.Streams.{Whole, IsAsking, Midway, HasGiven, IsMarke
 use Rattle.http_frames.proofs.RowLemmas.{none_is_some}
 use Rattle.http_frames.proofs.WholeLemmas.{refused_none}
 use Rattle.http_frames.proofs.StreamLemmas.{begins_more, begins_on}
+use Rattle.http_frames.proofs.EndLemmas.{untold}
 use Rattle.http_frames.proofs.RunLemmas.{asking_head, asking_more, mark_is, open_of, run_stands}
 
 pub mid_made : Midway [] [] (waiting [] false)
@@ -91,4 +92,14 @@ mid_next bytes wholes old new (Err BadChunk) is next = mid_refused bytes wholes 
 pub run_mid : (bytes : List ℕ) (steps : List Step) (state : State) → Run bytes steps state → state.refused ≡ None → HasGiven bytes steps state
 run_mid bytes steps state run waits =
     let is = open_of bytes steps state (run_stands bytes steps state run) waits in
-    record { wholes = is.wholes; midway = record { waits = waits; begins = is.begins; asking = is.asking }; all = is.told }
+    record { wholes = is.wholes; midway = record { waits = waits; begins = is.midway.begins; asking = is.midway.asking }; all = is.all }
+
+-- where nothing is pending the stream is between requests
+pub mid_between : (bytes : List ℕ) (wholes : List Whole) (state : State) → Midway bytes wholes state
+    → (state ≡ waiting [] false → state.pending ≡ []) × (state.pending ≡ [] → state ≡ waiting [] false)
+mid_between bytes wholes state is = (
+  λ between. ap (λ (s : State). s.pending) between,
+  λ none.
+      let told = untold state.pending state.continued is.asking none in
+      λ i. record { pending = none i; continued = told i; refused = is.waits i },
+)

@@ -1,9 +1,8 @@
 -- A request that was written to be read is read as one whole request.
-use Rattle.std.proofs.Common.{◌≡◌, ℕ, All, ◌+◌, ◌<◌, ◌≤◌, ◌^◌, Bool, true, false, not, List, [], ◌∷◌, ◌++◌, length, map, reverse, codes, decimal, nat_lt, Option, Some, None, inl, inr, refl, sym, ap, ◌∙◌, subst, arith, append_assoc, append-nil, length-append}
-use Rattle.std.specs.List.{flat_map, list_all}
+use Rattle.std.proofs.Common.{◌≡◌, ℕ, All, ◌≤◌, true, false, List, [], ◌∷◌, ◌++◌, length, map, reverse, codes, decimal, nat_lt, Option, Some, None, refl, sym, ap, ◌∙◌, arith, append_assoc, length-append}
+use Rattle.std.specs.List.{flat_map}
 use Rattle.std.specs.Char.{is_ascii_digit}
 use Rattle.std.specs.Str.Parse.{digits_value, AllDigits}
-use Rattle.std.proofs.lemmas.Bool.{false≢true}
 use Rattle.std.proofs.lemmas.Bool.Decides.{nat_tests}
 use Rattle.std.proofs.lemmas.Fmt.{decimal_is_IsNumeral, length-decimal-le}
 use Rattle.std.proofs.lemmas.Str.Parse.{digit_from_value}
@@ -15,9 +14,8 @@ use Rattle.httparse.proofs.TrimLemmas.{trim_ows_space, AllPass-reverse}
 use Rattle.side_base.specs.declared.message.Field.{Field}
 use Rattle.side_base.specs.declared.message.Request.{Request}
 use Rattle.side_base.specs.Field.{is_same_word}
-use Rattle.http_frames.specs.HeadRules.{HEAD_LIMIT, BODY_LIMIT, fields_of, field_of, fields_refusal, head_refusal, is_chunked, is_length, is_bad_host, is_bad_coding, is_bad_length, is_encoded, content_length, count_named, any_value, asks_to_continue, method_of, request_of}
-use Rattle.http_frames.specs.Requests.{ReadsHead, ReadsWhole}
-use Rattle.http_frames.specs.Streams.{Whole, IsStream, asks}
+use Rattle.http_frames.specs.HeadRules.{BODY_LIMIT, field_of, fields_refusal, is_chunked, is_length, is_bad_host, is_bad_coding, is_bad_length, is_encoded, content_length, count_named, any_value, asks_to_continue, method_of}
+use Rattle.http_frames.specs.Requests.{ReadsWhole}
 use Rattle.http_frames.specs.Written.{line_end, field_line}
 use Rattle.http_frames.specs.Printed.{host_field, length_field, printed_fields, body_of, printed_head, printed, printed_request, MayBePrinted, IsOneWhole, AreWhole}
 use Rattle.http_frames.proofs.RequestLemmas.{whole_length}

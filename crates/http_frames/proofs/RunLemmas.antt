@@ -11,20 +11,17 @@ use Rattle.http_frames.specs.declared.refusal.FrameErr.{FrameErr}
 use Rattle.http_frames.specs.declared.refusal.FrameErr.TheVariants.{HeadTooLong, BadHead, TooManyHeaders, BadHost, BothLengths, TransferCoding, BadLength, Coding, TooLong, BadChunk, NoMemory}
 use Rattle.http_frames.specs.HeadRules.{request_of}
 use Rattle.http_frames.specs.Requests.{ReadsHead, ReadsWhole, HasNoWhole}
-use Rattle.http_frames.specs.Framing.{State, ended, fed, IsNext, IsNeedStep, IsRefusal, IsQuiet}
-use Rattle.http_frames.specs.Streams.{Whole, Begins, asks, steps_of, IsAsking, RestGives, RestEnds, Gives, given, Run, made, feeds, gives, IsLast, HasEnded}
+use Rattle.http_frames.specs.Framing.{State, waiting, ended, fed, IsNext, IsNeedStep, IsRefusal, IsQuiet}
+use Rattle.http_frames.specs.Streams.{Whole, HasGiven, asks, steps_of, IsAsking, RestGives, RestEnds, Gives, given, Run, made, feeds, gives, IsLast, HasEnded}
 use Rattle.http_frames.proofs.WholeLemmas.{head_more, head_less, refused_none, refused_more, refusal_unique, refused_accepted}
 use Rattle.http_frames.proofs.StreamLemmas.{begins_more, begins_on, stream_unique}
 
 abbrev pub mark_of : Bool → List Step
 mark_of continued = cond continued (step.Continue ∷ []) []
 
--- an open stream: whole requests that were given, and the bytes behind them, of whose head `Continue` may have been given
-pub record Open (bytes : List ℕ) (steps : List Step) (pending : List ℕ) (continued : Bool) : Type 0 where
-  pub wholes : List Whole
-  pub begins : Begins bytes wholes pending
-  pub told : steps ≡ flat_map steps_of wholes ++ mark_of continued
-  pub asking : continued ≡ true → IsAsking pending
+-- an open stream, of which these bytes are pending
+abbrev pub Open : List ℕ → List Step → List ℕ → Bool → Type 0
+Open bytes steps pending continued = HasGiven bytes steps (waiting pending continued)
 
 -- where a stream stands
 abbrev pub Stands : List ℕ → List Step → Option FrameErr → List ℕ → Bool → Type 0
@@ -57,17 +54,20 @@ open_request : (bytes : List ℕ) (steps : List Step) (pending : List ℕ) (cont
     → (asks head ≡ true → continued ≡ true) → Open bytes (steps ++ step.Request request ∷ []) rest false
 open_request bytes steps pending continued request head body rest is whole same told =
     let w : Whole = record { head = head; body = body } in
-    let mark = mark_is head continued (λ c. asking_head pending head whole.after whole.heads (is.asking c)) told in
+    let mark = mark_is head continued (λ c. asking_head pending head whole.after whole.heads (is.midway.asking c)) told in
     let all = flat_map steps_of is.wholes in
     let last = step.Request (request_of head body) ∷ [] in
     record {
       wholes = is.wholes ++ w ∷ [];
-      begins = begins_more bytes is.wholes pending w rest is.begins whole;
-      told = ap (λ (t : List Step). t ++ step.Request request ∷ []) is.told ∙ append_assoc all (mark_of continued) (step.Request request ∷ [])
+      midway = record {
+        waits = refl;
+        begins = begins_more bytes is.wholes pending w rest is.midway.begins whole;
+        asking = λ wrong. absurd (false≢true wrong);
+      };
+      all = ap (λ (t : List Step). t ++ step.Request request ∷ []) is.all ∙ append_assoc all (mark_of continued) (step.Request request ∷ [])
           ∙ ap (λ (r : Request). all ++ (mark_of continued ++ step.Request r ∷ [])) same
           ∙ ap (λ (t : List Step). all ++ t) (sym (steps_are w continued mark))
           ∙ one_more is.wholes w ∙ sym (append-nil (flat_map steps_of (is.wholes ++ w ∷ [])));
-      asking = λ wrong. absurd (false≢true wrong);
     }
   where
     one_more : (wholes : List Whole) (w : Whole) → flat_map steps_of wholes ++ steps_of w ≡ flat_map steps_of (wholes ++ w ∷ [])
@@ -79,9 +79,8 @@ open_continue : (bytes : List ℕ) (steps : List Step) (pending : List ℕ) (con
     → IsAsking pending → Open bytes (steps ++ step.Continue ∷ []) pending true
 open_continue bytes steps pending continued is untold asking = record {
   wholes = is.wholes;
-  begins = is.begins;
-  told = ap (λ (t : List Step). t ++ step.Continue ∷ []) (is.told ∙ ap (λ (b : Bool). flat_map steps_of is.wholes ++ mark_of b) untold ∙ append-nil (flat_map steps_of is.wholes));
-  asking = λ _. asking;
+  midway = record { waits = refl; begins = is.midway.begins; asking = λ _. asking };
+  all = ap (λ (t : List Step). t ++ step.Continue ∷ []) (is.all ∙ ap (λ (b : Bool). flat_map steps_of is.wholes ++ mark_of b) untold ∙ append-nil (flat_map steps_of is.wholes));
 }
 
 -- what is given where nothing further can be
@@ -90,10 +89,10 @@ open_ends : (bytes : List ℕ) (steps : List Step) (pending : List ℕ) (continu
 open_ends bytes steps pending continued refusal is quiet none end = record {
   wholes = is.wholes;
   rest = pending;
-  stream = record { begins = is.begins; none = none };
+  stream = record { begins = is.midway.begins; none = none };
   mark = mark_of continued;
-  marked = marked pending continued is.asking quiet;
-  all = is.told;
+  marked = marked pending continued is.midway.asking quiet;
+  all = is.all;
   end = end;
 }
   where
@@ -135,9 +134,12 @@ fed_stands : (bytes piece : List ℕ) (steps : List Step) (refused : Option Fram
     → StandsAt (bytes ++ piece) steps (fed (record { pending = pending; continued = continued; refused = refused }) piece)
 fed_stands bytes piece steps None pending continued is = record {
   wholes = is.wholes;
-  begins = begins_on bytes is.wholes pending piece is.begins;
-  told = is.told;
-  asking = λ c. asking_more pending piece (is.asking c);
+  midway = record {
+    waits = refl;
+    begins = begins_on bytes is.wholes pending piece is.midway.begins;
+    asking = λ c. asking_more pending piece (is.midway.asking c);
+  };
+  all = is.all;
 }
 fed_stands bytes piece steps (Some error) pending continued is = gives_on bytes piece steps error is
 
@@ -202,7 +204,7 @@ next_stands bytes steps old new (Err e) is next = elim (refused_of e old new nex
 ]
 
 pub run_stands : (bytes : List ℕ) (steps : List Step) (state : State) → Run bytes steps state → StandsAt bytes steps state
-run_stands _ _ _ made = record { wholes = []; begins = refl; told = refl; asking = λ wrong. absurd (false≢true wrong) }
+run_stands _ _ _ made = record { wholes = []; midway = record { waits = refl; begins = refl; asking = λ wrong. absurd (false≢true wrong) }; all = refl }
 run_stands _ _ _ (feeds {bytes} {steps} {state} piece run) =
     fed_stands bytes piece steps state.refused state.pending state.continued (run_stands bytes steps state run)
 run_stands _ _ _ (gives {bytes} {steps} {state} answer new run next) =

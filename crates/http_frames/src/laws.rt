@@ -65,9 +65,11 @@ pub fn cuts_do_not_matter()
     ensures ends { (bytes : List ℕ) (one other : List Step) (end last : Option FrameErr) → HasEnded bytes one end → HasEnded bytes other last → (one ≡ other) × (end ≡ last) }
 {}
 
-/// Where a framer answers `Need` it is between requests exactly if the bytes fed in all are whole requests alone.
+/// Where a framer answers `Need` it is between requests exactly if the bytes fed in all are whole requests alone; and mid-stream it is so exactly where nothing
+/// is pending.
 pub fn between_requests_nothing_is_left()
-    ensures { (bytes : List ℕ) (steps : List Step) (state new : State) (wholes : List Whole) (rest : List ℕ) → Run bytes steps state → IsNeedStep state new → IsStream bytes wholes rest → (state ≡ waiting [] false) ↔ (rest ≡ []) }
+    ensures need { (bytes : List ℕ) (steps : List Step) (state new : State) (wholes : List Whole) (rest : List ℕ) → Run bytes steps state → IsNeedStep state new → IsStream bytes wholes rest → (state ≡ waiting [] false) ↔ (rest ≡ []) }
+    ensures midway { (bytes : List ℕ) (wholes : List Whole) (state : State) → Midway bytes wholes state → (state ≡ waiting [] false) ↔ (state.pending ≡ []) }
 {}
 
 /// A request that is written with its method, its target, the host `a` and, where it has content, the content's length in decimal digits, and then the

@@ -9,8 +9,8 @@
 //! - `connection` tells whether the connection ends after a request.
 //! - `response` writes a response.
 //! - `plain` reads requests of two plain forms, as the first path takes them.
-//! - `laws` has what holds of all bytes: that they are one stream in one way, and that the answers of a framer are that
-//!   stream however the bytes were cut.
+//! - `laws` has what holds of all bytes: that they are one stream in one way, that the answers of a framer are that stream however the bytes were cut, that what
+//!   it has given begins the bytes at each moment, and that a request that is written is one whole request.
 #![tactic(auto)]
 
 mod chunk_line;

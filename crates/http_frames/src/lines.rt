@@ -1,4 +1,4 @@
-ghost use Rattle.std.specs.Prelude.{◌≡◌, ◌<◌, ◌≤◌, length, drop, IfOk, IsTrue};
+ghost use Rattle.std.specs.Prelude.{◌≡◌, ◌<◌, ◌≤◌, length, drop, IfOk, IfSome, IsTrue, slice_index};
 ghost use Rattle.std.specs.List.{list_all};
 ghost use Rattle.httparse.specs.Grammar.{HasNoRequest, MayBecomeRequest};
 ghost use Rattle.httparse.specs.Pieces.{is_newline};
@@ -10,7 +10,6 @@ use crate::head::{HeadRead, read_head, unless_in_target};
 use crate::trailers::{TrailersRead, section_within};
 use httparse::spans::EMPTY_HEADER_SPAN;
 use httparse::{is_header_value, is_token};
-use memchr::{memchr, memrchr};
 use side_base::NoMemory;
 use std::alloc::Global;
 
@@ -106,10 +105,34 @@ fn goes_on(text: &[u8], place: Place) -> bool
 fn is_in_value(bytes: &[u8]) -> bool
     ensures { IsTrue result → IsInValue bytes.now }
 {
-    match memchr(COLON, bytes) {
+    match colon_at(bytes) {
         Some(at) => is_token(&bytes[..at]) && is_header_value(&bytes[at + 1..]),
         None => false,
     }
+}
+
+/// The place of the first colon.
+fn colon_at(bytes: &[u8]) -> Option<usize>
+    ensures { IfSome result (λ at. (at < length bytes.now) × (slice_index bytes.now at ≡ 58)) }
+{
+    for at in 0..bytes.len() {
+        if bytes[at] == COLON {
+            return Some(at);
+        }
+    }
+    None
+}
+
+/// The place of the last line feed.
+fn last_feed(bytes: &[u8]) -> Option<usize>
+    ensures { IfSome result (λ at. (at < length bytes.now) × (slice_index bytes.now at ≡ 10)) }
+{
+    for at in (0..bytes.len()).rev() {
+        if bytes[at] == LF {
+            return Some(at);
+        }
+    }
+    None
 }
 
 /// Up to where a text that may become a head has whole lines of it; up to `lines` it has.
@@ -120,7 +143,7 @@ fn whole_lines(text: &[u8], lines: usize) -> usize
     requires may { MayBecomeRequest text.now }
     ensures { AreLines text.now result }
 {
-    match memrchr(LF, &text[lines..]) {
+    match last_feed(&text[lines..]) {
         Some(behind) => {
             let at = lines + behind;
             if are_line_ends(&text[..at]) {

@@ -3,6 +3,7 @@ mod connection;
 mod cuts;
 mod heads;
 mod limits;
+mod midway;
 mod pairs;
 mod plain;
 mod response;

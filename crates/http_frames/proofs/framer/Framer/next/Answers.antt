@@ -1,4 +1,4 @@
-use Rattle.std.proofs.Common.{◌≡◌, ◌∙◌, ◌+◌, ◌-◌, List, ℕ, false, Result, Ok, Err, length, take, drop, sym, ap, subst, drop-drop}
+use Rattle.std.proofs.Common.{◌≡◌, ◌∙◌, ◌-◌, List, ℕ, false, Result, Ok, length, take, drop, sym, ap, subst, drop-drop}
 use Rattle.std.proofs.lemmas.List.{take_rest}
 use Rattle.std.specs.declared.alloc.AllocError.{AllocError}
 use Rattle.http_frames.specs.declared.framer.Stage.{Stage}
