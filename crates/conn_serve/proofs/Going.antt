@@ -162,3 +162,7 @@ module _ {E : Type 0} (exchange : Request → List E → Result Response ApiErr 
     };
     read = g.read;
   }
+
+pub none_of : {X : Type 0} (o : Option X) → ((x : X) → o ≡ Some x → ⊥) → o ≡ None
+none_of None never = refl
+none_of (Some x) never = absurd (never x refl)
