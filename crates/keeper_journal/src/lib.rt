@@ -16,8 +16,3 @@ pub use any_keeper::AnyKeeper;
 pub use decoding::{BodyErr, decode};
 pub use encoding::{body_len, encode};
 pub use journal_keeper::JournalKeeper;
-
-#[cfg(test)]
-mod memory_tests;
-#[cfg(test)]
-mod tests;

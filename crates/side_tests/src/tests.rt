@@ -1,5 +1,7 @@
-use side_base::{NoMemory, Sequence};
+//! Each device is played one text, of which a line is a call and, behind its first `=`, the answer that it must have.
+use side_base::{Blob, NoMemory, Sequence};
 use std::alloc::Global;
+use std::process::Abort;
 
 mod acceptors;
 mod bytes;
@@ -9,6 +11,60 @@ mod files;
 mod links;
 mod outsides;
 
-fn list<T: Copy>(alloc: Global, items: &[T]) -> Result<Sequence<T>, NoMemory> {
-    Ok(Sequence::from_vec(items.to_vec(alloc)?))
+/// A device that is called by the lines of a text.
+trait Device {
+    /// Makes a call: its name, what it is given, and what it answers.
+    fn answer(&mut self, alloc: Global, name: &str, given: &str) -> Result<Blob, NoMemory>;
+}
+
+/// Plays one line.
+fn plays_line<D: Device>(
+    rt: &impl Abort,
+    alloc: Global,
+    device: &mut D,
+    line: &str,
+) -> Result<(), NoMemory> {
+    let (call, wanted) = line.split_once('=').unwrap_or((line, ""));
+    let (name, given) = cut(call);
+    let answer = device.answer(alloc, name, given)?;
+    assert_eq!(rt; answer.bytes(), wanted.as_bytes(), "{line}");
+    Ok(())
+}
+
+/// Plays a text.
+fn plays<D: Device>(
+    rt: &impl Abort,
+    alloc: Global,
+    device: &mut D,
+    text: &str,
+) -> Result<(), NoMemory> {
+    for line in text.lines() {
+        plays_line(rt, alloc, device, line)?;
+    }
+    Ok(())
+}
+
+/// The first word of a text, and what follows the blank behind it.
+fn cut(text: &str) -> (&str, &str) {
+    text.split_once(' ').unwrap_or((text, ""))
+}
+
+fn said(alloc: Global, text: &str) -> Result<Blob, NoMemory> {
+    Blob::from_bytes(alloc, text.as_bytes())
+}
+
+/// `ok`, or `failed`.
+fn outcome<T, E>(alloc: Global, ended: &Result<T, E>) -> Result<Blob, NoMemory> {
+    said(alloc, if ended.is_ok() { "ok" } else { "failed" })
+}
+
+/// The digits of a text as numbers; other letters say nothing.
+fn list<T: From<u8> + Drop>(alloc: Global, digits: &str) -> Result<Sequence<T>, NoMemory> {
+    let mut numbers = Sequence::new(alloc);
+    for digit in digits.bytes() {
+        if digit.is_ascii_digit() {
+            numbers.push(T::from(digit - b'0'))?;
+        }
+    }
+    Ok(numbers)
 }

@@ -29,6 +29,18 @@ fn each(took: Duration, commands: u32) -> u128 {
     took.as_nanos() / u128::from(commands.max(1))
 }
 
+/// How the row with this number is stored: every other one for so many seconds where that is said.
+fn stored_as(number: u32, ttl: Option<u64>) -> Kind
+    requires { IsTtl ttl }
+    ensures { IsKind result }
+{
+    if number % 2 == 0 {
+        Kind::Save(ttl)
+    } else {
+        Kind::Save(None)
+    }
+}
+
 /// Stores so many rows, every other one of them for so many seconds where that is said.
 fn fill(
     alloc: Global,
@@ -45,12 +57,7 @@ fn fill(
 {
     let mut good: u32 = 0;
     for number in 0..rows {
-        let kind = if number % 2 == 0 {
-            Kind::Save(ttl)
-        } else {
-            Kind::Save(None)
-        };
-        let cmd = command(alloc, kind, number, now)?;
+        let cmd = command(alloc, stored_as(number, ttl), number, now)?;
         if ask(store, &cmd) {
             good = good.wrapping_add(1);
         }
@@ -163,6 +170,25 @@ pub fn lasting<R: Clock + Eprint>(rt: &R, alloc: Global, rows: u32) -> io::Resul
     )
 }
 
+/// What a save of the kind `ending` costs, which gives its row an end, and then one that takes it away.
+fn ends_cost<R: Clock>(
+    rt: &R,
+    alloc: Global,
+    store: &mut Store<MemoryKeeper>,
+    rows: u32,
+    ending: Kind,
+    now: Moment,
+) -> io::Result<[(u128, u128); 2]>
+    requires kind { IsKind ending }
+    requires room { ⟦<Store<MemoryKeeper> as Object>⟧.used store.old < 2 ^ 38 }
+    requires reached { IsReached ⟦<MemoryKeeper as Keeper>⟧ store.old }
+{
+    let given = costs(rt, alloc, store, Kind::Get, ending, rows, now)?;
+    let now = later(now, 2 * ROUNDS);
+    let taken = costs(rt, alloc, store, ending, Kind::Save(None), rows, now)?;
+    Ok([given, taken])
+}
+
 /// The same among so many rows of which every other one ends in so many seconds: a save that gives its row an end, and one that takes it
 /// away. Each measure begins later than the one before it has ended, since a store takes no moment back.
 pub fn ending<R: Clock + Eprint>(rt: &R, alloc: Global, rows: u32, seconds: u64) -> io::Result<()>
@@ -173,27 +199,10 @@ pub fn ending<R: Clock + Eprint>(rt: &R, alloc: Global, rows: u32, seconds: u64)
     };
     let keeper = MemoryKeeper::new(alloc, u64::MAX, Places::new(alloc), [0; 16]);
     let mut store = Store::new(alloc, keeper);
-    let ending = Kind::Save(Some(seconds));
     let stored = fill(alloc, &mut store, rows, Some(seconds), now)?;
     let get = costs(rt, alloc, &mut store, Kind::Get, Kind::Get, rows, now)?;
-    let given = costs(
-        rt,
-        alloc,
-        &mut store,
-        Kind::Get,
-        ending,
-        rows,
-        later(now, 2 * ROUNDS),
-    )?;
-    let taken = costs(
-        rt,
-        alloc,
-        &mut store,
-        ending,
-        Kind::Save(None),
-        rows,
-        later(now, 4 * ROUNDS),
-    )?;
+    let now = later(now, 2 * ROUNDS);
+    let [given, taken] = ends_cost(rt, alloc, &mut store, rows, Kind::Save(Some(seconds)), now)?;
     eprintln!(rt;
         "{stored} rows, half of them about to expire: get {} ns, a save that gives an end {} ns, one that takes it away {} ns; keys all over: {}, {} and {} ns",
         get.0, given.0, taken.0, get.1, given.1, taken.1

@@ -18,10 +18,11 @@ fn main(rt: HostRuntime) -> io::Result<()> {
             calls = number;
         }
     }
-    measures::alone(&rt, alloc, calls)?;
-    measures::two_on_one(&rt, alloc, calls)?;
-    measures::two_apart(&rt, alloc, calls)?;
-    measures::four_on_one(&rt, alloc, calls)?;
-    measures::four_apart(&rt, alloc, calls)?;
+    for others in [0, 1, 3] {
+        measures::on_one(&rt, alloc, others, calls)?;
+    }
+    for threads in [2, 4] {
+        measures::apart(&rt, alloc, threads, calls)?;
+    }
     measures::held(&rt, alloc, rt)
 }

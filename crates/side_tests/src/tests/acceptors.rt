@@ -1,4 +1,4 @@
-use super::list;
+use super::{Device, cut, list, plays, said};
 use side_base::{Blob, NoMemory, Places};
 use side_memory::{
     AcceptorAnswer, AcceptorAnswers, AcceptorNote, MemoryAcceptor, Sizes, Visit, Visited,
@@ -18,13 +18,13 @@ fn visit(alloc: Global, input: &[u8]) -> Result<Visit, NoMemory> {
 }
 
 // The answers that a text names: `i` idle, `c` closed, any other letter a connection that sends it.
-fn answers(alloc: Global, text: &[u8]) -> Result<AcceptorAnswers, NoMemory> {
+fn answers(alloc: Global, text: &str) -> Result<AcceptorAnswers, NoMemory> {
     let mut answers = AcceptorAnswers::new(alloc);
-    for letter in text {
+    for letter in text.bytes() {
         answers.push(match letter {
             b'i' => AcceptorAnswer::Idle,
             b'c' => AcceptorAnswer::Closed,
-            _ => AcceptorAnswer::Conn(visit(alloc, &[*letter])?),
+            _ => AcceptorAnswer::Conn(visit(alloc, &[letter])?),
         })?;
     }
     Ok(answers)
@@ -42,26 +42,31 @@ fn talk<S: Source, N: Sink>(alloc: Global, source: &mut S, sink: &mut N) -> u8 {
     }
 }
 
-// Accepts five times, and gives the letter of each answer: `i`, `c`, `f` for a failure, or what a connection sent.
-fn five_answers(alloc: Global, acceptor: &mut MemoryAcceptor) -> [u8; 5] {
-    let mut letters = [b'-'; 5];
-    for letter in letters.iter_mut() {
-        *letter = match acceptor.accept() {
-            Accepted::Conn {
-                mut source,
-                mut sink,
-            } => {
-                let read = talk(alloc, &mut source, &mut sink);
-                acceptor.end(source, sink);
-                read
-            }
-            Accepted::Idle => b'i',
-            Accepted::Closed => b'c',
-            Accepted::Failed => b'f',
-        };
+// The letter of an answer: `i`, `c`, `f` for a failure, or what a connection sent.
+fn one_answer(alloc: Global, acceptor: &mut MemoryAcceptor) -> u8 {
+    match acceptor.accept() {
+        Accepted::Conn {
+            mut source,
+            mut sink,
+        } => {
+            let read = talk(alloc, &mut source, &mut sink);
+            acceptor.end(source, sink);
+            read
+        }
+        Accepted::Idle => b'i',
+        Accepted::Closed => b'c',
+        Accepted::Failed => b'f',
+    }
+}
+
+// The letters of five answers.
+fn five_answers(alloc: Global, acceptor: &mut MemoryAcceptor) -> Result<Blob, NoMemory> {
+    let mut letters = Blob::new(alloc);
+    for _ in 0..5 {
+        letters.push_byte(one_answer(alloc, acceptor))?;
         acceptor.wake();
     }
-    letters
+    Ok(letters)
 }
 
 fn wrote(visited: &Visited) -> u8 {
@@ -88,19 +93,39 @@ fn told(alloc: Global, acceptor: &MemoryAcceptor) -> Result<Blob, NoMemory> {
     Ok(letters)
 }
 
+// `new` begins one with these answers, which fails at the listed calls.
+impl Device for MemoryAcceptor {
+    fn answer(&mut self, alloc: Global, name: &str, given: &str) -> Result<Blob, NoMemory> {
+        if name == "new" {
+            let (text, failing) = cut(given);
+            *self = MemoryAcceptor::new(alloc, answers(alloc, text)?, list(alloc, failing)?);
+            return Ok(Blob::new(alloc));
+        }
+        if name == "accept" {
+            return five_answers(alloc, self);
+        }
+        if name == "told" {
+            return told(alloc, self);
+        }
+        said(alloc, "unknown")
+    }
+}
+
+// An acceptor answers its list, fails at the listed calls, and tells each answer.
+const ACCEPTORS: &str = "\
+new aib
+accept=aibcc
+told=!i!cc
+new ab 02
+accept=fafbc
+told=f!f!c
+new ciia
+accept=ciiac
+told=cii!c";
+
 #[test]
 fn an_acceptor_answers_its_list(rt: HostRuntime) -> Result<(), Fail> {
     let alloc = rt.alloc();
-    let rows: [(&[u8], &[u32], [u8; 5], &[u8]); 3] = [
-        (b"aib", &[], *b"aibcc", b"!i!cc"),
-        (b"ab", &[0, 2], *b"fafbc", b"f!f!c"),
-        (b"ciia", &[], *b"ciiac", b"cii!c"),
-    ];
-    for (text, failing, wanted, notes) in rows {
-        let failing: Places = list(alloc, failing)?;
-        let mut acceptor = MemoryAcceptor::new(alloc, answers(alloc, text)?, failing);
-        assert_eq!(rt; five_answers(alloc, &mut acceptor), wanted);
-        assert_eq!(rt; told(alloc, &acceptor)?.bytes(), notes);
-    }
-    Ok(())
+    let mut acceptor = MemoryAcceptor::new(alloc, AcceptorAnswers::new(alloc), Places::new(alloc));
+    Ok(plays(&rt, alloc, &mut acceptor, ACCEPTORS)?)
 }

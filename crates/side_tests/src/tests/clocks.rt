@@ -1,28 +1,53 @@
-use super::list;
-use side_base::Moment;
+use super::{Device, cut, list, plays, said};
+use side_base::{Blob, Moment, NoMemory};
 use side_memory::MemoryClock;
 use side_world::Clock;
+use std::alloc::Global;
 use std::test::Fail;
 
-// The moments of three readings, with pauses of that many milliseconds between them.
-fn readings(clock: &mut MemoryClock, pause: u64) -> [u64; 3] {
-    let first = clock.now().ms();
-    clock.pause(pause);
-    let second = clock.now().ms();
-    clock.pause(pause);
-    [first, second, clock.now().ms()]
+impl Device for MemoryClock {
+    fn answer(&mut self, alloc: Global, name: &str, given: &str) -> Result<Blob, NoMemory> {
+        if name == "new" {
+            let (first, steps) = cut(given);
+            if let Some(first) = Moment::at(first.parse().unwrap_or(0)) {
+                *self = MemoryClock::new(alloc, first, list(alloc, steps)?);
+            }
+            return Ok(Blob::new(alloc));
+        }
+        if name == "pause" {
+            self.pause(given.parse().unwrap_or(0));
+            return Ok(Blob::new(alloc));
+        }
+        let now = self.now().ms();
+        said(alloc, format!(in alloc; "{now}")?.as_str())
+    }
 }
+
+// A clock goes by its steps and pauses, and stands at the last moment.
+const READINGS: &str = "\
+new 1000
+now=1000
+pause 5
+now=1005
+pause 5
+now=1010
+new 1000 70
+now=1007
+pause 20
+now=1027
+pause 20
+now=1047
+new 1000
+now=1000
+pause 18446744073709551615
+now=253402300799999
+pause 18446744073709551615
+now=253402300799999";
 
 #[test]
 fn a_clock_goes_by_its_steps_and_pauses(rt: HostRuntime) -> Result<(), Fail> {
     let alloc = rt.alloc();
-    let first = Moment::at(1_000).ok_or("a moment")?;
-    let mut still = MemoryClock::new(alloc, first, list(alloc, &[])?);
-    assert_eq!(rt; readings(&mut still, 5), [1_000, 1_005, 1_010]);
-    let mut stepping = MemoryClock::new(alloc, first, list(alloc, &[7, 0])?);
-    assert_eq!(rt; readings(&mut stepping, 20), [1_007, 1_027, 1_047]);
-    let mut ending = MemoryClock::new(alloc, first, list(alloc, &[])?);
-    let last = 253_402_300_799_999;
-    assert_eq!(rt; readings(&mut ending, u64::MAX), [1_000, last, last]);
-    Ok(())
+    let first = Moment::at(0).ok_or("a moment")?;
+    let mut clock = MemoryClock::new(alloc, first, list(alloc, "")?);
+    Ok(plays(&rt, alloc, &mut clock, READINGS)?)
 }

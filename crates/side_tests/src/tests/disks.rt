@@ -1,27 +1,38 @@
-use super::list;
-use side_base::{NoMemory, Places};
+use super::{Device, cut, list, outcome, plays, said};
+use side_base::{Blob, NoMemory};
 use side_memory::{MemoryDisk, Tear};
 use side_world::{Disk, Failed};
 use std::alloc::Global;
+use std::process::Abort;
 use std::test::Fail;
 
-fn disk(alloc: Global, bytes: &[u8], failing: &[u32]) -> Result<MemoryDisk, NoMemory> {
-    let failing: Places = list(alloc, failing)?;
-    MemoryDisk::new(alloc, bytes, failing)
+// A tear in two letters: `F` and how many bytes are kept of the front, `B` of the back, `N` and the byte that stands for each.
+fn tear(word: &str) -> Tear {
+    match word.as_bytes() {
+        [b'F', digit] => Tear::Front(usize::from(digit % 16)),
+        [b'B', digit] => Tear::Back(usize::from(digit % 16)),
+        [_, byte] => Tear::Noise(*byte),
+        _ => Tear::Front(0),
+    }
 }
 
-// Whether a crash at that moment, with these tears, leaves these bytes.
-fn leaves(
+// What a crash at that moment, with these tears, leaves.
+pub(super) fn image(
+    alloc: Global,
     disk: &MemoryDisk,
     moment: usize,
-    tears: &[Tear],
-    wanted: &[u8],
-) -> Result<bool, NoMemory> {
+    words: &str,
+) -> Result<Blob, NoMemory> {
     if moment > disk.moment() {
-        return Ok(false);
+        return said(alloc, "no moment");
     }
-    let image = disk.image(moment, tears)?;
-    Ok(image.bytes() == wanted)
+    let mut tears = Vec::new(alloc);
+    for word in words.split(' ') {
+        if !word.is_empty() {
+            tears.push(tear(word))?;
+        }
+    }
+    disk.image(moment, &tears)
 }
 
 // A write where it may stand.
@@ -42,57 +53,94 @@ fn byte_at(disk: &mut MemoryDisk, at: usize) -> Result<u8, Failed> {
     Ok(piece[0])
 }
 
+fn number(digits: &str) -> usize {
+    digits.parse().unwrap_or(0)
+}
+
+fn read(alloc: Global, disk: &mut MemoryDisk, at: usize) -> Result<Blob, NoMemory> {
+    match byte_at(disk, at) {
+        Ok(byte) => Blob::from_bytes(alloc, &[byte]),
+        Err(Failed) => said(alloc, "failed"),
+    }
+}
+
+fn len(alloc: Global, disk: &mut MemoryDisk) -> Result<Blob, NoMemory> {
+    match disk.len() {
+        Ok(len) => said(alloc, format!(in alloc; "{len}")?.as_str()),
+        Err(Failed) => said(alloc, "failed"),
+    }
+}
+
+impl Device for MemoryDisk {
+    fn answer(&mut self, alloc: Global, name: &str, given: &str) -> Result<Blob, NoMemory> {
+        let (first, rest) = cut(given);
+        if name == "len" {
+            return len(alloc, self);
+        }
+        if name == "sync" {
+            return outcome(alloc, &self.sync());
+        }
+        if name == "write" {
+            return outcome(alloc, &write(self, number(first), rest.as_bytes()));
+        }
+        if name == "read" {
+            return read(alloc, self, number(first));
+        }
+        if name == "image" {
+            return image(alloc, self, number(first), rest);
+        }
+        said(alloc, "unknown")
+    }
+}
+
+// Plays a text to a disk of these bytes, which fails at the listed calls.
+fn plays_anew(
+    rt: &impl Abort,
+    alloc: Global,
+    bytes: &[u8],
+    failing: &str,
+    text: &str,
+) -> Result<(), NoMemory> {
+    let mut disk = MemoryDisk::new(alloc, bytes, list(alloc, failing)?)?;
+    plays(rt, alloc, &mut disk, text)
+}
+
+// What a crash leaves at each moment of a write and a sync.
+const MOMENTS: &str = "\
+write 2 XYZ=ok
+sync=ok
+image 0 F9=abcd
+image 1 F0=abcd
+image 1 F1=abXd
+image 1 B1=abcdZ
+image 1 N?=ab???
+image 2 F0=abXYZ
+image 1=abXYZ";
+
+// Writes are torn one by one, the one that failed too.
+const TEARS: &str = "\
+write 0 abc=ok
+write 3 de=ok
+write 1 --=failed
+image 3 F9 F9 F9=a--de
+image 3 N? F0 F0=???
+image 3 F0 F2 F0=
+image 3 B1 B1 F0=\0\0c\0e";
+
+// A disk fails at its listed calls, and at no other.
+const FAILURES: &str = "\
+len=failed
+read 1=failed
+write 2 c=failed
+sync=failed
+len=2
+read 1=b
+image 1=abc";
+
 #[test]
 fn a_disk_tells_what_a_crash_leaves(rt: HostRuntime) -> Result<(), Fail> {
     let alloc = rt.alloc();
-    let mut kept = disk(alloc, b"abcd", &[])?;
-    write(&mut kept, 2, b"XYZ")?;
-    kept.sync()?;
-    let rows: [(usize, Tear, &[u8]); 6] = [
-        (0, Tear::Front(9), b"abcd"),
-        (1, Tear::Front(0), b"abcd"),
-        (1, Tear::Front(1), b"abXd"),
-        (1, Tear::Back(1), b"abcdZ"),
-        (1, Tear::Noise(b'?'), b"ab???"),
-        (2, Tear::Front(0), b"abXYZ"),
-    ];
-    for (moment, tear, wanted) in rows {
-        assert!(rt; leaves(&kept, moment, &[tear], wanted)?);
-    }
-    assert!(rt; leaves(&kept, 1, &[], b"abXYZ")?);
-    Ok(())
-}
-
-#[test]
-fn writes_are_torn_one_by_one(rt: HostRuntime) -> Result<(), Fail> {
-    let alloc = rt.alloc();
-    let mut kept = disk(alloc, b"", &[2])?;
-    write(&mut kept, 0, b"abc")?;
-    write(&mut kept, 3, b"de")?;
-    assert_eq!(rt; write(&mut kept, 1, b"--"), Err(Failed));
-    let lost = Tear::Front(0);
-    let all = Tear::Front(9);
-    let rows: [([Tear; 3], &[u8]); 4] = [
-        ([all, all, all], b"a--de"),
-        ([Tear::Noise(b'?'), lost, lost], b"???"),
-        ([lost, Tear::Front(2), lost], b""),
-        ([Tear::Back(1), Tear::Back(1), lost], b"\0\0c\0e"),
-    ];
-    for (tears, wanted) in rows {
-        assert!(rt; leaves(&kept, 3, &tears, wanted)?);
-    }
-    Ok(())
-}
-
-#[test]
-fn a_disk_fails_at_its_listed_calls(rt: HostRuntime) -> Result<(), Fail> {
-    let mut kept = disk(rt.alloc(), b"ab", &[0, 1, 2, 3])?;
-    assert_eq!(rt; kept.len(), Err(Failed));
-    assert_eq!(rt; byte_at(&mut kept, 1), Err(Failed));
-    assert_eq!(rt; write(&mut kept, 2, b"c"), Err(Failed));
-    assert_eq!(rt; kept.sync(), Err(Failed));
-    assert_eq!(rt; kept.len(), Ok(2));
-    assert_eq!(rt; byte_at(&mut kept, 1), Ok(b'b'));
-    assert!(rt; leaves(&kept, 1, &[], b"abc")?);
-    Ok(())
+    plays_anew(&rt, alloc, b"abcd", "", MOMENTS)?;
+    plays_anew(&rt, alloc, b"", "2", TEARS)?;
+    Ok(plays_anew(&rt, alloc, b"ab", "0123", FAILURES)?)
 }

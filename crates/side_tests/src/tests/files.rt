@@ -1,55 +1,53 @@
-use super::list;
+use super::{Device, cut, list, plays, said};
 use side_base::{Blob, Names, NoMemory, Places, Text};
 use side_memory::MemoryFiles;
 use side_world::{Files, FilesCall, FilesErr};
 use std::alloc::Global;
 use std::test::Fail;
 
-// A folder `d` with these files, each of which holds its own name, and an empty folder `e`.
-fn folder(alloc: Global, names: &[&str], failing: &[u32]) -> Result<MemoryFiles, NoMemory> {
-    let failing: Places = list(alloc, failing)?;
-    let mut files = MemoryFiles::new(alloc, failing);
-    files.add_folder(b"e")?;
-    for name in names {
-        let text = Text::from_str(alloc, name)?;
-        files.add_file(b"d", text, Blob::from_bytes(alloc, name.as_bytes())?)?;
-    }
-    Ok(files)
-}
-
-// All names, each with a blank behind it.
+// All names, each with a comma behind it.
 fn joined(alloc: Global, names: &Names) -> Result<Blob, NoMemory> {
     let mut text = Blob::new(alloc);
     for i in 0..names.len() {
         text.push(names.at(i).bytes())?;
-        text.push_byte(b' ')?;
+        text.push_byte(b',')?;
     }
     Ok(text)
 }
 
+// The name of a refusal.
+fn refusal(alloc: Global, error: &FilesErr) -> Result<Blob, NoMemory> {
+    match error {
+        FilesErr::Failed => said(alloc, "failed"),
+        FilesErr::TooLong { len } => said(alloc, format!(in alloc; "too long: {len}")?.as_str()),
+        FilesErr::NoMemory => Err(NoMemory),
+    }
+}
+
 // What a listing answers: its names, or the name of the refusal.
-fn listed(alloc: Global, files: &mut MemoryFiles, folder: &[u8]) -> Result<Blob, NoMemory> {
-    match files.list(folder) {
+fn listed(alloc: Global, files: &mut MemoryFiles, folder: &str) -> Result<Blob, NoMemory> {
+    match files.list(folder.as_bytes()) {
         Ok(names) => joined(alloc, &names),
-        Err(FilesErr::Failed) => Blob::from_bytes(alloc, b"failed"),
-        Err(FilesErr::TooLong { .. }) => Blob::from_bytes(alloc, b"too long"),
-        Err(FilesErr::NoMemory) => Err(NoMemory),
+        Err(error) => refusal(alloc, &error),
     }
 }
 
 // What a read answers: the bytes, or the name of the refusal.
-fn read(alloc: Global, files: &mut MemoryFiles, name: &[u8]) -> Result<Blob, NoMemory> {
-    match files.read(b"d", name) {
+fn read(alloc: Global, files: &mut MemoryFiles, name: &str) -> Result<Blob, NoMemory> {
+    match files.read(b"d", name.as_bytes()) {
         Ok(bytes) => Ok(bytes),
-        Err(FilesErr::Failed) => Blob::from_bytes(alloc, b"failed"),
-        Err(FilesErr::TooLong { len }) if len == 1_048_577 => Blob::from_bytes(alloc, b"too long"),
-        Err(FilesErr::TooLong { .. }) => Blob::from_bytes(alloc, b"another length"),
-        Err(FilesErr::NoMemory) => Err(NoMemory),
+        Err(error) => refusal(alloc, &error),
     }
 }
 
-// How many calls are told.
-fn calls(files: &MemoryFiles) -> (usize, usize) {
+// How many bytes a read gives.
+fn len(alloc: Global, files: &mut MemoryFiles, name: &str) -> Result<Blob, NoMemory> {
+    let len = read(alloc, files, name)?.len();
+    said(alloc, format!(in alloc; "{len}")?.as_str())
+}
+
+// How many listings and reads are told.
+fn calls(alloc: Global, files: &MemoryFiles) -> Result<Blob, NoMemory> {
     let mut lists = 0usize;
     let mut reads = 0usize;
     if let Some(calls) = files.calls() {
@@ -60,54 +58,74 @@ fn calls(files: &MemoryFiles) -> (usize, usize) {
             }
         }
     }
-    (lists, reads)
+    said(alloc, format!(in alloc; "{lists} {reads}")?.as_str())
 }
 
-#[test]
-fn a_folder_lists_its_resource_names(rt: HostRuntime) -> Result<(), Fail> {
-    let alloc = rt.alloc();
-    let names = [
-        "b.yml",
-        "a.yaml",
-        "B.yaml",
-        "c.txt",
-        "a.yaml.bak",
-        ".yaml",
-        "yaml",
-        "ab.yaml",
-    ];
-    let mut files = folder(alloc, &names, &[1])?;
-    let wanted: [(&[u8], &[u8]); 4] = [
-        (b"d", b".yaml B.yaml a.yaml ab.yaml b.yml "),
-        (b"d", b"failed"),
-        (b"e", b""),
-        (b"f", b"failed"),
-    ];
-    for (folder, answer) in wanted {
-        assert_eq!(rt; listed(alloc, &mut files, folder)?.bytes(), answer);
+// A file of so many bytes where a number is given, and else of its own name.
+fn bytes(alloc: Global, name: &str, len: &str) -> Result<Blob, NoMemory> {
+    match len.parse::<usize>() {
+        Ok(len) => Ok(Blob::from_vec(vec![in alloc; b'x'; len]?)),
+        Err(_) => said(alloc, name),
     }
-    assert_eq!(rt; calls(&files), (4, 0));
-    Ok(())
 }
 
-#[test]
-fn a_file_is_read(rt: HostRuntime) -> Result<(), Fail> {
-    let alloc = rt.alloc();
-    let mut files = folder(alloc, &["a.yaml", "b.yaml"], &[1])?;
-    let limit = Blob::from_vec(vec![in alloc; b'x'; 1_048_576]?);
-    files.add_file(b"d", Text::from_str(alloc, "c")?, limit)?;
-    let over = Blob::from_vec(vec![in alloc; b'x'; 1_048_577]?);
-    files.add_file(b"d", Text::from_str(alloc, "o")?, over)?;
-    let wanted: [(&[u8], &[u8]); 4] = [
-        (b"b.yaml", b"b.yaml"),
-        (b"b.yaml", b"failed"),
-        (b"z.yaml", b"failed"),
-        (b"o", b"too long"),
-    ];
-    for (name, answer) in wanted {
-        assert_eq!(rt; read(alloc, &mut files, name)?.bytes(), answer);
+// `new` begins with an empty folder `e` and the listed failing calls, `add` puts a file into the folder `d`.
+impl Device for MemoryFiles {
+    fn answer(&mut self, alloc: Global, name: &str, given: &str) -> Result<Blob, NoMemory> {
+        if name == "list" {
+            return listed(alloc, self, given);
+        }
+        if name == "read" {
+            return read(alloc, self, given);
+        }
+        if name == "len" {
+            return len(alloc, self, given);
+        }
+        if name == "calls" {
+            return calls(alloc, self);
+        }
+        if name == "add" {
+            let (file, len) = cut(given);
+            self.add_file(b"d", Text::from_str(alloc, file)?, bytes(alloc, file, len)?)?;
+            return Ok(Blob::new(alloc));
+        }
+        *self = MemoryFiles::new(alloc, list(alloc, given)?);
+        self.add_folder(b"e")?;
+        Ok(Blob::new(alloc))
     }
-    assert_eq!(rt; read(alloc, &mut files, b"c")?.len(), 1_048_576);
-    assert_eq!(rt; calls(&files), (0, 5));
-    Ok(())
+}
+
+// A folder lists its resource names, and a file is read up to the limit.
+const FILES: &str = "\
+new 1
+add b.yml
+add a.yaml
+add B.yaml
+add c.txt
+add a.yaml.bak
+add .yaml
+add yaml
+add ab.yaml
+list d=.yaml,B.yaml,a.yaml,ab.yaml,b.yml,
+list d=failed
+list e=
+list f=failed
+calls=4 0
+new 1
+add a.yaml
+add b.yaml
+add c 1048576
+add o 1048577
+read b.yaml=b.yaml
+read b.yaml=failed
+read z.yaml=failed
+read o=too long: 1048577
+len c=1048576
+calls=0 5";
+
+#[test]
+fn a_folder_lists_its_names_and_a_file_is_read(rt: HostRuntime) -> Result<(), Fail> {
+    let alloc = rt.alloc();
+    let mut files = MemoryFiles::new(alloc, Places::new(alloc));
+    Ok(plays(&rt, alloc, &mut files, FILES)?)
 }

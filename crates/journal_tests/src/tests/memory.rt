@@ -1,6 +1,6 @@
-use crate::JournalKeeper;
-use crate::tests::{LIMIT, SECRET, disk_of, save, shows, started};
+use super::{LIMIT, SECRET, disk_of, save, shows, started};
 use keeper_core::Keeper;
+use keeper_journal::JournalKeeper;
 use side_base::NoMemory;
 use side_memory::MemoryDisk;
 use std::alloc::Global;
@@ -37,8 +37,8 @@ fn memory_may_fail_once(rt: HostRuntime) -> Result<(), Fail> {
     let mut keeper = started_again(alloc, disk_again(alloc)?).ok_or("no start")?;
     assert!(&rt; saves_again(&rt, alloc, &mut keeper, b"a"));
     assert!(&rt; saves_again(&rt, alloc, &mut keeper, b"b"));
-    assert!(&rt; shows(&keeper, &[b"a", b"b"]));
+    assert!(&rt; shows(&keeper, b"ab"));
     let keeper = started_again(alloc, keeper.into_disk()).ok_or("no second start")?;
-    assert!(&rt; shows(&keeper, &[b"a", b"b"]));
+    assert!(&rt; shows(&keeper, b"ab"));
     Ok(())
 }

@@ -1,0 +1,10 @@
+use Rattle.std.proofs.Common.{◌≡◌, ◌≤◌, ◌+◌, true}
+use Rattle.turn_cell.specs.Sitting.{IsSeatOf}
+use Rattle.turn_cell_speed.proofs.rounds.places.Given as goal
+
+abbrev pub invariant-loop : goal.invariant-loop
+invariant-loop l = record {
+  seat : IsSeatOf l.cell l.root;
+  root : l.root.is_root ≡ true;
+  made : l.root.made ≤ l.fn.root.made + l.counter;
+}
