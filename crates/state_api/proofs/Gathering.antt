@@ -1,5 +1,5 @@
 -- The values of a row, read one after the other.
-use Rattle.std.proofs.Common.{◌≡◌, ◌≢◌, List, [], ◌∷◌, ◌++◌, Option, Some, None, refl, sym, ap, ◌∙◌, subst}
+use Rattle.std.proofs.Common.{◌≡◌, ◌≢◌, ℕ, suc, ◌-◌, List, [], ◌∷◌, ◌++◌, Option, Some, None, refl, sym, ap, ◌∙◌, subst}
 use Rattle.std.specs.Prelude.{MatchOption, Result, Ok, Err}
 use Rattle.json_text.specs.declared.spot.Spot.{Spot}
 use Rattle.json_text.specs.declared.doc.Doc.{Doc}
@@ -12,6 +12,11 @@ use Rattle.state_api.specs.Given.{Gives, each}
 use Rattle.state_api.specs.Values.{Value, IsAt, values_in, held_in}
 use Rattle.state_api.proofs.Nodes.{at_node}
 use Rattle.state_api.proofs.Following.{joined, joined_start, joined_end, joined_next, joined_stop}
+
+-- how many nodes may still follow
+abbrev pub nodes_left : ℕ → Option Node → ℕ
+nodes_left n None = 0
+nodes_left n (Some node) = suc (n - node.number)
 
 -- `here` is the node of what is still to be read, if there is any
 abbrev pub Left : Doc → Option Node → Forest → Type 0

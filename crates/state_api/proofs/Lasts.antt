@@ -15,16 +15,15 @@ use Rattle.json_text.specs.declared.spot.Spot.{Spot}
 use Rattle.json_text.specs.declared.doc.Doc.{Doc}
 use Rattle.json_text.specs.declared.doc.Node.{Node}
 use Rattle.json_text.specs.declared.last.Member.{Member}
-use Rattle.json_text.specs.Forest.{Forest, empty, grows}
+use Rattle.json_text.specs.Forest.{Forest, empty, grows, count}
 use Rattle.json_text.specs.Unescape.{unescaped, content, HasName}
 use Rattle.json_text.specs.Doc.{bytes_read, NoneNamed, IsTailOf, IsLastMember, IsLastNamed, IsNode, StandsAt, OfNode, Shows}
-use Rattle.json_text.proofs.Visits.{has_value}
 use Rattle.std.proofs.Math.Logic.{∥∥₁_elim}
 use Rattle.std.proofs.Math.Bridge.{le_prop}
+use Rattle.json_text.specs.Visits.{HasValue}
 use Rattle.json_text.specs.LastMembers.{named as member_named, names_of, AreLastMembers}
-use Rattle.json_text.proofs.Tables.{false_true, none_some}
 use Rattle.state_api.specs.Values.{Value, IsAt, IsTextAt, AreTextsAt, AreNodes, values_in, has_name, last_named, or_else, is_text, is_last, are_texts}
-use Rattle.state_api.proofs.Members.{not_true, tail_last, none_last}
+use Rattle.state_api.proofs.Members.{not_true, false_true, none_some, tail_last, none_last}
 
 -- ---- tails
 
@@ -152,6 +151,7 @@ module _ (doc : Doc) (children : Forest) (members : List Member) (are : AreLastM
   told_texts false h = any_false h
 
 -- all are nodes of the document
-pub nodes_of : (doc : Doc) (n : Node) (members : List Member) → ∥ Shows doc (bytes_read doc) ∥₁ → IsNode doc n → OfNode doc n (λ spot children later. AreLastMembers doc children members) → AreNodes doc members
-nodes_of doc n members read node h k some lt =
-    ∥∥₁_elim read le_prop (λ shows. let v = has_value doc (bytes_read doc) n shows (subst (λ z. n.number < z) shows.all node) in (h (grows v.0 v.1 v.2) v.3).nodes k some lt)
+pub nodes_of : (doc : Doc) (n : Node) (members : List Member) → ((doc : Doc) (bytes : List ℕ) (node : Node) (shows : Shows doc bytes) → node.number < count shows.values → HasValue doc node) → ∥ Shows doc (bytes_read doc) ∥₁ → IsNode doc n
+    → OfNode doc n (λ spot children later. AreLastMembers doc children members) → AreNodes doc members
+nodes_of doc n members stands read node h k some lt =
+    ∥∥₁_elim read le_prop (λ shows. let v = stands doc (bytes_read doc) n shows (subst (λ z. n.number < z) shows.all node) in (h (grows v.0 v.1 v.2) v.3).nodes k some lt)

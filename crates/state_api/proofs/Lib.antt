@@ -9,4 +9,5 @@ pub mod Joined
 pub mod Lasts
 pub mod Members
 pub mod Nodes
+pub mod OneAnswer
 pub mod Wording

@@ -10,8 +10,13 @@ use Rattle.json_text.specs.declared.doc.Node.{Node}
 use Rattle.json_text.specs.Forest.{Forest, empty, grows}
 use Rattle.json_text.specs.Unescape.{unescaped, content, HasName}
 use Rattle.json_text.specs.Doc.{bytes_read, NoneNamed, IsTailOf, IsLastNamed}
-use Rattle.json_text.proofs.Tables.{false_true}
 use Rattle.state_api.specs.Values.{Value, AreAt, values_in, has_name, last_named, or_else}
+
+pub none_some : {A : Type 0} (x : A) (B : Type 0) → None ≡ Some x → B
+none_some x B h = let bad : ⊥ = cc in absurd bad
+
+pub false_true : (B : Type 0) → false ≡ true → B
+false_true B h = let bad : ⊥ = cc in absurd bad
 
 pub not_true : (b : Bool) → (b ≡ true → ⊥) → b ≡ false
 not_true true h = absurd (h refl)

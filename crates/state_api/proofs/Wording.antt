@@ -2,12 +2,11 @@
 use Rattle.std.proofs.Common.{◌≡◌, ℕ, ◌<◌, Bool, true, false, ◌&&◌, ◌==◌, List, [], ◌∷◌, ◌++◌, length, map, get_or, refl, sym, ap, ◌∙◌, subst, arith}
 use Rattle.std.specs.Str.{IsUtf8, IsCharBoundary}
 use Rattle.std.specs.List.{list_all}
-use Rattle.std.specs.Char.{is_ascii_digit}
+use Rattle.std.specs.Char.{is_ascii_digit, digit_value}
 use Rattle.std.specs.Str.Parse.{AllDigits}
 use Rattle.std.proofs.lemmas.Str.{IsCharBoundary-after_ascii}
 use Rattle.std.proofs.lemmas.Bool.Decides.{nat_tests}
-use Rattle.json_text.proofs.Tables.{false_true}
-use Rattle.side_base.proofs.Decimals.{digit_value-of_digit}
+use Rattle.state_api.proofs.Members.{false_true}
 use Rattle.std.specs.Prelude.{All}
 use Rattle.std.proofs.lemmas.List.Elements.{All-cons, All-tail}
 use Rattle.state_core.specs.declared.command.Item.{Item}
@@ -28,9 +27,12 @@ pub quoted_start : (text : List ℕ) → IsUtf8 text → is_quoted text ≡ true
 quoted_start [] utf8 h = false_true _ h
 quoted_start (first ∷ rest) utf8 h = IsCharBoundary-after_ascii (first ∷ rest) 0 utf8 (omega arith) (quote_is first (both_true (first == 34) _ (both_true _ _ h).0).0)
 
+digit_below : (c : ℕ) → is_ascii_digit c ≡ true → digit_value c < 10
+digit_below c h = grind (arith, nat_tests)
+
 digits_of : (text : List ℕ) → list_all is_ascii_digit text ≡ true → AllDigits 10 text
 digits_of [] h = tt
-digits_of (first ∷ rest) h = let p = both_true (is_ascii_digit first) (list_all is_ascii_digit rest) h in (digit_value-of_digit first p.0, digits_of rest p.1)
+digits_of (first ∷ rest) h = let p = both_true (is_ascii_digit first) (list_all is_ascii_digit rest) h in (digit_below first p.0, digits_of rest p.1)
 
 pub number_digits : (text : List ℕ) → is_number text ≡ true → AllDigits 10 text
 number_digits text h = digits_of text (both_true (list_all is_ascii_digit text) _ h).0

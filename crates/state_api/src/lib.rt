@@ -4,6 +4,7 @@
 mod asking;
 mod call;
 mod commanding;
+pub mod laws;
 mod part;
 mod raw;
 mod responding;

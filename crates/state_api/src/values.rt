@@ -5,6 +5,7 @@ ghost use Rattle.state_api.specs.Given.{Gives};
 ghost use Rattle.state_api.specs.Values.{AreAt, AreNodes, AreTextsAt, IsAt, Value, are_texts, held_in, is_list, is_map, is_null, is_text, last_named, member, needed, optional, text_of, unless_null};
 
 use crate::{StateErr, What};
+use json_text::laws::a_walk_visits_all_items;
 use json_text::{Doc, Kind, Members, Node};
 use side_base::Text;
 use std::alloc::Global;
@@ -171,6 +172,7 @@ pub(crate) fn are_texts(alloc: Global, doc: &Doc<'_>, n: Node) -> Result<bool, S
     requires { IsNode doc.now n }
     ensures { (value : Value) → IsAt doc.now n value → Gives result (Ok (are_texts (bytes_read doc.now) (held_in value))) }
 {
+    a_walk_visits_all_items();
     let _read = doc.root();
     match doc.last_members(alloc, n) {
         Ok(members) => Ok(all_texts(doc, &members)),

@@ -1,9 +1,8 @@
 use Rattle.std.proofs.Common.{length}
 use Rattle.std.specs.Prelude.{IfSome}
 use Rattle.json_text.specs.Doc.{IsNode, bytes_read, values_kept}
-use Rattle.json_text.proofs.Members.{nodes_left}
 use Rattle.state_api.specs.Values.{IsAt, Value}
-use Rattle.state_api.proofs.Gathering.{Gathered}
+use Rattle.state_api.proofs.Gathering.{Gathered, nodes_left}
 use Rattle.state_api.proofs.part.read_list.Given as goal
 
 abbrev pub invariant-loop-here : goal.invariant-loop-here
