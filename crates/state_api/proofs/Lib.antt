@@ -1,5 +1,13 @@
 pub mod Answered
 pub mod Attempted
+pub mod Bodies
 pub mod Cut
 pub mod Failing
+pub mod Following
+pub mod Gathering
 pub mod Joined
+pub mod Lasts
+pub mod Members
+pub mod Nodes
+pub mod OneAnswer
+pub mod Wording

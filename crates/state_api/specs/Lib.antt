@@ -2,3 +2,8 @@ pub mod Moment
 pub mod Call
 pub mod Ran
 pub mod Response
+pub mod Given
+pub mod Values
+pub mod Words
+pub mod Raw
+pub mod Asked

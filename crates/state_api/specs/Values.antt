@@ -1,0 +1,127 @@
+-- The values of a JSON text by their names (RFC 8259, section 4). Of repeated members the last counts; null counts as absent.
+use Rattle.std.specs.Prelude.{◌≡◌, ◌<◌, ℕ, length, slice_index_or, Bool, true, false, ◌&&◌, ◌||◌, not, is_none, List, [], ◌∷◌, Option, Some, None, Result, Ok, Err, ⊤, if◌then◌else◌}
+use Rattle.std.specs.Str.{bytes_eq}
+use Rattle.json_text.specs.declared.kind.Kind.{Kind}
+use Rattle.json_text.specs.declared.kind.Kind.TheVariants as kinds
+use Rattle.json_text.specs.declared.spot.Span.{Span}
+use Rattle.json_text.specs.declared.spot.Spot.{Spot}
+use Rattle.json_text.specs.declared.doc.Doc.{Doc}
+use Rattle.json_text.specs.declared.doc.Node.{Node}
+use Rattle.json_text.specs.Forest.{Forest, empty, grows}
+use Rattle.json_text.specs.Unescape.{unescaped, content, text_shown}
+use Rattle.json_text.specs.Doc.{StandsAt, IsNode}
+use Rattle.json_text.specs.declared.last.Member.{Member}
+use Rattle.state_api.specs.declared.what.What.{What}
+use Rattle.state_api.specs.declared.what.What.TheVariants.{Shape}
+use Rattle.state_api.specs.Given.{followed, provided}
+
+-- a value with what it holds
+pub record Value : Type 0 where
+  pub spot : Spot
+  pub children : Forest
+
+-- the values of a row
+abbrev pub values_in : Forest → List Value
+values_in empty = []
+values_in (grows spot children later) = record { spot = spot; children = children } ∷ values_in later
+
+-- what a list or a map holds
+abbrev pub held_in : Value → List Value
+held_in value = values_in value.children
+
+-- ---- names
+
+abbrev pub has_name : List ℕ → Option Span → List ℕ → Bool
+has_name bytes None name = false
+has_name bytes (Some span) name = bytes_eq (unescaped (content bytes span)) name
+
+-- the first of two, or else the second
+abbrev pub or_else : Option Value → Option Value → Option Value
+or_else None other = other
+or_else (Some value) other = Some value
+
+-- the last of some values that is a member of the name
+abbrev pub last_named : List ℕ → List ℕ → List Value → Option Value
+last_named bytes name [] = None
+last_named bytes name (value ∷ later) =
+    or_else (last_named bytes name later) (if has_name bytes value.spot.name name then Some value else None)
+
+abbrev pub is_null : Kind → Bool
+is_null kinds.Null = true
+is_null _ = false
+
+abbrev pub unless_null : Option Value → Option Value
+unless_null None = None
+unless_null (Some value) = if is_null value.spot.kind then None else Some value
+
+-- the member of a name, if it is there
+abbrev pub member : List ℕ → List ℕ → Value → Option Value
+member bytes name value = unless_null (last_named bytes name (held_in value))
+
+-- ---- kinds
+
+abbrev pub is_list : Kind → Bool
+is_list kinds.List = true
+is_list _ = false
+
+abbrev pub is_map : Kind → Bool
+is_map kinds.Map = true
+is_map _ = false
+
+abbrev pub is_text : Kind → Bool
+is_text kinds.Text = true
+is_text _ = false
+
+-- a text
+abbrev pub text_of : List ℕ → Value → Result (List ℕ) What
+text_of bytes value = provided (is_text value.spot.kind) Shape (Ok (text_shown bytes value.spot))
+
+-- a text that must be there
+abbrev pub needed : List ℕ → Option Value → Result (List ℕ) What
+needed bytes None = Err Shape
+needed bytes (Some value) = text_of bytes value
+
+-- a text that may be absent
+abbrev pub optional : List ℕ → Option Value → Result (Option (List ℕ)) What
+optional bytes None = Ok None
+optional bytes (Some value) = followed (text_of bytes value) (λ text. Ok (Some text))
+
+-- ---- maps of texts
+
+-- no later value has the name
+abbrev pub is_last : List ℕ → Option Span → List Value → Bool
+is_last bytes None later = false
+is_last bytes (Some span) later = is_none (last_named bytes (unescaped (content bytes span)) later)
+
+-- of each name the last member is a text
+abbrev pub are_texts : List ℕ → List Value → Bool
+are_texts bytes [] = true
+are_texts bytes (value ∷ later) = (not (is_last bytes value.spot.name later) || is_text value.spot.kind) && are_texts bytes later
+
+-- ---- nodes
+
+-- the node is the value's
+abbrev pub IsAt : Doc → Node → Value → Type 0
+IsAt doc node value = (later : Forest) × StandsAt doc node (grows value.spot value.children later)
+
+-- of a value that may be absent
+abbrev pub AreAt : Doc → Option Node → Option Value → Type 0
+AreAt doc None None = ⊤
+AreAt doc None (Some value) = ⊥
+AreAt doc (Some node) None = ⊥
+AreAt doc (Some node) (Some value) = IsAt doc node value
+
+-- ---- the last members, as a list
+
+-- all are nodes of the document
+abbrev pub AreNodes : Doc → List Member → Type 0
+AreNodes doc members = (k : ℕ) (some : Member) → k < length members → IsNode doc (slice_index_or members k some).node
+
+-- the member at a place is a text, or is none
+abbrev pub IsTextAt : Doc → List Member → Bool → ℕ → Type 0
+IsTextAt doc members is k = (some : Member) (value : Value) → IsAt doc (slice_index_or members k some).node value → is_text value.spot.kind ≡ is
+
+-- whether all are texts
+abbrev pub AreTextsAt : Doc → List Member → Bool → Type 0
+AreTextsAt doc members true = (k : ℕ) → k < length members → IsTextAt doc members true k
+AreTextsAt doc members false = (k : ℕ) × (k < length members) × IsTextAt doc members false k
