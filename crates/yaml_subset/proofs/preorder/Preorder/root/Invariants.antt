@@ -1,8 +1,9 @@
-use Rattle.std.proofs.Common.{◌≡◌, ◌-◌, ◌≤◌}
+use Rattle.std.proofs.Common.{◌-◌, ◌≤◌}
 use Rattle.std.specs.Prelude.{IfSome}
 use Rattle.yaml_subset.specs.Trees.{Trees}
-use Rattle.yaml_subset.specs.Docs.{IsPart, AreDocuments, FirstOf, rows_from}
-use Rattle.yaml_subset.proofs.docs.Docs.root.Given as goal
+use Rattle.yaml_subset.specs.Preorder.{IsPart, AreDocuments, FirstOf}
+use Rattle.yaml_subset.specs.Docs.{rows_from}
+use Rattle.yaml_subset.proofs.preorder.Preorder.root.Given as goal
 
 abbrev pub invariant-loop-passed : goal.invariant-loop-passed
 invariant-loop-passed l = record {
