@@ -1,7 +1,6 @@
 -- A file as a whole.
-use Rattle.std.proofs.Common.{◌≡◌, ◌⊎◌, inl, inr, ℕ, suc, List, [], ◌∷◌, ◌++◌, length, refl, sym, ap, subst, ◌∙◌, append_assoc, Option, Some, None, Result, Ok, Err}
+use Rattle.std.proofs.Common.{◌≡◌, ◌⊎◌, inl, inr, ℕ, suc, List, [], ◌∷◌, ◌++◌, refl, sym, ap, ◌∙◌, append_assoc, Result, Ok, Err}
 use Rattle.std.specs.Prelude.{map, IsUtf8}
-use Rattle.side_base.specs.Text.{IsNotUtf8At}
 use Rattle.yaml_subset.specs.declared.error.YamlErr.{YamlErr}
 use Rattle.yaml_subset.specs.declared.error.YamlErr.TheVariants.{Tab, Indent, LeftOut, Repeated, Scalar, NotUtf8, NoMemory}
 use Rattle.yaml_subset.specs.declared.node.Node.{Node}
@@ -9,14 +8,14 @@ use Rattle.yaml_subset.specs.Tree.{Scalar as ItemText, What, absent, leaf, rows,
 use Rattle.yaml_subset.specs.Front.{Front}
 use Rattle.yaml_subset.specs.Line.{Line}
 use Rattle.yaml_subset.specs.Reading.{Says, IsRefused}
-use Rattle.yaml_subset.specs.Trees.{Told, Trees, none, tree, item_trees, inner_trees, plain, tree_entries}
-use Rattle.yaml_subset.specs.File.{file_lines, IsFile, IsRefusedIn, IsRefusal, IsRefusalOrMemory}
+use Rattle.yaml_subset.specs.Trees.{Trees, item_trees, inner_trees, plain, tree_entries}
+use Rattle.yaml_subset.specs.File.{file_lines, IsFile, IsRefusal, IsRefusalOrMemory}
 use Rattle.yaml_subset.specs.Held.{node_shown}
 use Rattle.yaml_subset.specs.ReadLines.{Holds, IsLinesCause}
 use Rattle.yaml_subset.specs.Docs.{Shows}
 use Rattle.yaml_subset.proofs.Whole.{nothing_yet}
 use Rattle.yaml_subset.proofs.Laws.{after_lines, says_read, says_one, refused_read}
-use Rattle.yaml_subset.proofs.Mild.{IsOfLine, line_error}
+use Rattle.yaml_subset.proofs.Mild.{line_error}
 
 items_same : (depth line : ℕ) (items : List ItemText) (others : Trees) → item_entries depth line items ++ tree_entries depth others ≡ tree_entries depth (item_trees line items others)
 unfolding tree_entries

@@ -1,5 +1,5 @@
 -- Parts by their numbers: what is kept of them, and the trees.
-use Rattle.std.proofs.Common.{◌≡◌, ◌≢◌, ◌⊎◌, inl, inr, ℕ, zero, suc, ◌+◌, ◌-◌, ◌<◌, ◌≤◌, Bool, true, false, ◌==◌, cond, List, [], ◌∷◌, ◌++◌, length, drop, refl, sym, ap, subst, ◌∙◌, arith, append_assoc, append-nil, length-append, Option, Some, None}
+use Rattle.std.proofs.Common.{◌≡◌, ◌≢◌, ◌⊎◌, inl, inr, ℕ, zero, suc, ◌+◌, ◌-◌, ◌<◌, ◌≤◌, true, false, ◌==◌, List, [], ◌∷◌, ◌++◌, length, drop, refl, sym, ap, subst, ◌∙◌, arith, append_assoc, append-nil, length-append, Option, Some, None}
 use Rattle.std.specs.Prelude.{nat_lt, map, if◌then◌else◌, MatchOption}
 use Rattle.std.proofs.lemmas.Bool.{false_from_ne_true}
 use Rattle.std.proofs.lemmas.Bool.Decides.{Decides-eqb, Decides-ltb}
@@ -9,7 +9,7 @@ use Rattle.yaml_subset.specs.declared.preorder.Part.{Part}
 use Rattle.yaml_subset.specs.Tree.{Entry}
 use Rattle.yaml_subset.specs.Held.{node_shown}
 use Rattle.yaml_subset.specs.Trees.{Told, Trees, none, tree, tree_entries}
-use Rattle.yaml_subset.specs.Preorder.{parts_kept, Shallower, StandAt, StandsAt, IsFirstOf, FirstOf, ForFirst, OfPart, AreDocuments}
+use Rattle.yaml_subset.specs.Preorder.{parts_kept, Shallower, StandAt, IsFirstOf, FirstOf, ForFirst, OfPart, AreDocuments}
 use Rattle.yaml_subset.specs.Docs.{size, row_at, row_of, told_of, inner_of, later_of, Begins, IsFirst}
 use Rattle.yaml_subset.specs.Built.{entry_told, built, documents_of, IsWhole}
 use Rattle.yaml_subset.proofs.Walks.{entry_of, first_entry, no_entries, tree_some, row_below, drop_on}

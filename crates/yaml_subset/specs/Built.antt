@@ -1,5 +1,5 @@
 -- Trees built from parts that are kept in order, each before those in it.
-use Rattle.std.specs.Prelude.{◌≡◌, ℕ, suc, ◌==◌, nat_lt, if◌then◌else◌, List, [], ◌∷◌}
+use Rattle.std.specs.Prelude.{ℕ, suc, ◌==◌, nat_lt, if◌then◌else◌, List, [], ◌∷◌}
 use Rattle.yaml_subset.specs.declared.preorder.Preorder.{Preorder}
 use Rattle.yaml_subset.specs.Tree.{Entry}
 use Rattle.yaml_subset.specs.Trees.{Told, Trees, none, tree}

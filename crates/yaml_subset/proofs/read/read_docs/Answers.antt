@@ -1,6 +1,5 @@
-use Rattle.std.proofs.Common.{◌≡◌, ℕ, List, sym, ap, subst, ◌∙◌, true}
+use Rattle.std.proofs.Common.{◌≡◌, List, ap, subst, ◌∙◌, true}
 use Rattle.std.specs.Str.Lines.{lines}
-use Rattle.yaml_subset.specs.declared.error.YamlErr.{YamlErr}
 use Rattle.yaml_subset.specs.Line.{Line}
 use Rattle.yaml_subset.specs.Contents.{contents}
 use Rattle.yaml_subset.specs.Left.{contents_left}

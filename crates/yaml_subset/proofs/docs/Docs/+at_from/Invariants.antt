@@ -1,4 +1,4 @@
-use Rattle.std.proofs.Common.{ℕ, length}
+use Rattle.std.proofs.Common.{length}
 use Rattle.yaml_subset.proofs.docs.Docs.+at_from.Given as goal
 
 abbrev pub decreases-at_from : goal.decreases-at_from

@@ -1,4 +1,4 @@
-use Rattle.std.proofs.Common.{◌≡◌, ℕ}
+use Rattle.std.proofs.Common.{◌≡◌}
 use Rattle.std.specs.Prelude.{IfSome}
 use Rattle.yaml_subset.specs.Trees.{Trees}
 use Rattle.yaml_subset.specs.Docs.{IsPart, IsFirst, named, parts_left}
