@@ -150,7 +150,7 @@ impl Docs {
     }
 
     /// What stands at the end of a path of names that begins at a part. An empty part counts as none.
-    pub fn at(&self, p: Part, path: &[&[u8]]) -> At
+    pub fn at(&self, p: Part, path: &[&str]) -> At
         requires { IsPart self.now p }
         ensures { IsAt self.now (walked 0 (row_of self.now p) (texts path.now)) result }
     {
@@ -158,7 +158,7 @@ impl Docs {
     }
 
     // The same after so many names.
-    fn at_from(&self, p: Part, passed: usize, path: &[&[u8]]) -> At
+    fn at_from(&self, p: Part, passed: usize, path: &[&str]) -> At
         requires part { IsPart self.now p }
         requires room { passed + length path.now < 2 ^ 63 }
         ensures { IsAt self.now (walked passed (row_of self.now p) (texts path.now)) result }
@@ -169,7 +169,7 @@ impl Docs {
                 PartKind::Empty => At::Absent,
                 PartKind::Scalar => At::Wrong(passed),
                 PartKind::Sequence => At::Wrong(passed),
-                PartKind::Mapping => match self.get(p, *name) {
+                PartKind::Mapping => match self.get(p, name.as_bytes()) {
                     Some(next) => self.at_from(next, passed + 1, names),
                     None => At::Absent,
                 },

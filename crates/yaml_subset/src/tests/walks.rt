@@ -35,9 +35,9 @@ fn ends_of_paths(rt: HostRuntime) -> Result<(), Fail> {
     let root = docs.root(0).ok_or("no document")?;
     let a = docs.get(root, b"a").ok_or("no member")?;
     let b = docs.get(a, b"b").ok_or("no inner member")?;
-    assert_eq!(rt; docs.at(root, &[b"a", b"b"]), At::Here(b));
-    assert_eq!(rt; docs.at(root, &[b"a", b"c"]), At::Absent);
-    assert_eq!(rt; docs.at(root, &[b"x", b"c"]), At::Absent);
-    assert_eq!(rt; docs.at(root, &[b"a", b"b", b"c"]), At::Wrong(2));
+    assert_eq!(rt; docs.at(root, &["a", "b"]), At::Here(b));
+    assert_eq!(rt; docs.at(root, &["a", "c"]), At::Absent);
+    assert_eq!(rt; docs.at(root, &["x", "c"]), At::Absent);
+    assert_eq!(rt; docs.at(root, &["a", "b", "c"]), At::Wrong(2));
     Ok(())
 }
