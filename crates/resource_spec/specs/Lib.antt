@@ -1,0 +1,4 @@
+pub mod Setting
+pub mod Url
+pub mod Component
+pub mod Components

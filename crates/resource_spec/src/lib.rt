@@ -1,0 +1,12 @@
+//! Components: what the documents of resource files say of stores, brokers and bindings.
+#![tactic(auto)]
+
+mod component;
+mod components;
+mod setting;
+mod url;
+
+pub use component::{Component, ComponentKind};
+pub use components::Components;
+pub use setting::{Setting, Settings};
+pub use url::{Url, url_of};
