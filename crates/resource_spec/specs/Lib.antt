@@ -5,3 +5,4 @@ pub mod Components
 pub mod Follow
 pub mod Field
 pub mod Document
+pub mod Load
