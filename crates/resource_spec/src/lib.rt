@@ -11,6 +11,8 @@ mod load;
 mod parse;
 mod setting;
 mod spec_err;
+#[cfg(test)]
+mod tests;
 mod url;
 
 pub use component::{Component, ComponentKind};
