@@ -1,5 +1,5 @@
 -- How many bytes of a kind come first.
-use Rattle.std.proofs.Common.{◌≡◌, ℕ, suc, ◌+◌, ◌<◌, ◌≤◌, Bool, true, false, List, [], ◌∷◌, ◌++◌, length, refl, sym, ap, subst, ◌∙◌, arith, take}
+use Rattle.std.proofs.Common.{ℕ, ◌≤◌, Bool, List, length, arith, take}
 use Rattle.std.specs.List.{take_while, prefix_len}
 use Rattle.std.proofs.lemmas.List.{length-take}
 

@@ -1,13 +1,12 @@
 -- Why a line is refused.
-use Rattle.std.proofs.Common.{◌≡◌, ◌≢◌, ℕ, suc, Bool, true, false, ◌&&◌, List, [], ◌∷◌, length, refl, sym, ap, subst, ◌∙◌, Option, Some, None, Result, Ok, Err}
-use Rattle.std.specs.Prelude.{if◌then◌else◌}
+use Rattle.std.proofs.Common.{◌≡◌, ℕ, Bool, true, false, ◌&&◌, List, refl, None, Result, Err}
 use Rattle.yaml_subset.specs.declared.error.YamlErr.{YamlErr}
 use Rattle.yaml_subset.specs.declared.error.YamlErr.TheVariants.{Tab, Indent, LeftOut, Repeated, Scalar, NotUtf8, NoMemory}
 use Rattle.yaml_subset.specs.declared.open.Holder.{Holder}
 use Rattle.yaml_subset.specs.declared.open.Holder.TheVariants as holders
-use Rattle.yaml_subset.specs.Tree.{What, absent, leaf, rows, Forest, empty}
-use Rattle.yaml_subset.specs.Front.{Frame, Front}
-use Rattle.yaml_subset.specs.Refusal.{is_holder, is_absent, turned, turned_or, may_begin, may_have, is_deep, has_column, Misplaced, too_deep, misplaced_in, misplaced, with_lead, with_value, name_is_taken, is_repeated, at_line}
+use Rattle.yaml_subset.specs.Tree.{What, absent, leaf, rows, empty}
+use Rattle.yaml_subset.specs.Front.{Front}
+use Rattle.yaml_subset.specs.Refusal.{is_holder, is_absent, turned, turned_or, may_begin, may_have, is_deep, has_column, misplaced_in, misplaced, with_lead, with_value, at_line}
 use Rattle.yaml_subset.specs.Held.{IsCause}
 
 pub both_true : (a b : Bool) → (a && b) ≡ true → (a ≡ true) × (b ≡ true)

@@ -1,23 +1,21 @@
 -- A file as a whole.
-use Rattle.std.proofs.Common.{◌≡◌, ◌⊎◌, inl, inr, ℕ, suc, List, [], ◌∷◌, ◌++◌, length, refl, sym, ap, subst, ◌∙◌, append_assoc, Option, Some, None, Result, Ok, Err}
+use Rattle.std.proofs.Common.{◌≡◌, ◌⊎◌, inl, inr, ℕ, suc, List, [], ◌∷◌, ◌++◌, refl, sym, ap, ◌∙◌, append_assoc, Result, Ok, Err}
 use Rattle.std.specs.Prelude.{map, IsUtf8}
-use Rattle.side_base.specs.Text.{IsNotUtf8At}
 use Rattle.yaml_subset.specs.declared.error.YamlErr.{YamlErr}
 use Rattle.yaml_subset.specs.declared.error.YamlErr.TheVariants.{Tab, Indent, LeftOut, Repeated, Scalar, NotUtf8, NoMemory}
 use Rattle.yaml_subset.specs.declared.node.Node.{Node}
-use Rattle.yaml_subset.specs.declared.docs.Docs.{Docs}
 use Rattle.yaml_subset.specs.Tree.{Scalar as ItemText, What, absent, leaf, rows, Forest, empty, grows, Entry, kind_of, text_of, item_entries, leaf_entries, row_entries, entries}
 use Rattle.yaml_subset.specs.Front.{Front}
 use Rattle.yaml_subset.specs.Line.{Line}
 use Rattle.yaml_subset.specs.Reading.{Says, IsRefused}
-use Rattle.yaml_subset.specs.Trees.{Told, Trees, none, tree, item_trees, inner_trees, plain, tree_entries}
-use Rattle.yaml_subset.specs.File.{file_lines, IsFile, IsRefusedIn, IsRefusal, IsRefusalOrMemory}
+use Rattle.yaml_subset.specs.Trees.{Trees, item_trees, inner_trees, plain, tree_entries}
+use Rattle.yaml_subset.specs.File.{file_lines, IsFile, IsRefusal, IsRefusalOrMemory}
 use Rattle.yaml_subset.specs.Held.{node_shown}
 use Rattle.yaml_subset.specs.ReadLines.{Holds, IsLinesCause}
 use Rattle.yaml_subset.specs.Docs.{Shows}
 use Rattle.yaml_subset.proofs.Whole.{nothing_yet}
 use Rattle.yaml_subset.proofs.Laws.{after_lines, says_read, says_one, refused_read}
-use Rattle.yaml_subset.proofs.Mild.{IsOfLine, line_error}
+use Rattle.yaml_subset.proofs.Mild.{line_error}
 
 items_same : (depth line : ℕ) (items : List ItemText) (others : Trees) → item_entries depth line items ++ tree_entries depth others ≡ tree_entries depth (item_trees line items others)
 unfolding tree_entries
@@ -55,12 +53,14 @@ never_both lines documents error s r = let p = says_read lines documents s in tw
 one_refusal : (lines : List Line) (a b : YamlErr) → IsRefused lines a → IsRefused lines b → a ≡ b
 one_refusal lines a b x y = one_error (after_lines nothing_yet lines) a b (refused_read lines a x) (refused_read lines b y)
 
-pub shows : (docs : Docs) (bytes : List ℕ) → IsUtf8 bytes → Holds docs.nodes.items (file_lines bytes) → Shows docs bytes
-shows docs bytes utf8 h = record {
-  documents = plain h.documents;
-  file = record { utf8 = utf8; layout = h.documents; says = h.says; are = refl };
-  only = λ others f. f.are ∙ ap plain (says_one (file_lines bytes) f.layout h.documents f.says h.says);
-  are = h.shown ∙ plain_entries 0 h.documents;
+-- the documents that lines say, as they are kept
+pub kept_as : (nodes : List Node) (lines : List Line) (h : Holds nodes lines) → map node_shown nodes ≡ tree_entries 0 (plain h.documents)
+kept_as nodes lines h = h.shown ∙ plain_entries 0 h.documents
+
+pub shows : (nodes : List Node) (documents : Trees) (bytes : List ℕ) → IsUtf8 bytes → (h : Holds nodes (file_lines bytes)) → documents ≡ plain h.documents → Shows documents bytes
+shows nodes documents bytes utf8 h e = record {
+  file = record { utf8 = utf8; layout = h.documents; says = h.says; are = e };
+  only = λ others f. f.are ∙ ap plain (says_one (file_lines bytes) f.layout h.documents f.says h.says) ∙ sym e;
 }
 
 pub not_refused : (nodes : List Node) (bytes : List ℕ) (error : YamlErr) → IsUtf8 bytes → Holds nodes (file_lines bytes) → IsRefusal bytes error → ⊥

@@ -1,5 +1,5 @@
 -- What a line adds to the entries and to what is open.
-use Rattle.std.proofs.Common.{◌≡◌, ◌≢◌, ℕ, zero, suc, ◌+◌, ◌-◌, ◌<◌, ◌≤◌, Bool, true, false, ◌&&◌, ◌||◌, ◌==◌, List, [], ◌∷◌, ◌++◌, length, take, drop, refl, sym, ap, subst, ◌∙◌, arith, append_assoc, append-nil, Option, Some, None, Result, Ok, Err}
+use Rattle.std.proofs.Common.{◌≡◌, ◌≢◌, ℕ, zero, suc, ◌+◌, ◌<◌, ◌≤◌, Bool, true, false, ◌&&◌, ◌||◌, ◌==◌, List, [], ◌∷◌, ◌++◌, length, take, drop, refl, sym, ap, ◌∙◌, arith, append_assoc, append-nil, Some, None}
 use Rattle.std.specs.Prelude.{nat_lt, if◌then◌else◌, map, bytes_eq}
 use Rattle.std.specs.List.{list_any}
 use Rattle.std.proofs.lemmas.List.{length-append}
@@ -12,9 +12,9 @@ use Rattle.yaml_subset.specs.declared.open.Holder.{Holder}
 use Rattle.yaml_subset.specs.declared.open.Holder.TheVariants as holders
 use Rattle.yaml_subset.specs.declared.open.Open.{Open}
 use Rattle.yaml_subset.specs.declared.value.Item.{Item}
-use Rattle.yaml_subset.specs.Tree.{Scalar, Leaf, What, absent, leaf, rows, Forest, empty, grows, one, append, Entry, holder_kind, kind_of, text_of, leaf_entries, item_entries, row_entries, entries}
-use Rattle.yaml_subset.specs.Front.{Frame, Front}
-use Rattle.yaml_subset.specs.Refusal.{is_holder, with_row, turned, may_have, name_is_taken, is_repeated}
+use Rattle.yaml_subset.specs.Tree.{Scalar, Leaf, What, absent, leaf, rows, Forest, empty, grows, one, append, Entry, holder_kind, leaf_entries, item_entries, row_entries, entries}
+use Rattle.yaml_subset.specs.Front.{Frame}
+use Rattle.yaml_subset.specs.Refusal.{is_holder, with_row, turned, may_have, name_is_taken}
 use Rattle.yaml_subset.specs.Held.{node_shown, is_row_named, entries_open, opened, openings, last_with, with_kind}
 use Rattle.yaml_subset.specs.Kept.{kept_count}
 use Rattle.yaml_subset.specs.Shown.{item_shown}

@@ -1,22 +1,22 @@
 -- What reading line by line comes to: the documents that the lines say, or the first refusal.
-use Rattle.std.proofs.Common.{◌≡◌, ◌≢◌, ℕ, suc, ◌<◌, Bool, true, false, ◌&&◌, ◌||◌, List, [], ◌∷◌, ◌++◌, length, refl, sym, ap, subst, ◌∙◌, append_assoc, append-nil, arith, Option, Some, None, Result, Ok, Err}
+use Rattle.std.proofs.Common.{◌≡◌, ℕ, Bool, true, false, ◌||◌, List, [], ◌∷◌, ◌++◌, length, refl, sym, ap, subst, ◌∙◌, append_assoc, append-nil, Option, Some, None, Result, Ok, Err}
 use Rattle.std.specs.Prelude.{if◌then◌else◌}
 use Rattle.yaml_subset.specs.declared.error.YamlErr.{YamlErr}
 use Rattle.yaml_subset.specs.declared.shallow.Shallow.{Shallow}
 use Rattle.yaml_subset.specs.declared.error.YamlErr.TheVariants.{Tab, LeftOut, Repeated, Scalar}
 use Rattle.yaml_subset.specs.declared.open.Holder.{Holder}
 use Rattle.yaml_subset.specs.declared.open.Holder.TheVariants as holders
-use Rattle.yaml_subset.specs.Tree.{Leaf, What, absent, leaf, rows, Forest, empty, grows, one, append}
-use Rattle.yaml_subset.specs.Layout.{Mark, lead, inside, marks, Fits}
-use Rattle.yaml_subset.specs.Front.{Frame, Front, IsPlaced, AreOpen, IsTip, IsFront, marks_then, front_marks, row_lead}
-use Rattle.yaml_subset.specs.Line.{Line, Name, Value, Parts, name_in, value_in, column_of, first_of, Spelled, good, left_out, wrong, line_marks, IsGood, IsGoodName, IsGoodValue, IsClean, marks_of, AreClean}
+use Rattle.yaml_subset.specs.Tree.{Leaf, What, rows, Forest, empty, one}
+use Rattle.yaml_subset.specs.Layout.{Mark, inside, marks, Fits}
+use Rattle.yaml_subset.specs.Front.{Frame, Front, AreOpen, IsTip, IsFront, marks_then}
+use Rattle.yaml_subset.specs.Line.{Line, Name, Value, name_in, value_in, first_of, Spelled, good, left_out, wrong, line_marks, IsGood, IsGoodName, IsGoodValue, IsClean, marks_of, AreClean}
 use Rattle.yaml_subset.specs.Refusal.{with_row, ◌>>=◌, with_start, with_parts, goes_on, byte_left_out, name_left_out, value_left_out, first_of_two, what_left_out, is_wrong, wrong_name_in, wrong_value_in, has_wrong, repeats, block_or, placed, unless_left_out, unless_goes_on, after_line}
 use Rattle.yaml_subset.specs.Reading.{Says, IsRefused}
 use Rattle.yaml_subset.proofs.Rows.{marks_append, marks_one, RowFits, fits_snoc}
 use Rattle.yaml_subset.proofs.Machine.{run, run_append, closed}
 use Rattle.yaml_subset.proofs.Whole.{nothing_yet, whole_read, front_run}
-use Rattle.yaml_subset.proofs.Sound.{IsRowIn, tip_row, closed_row, row_marks}
-use Rattle.yaml_subset.proofs.Lines.{AreSayable, run_sound, run_none, sayable_append, line_sayable, okay, line_run}
+use Rattle.yaml_subset.proofs.Sound.{tip_row, closed_row}
+use Rattle.yaml_subset.proofs.Lines.{run_sound, run_none, line_sayable, okay, line_run}
 
 -- lines one after the other
 unfoldable pub after_lines : Front → List Line → Result Front YamlErr

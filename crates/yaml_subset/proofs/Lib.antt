@@ -15,6 +15,7 @@ pub mod Growth
 pub mod Causes
 pub mod Finished
 pub mod Walks
+pub mod Numbers
 pub mod Mild
 pub mod Files
 pub mod OrderMark

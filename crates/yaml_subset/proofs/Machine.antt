@@ -1,5 +1,5 @@
 -- Reading marks from left to right.
-use Rattle.std.proofs.Common.{◌≡◌, ◌≢◌, ◌⊎◌, inl, inr, ℕ, suc, ◌<◌, ◌≤◌, Bool, true, false, ◌&&◌, ◌||◌, ◌==◌, List, [], ◌∷◌, ◌++◌, length, refl, sym, ap, subst, ◌∙◌, append_assoc, append-nil, arith, Option, Some, None, Result, Ok, Err}
+use Rattle.std.proofs.Common.{◌≡◌, ◌⊎◌, inl, inr, ℕ, suc, ◌<◌, Bool, true, false, ◌&&◌, ◌==◌, List, [], ◌∷◌, ◌++◌, length, refl, sym, ap, subst, ◌∙◌, append_assoc, append-nil, arith, Option, Some, None, Result, Ok, Err}
 use Rattle.std.specs.Prelude.{nat_lt, if◌then◌else◌, bytes_eq}
 use Rattle.std.proofs.lemmas.Bool.{false_from_ne_true}
 use Rattle.std.proofs.lemmas.Bool.Decides.{Decides-eqb}
@@ -7,10 +7,10 @@ use Rattle.std.proofs.lemmas.Slice.Eq.{bytes_eq-Decides}
 use Rattle.yaml_subset.specs.declared.open.Holder.{Holder}
 use Rattle.yaml_subset.specs.declared.open.Holder.TheVariants as holders
 use Rattle.yaml_subset.specs.Tree.{Leaf, What, absent, leaf, rows, Forest, empty, grows, one, append}
-use Rattle.yaml_subset.specs.Layout.{Says, start, item, named, value, Mark, lead, inside, says_of, marks, may_hold, max_levels, Lacks, IsNameIn, IsHeld, IsWithin, nests, Fits}
+use Rattle.yaml_subset.specs.Layout.{Says, start, item, named, value, Mark, lead, inside, says_of, marks, may_hold, max_levels, Lacks, IsWithin, nests, Fits}
 use Rattle.yaml_subset.specs.Front.{Frame, Front, IsNewIn}
-use Rattle.yaml_subset.specs.Refusal.{is_holder, is_absent, with_row, turned, may_begin, may_have, is_deep, has_column, Misplaced, turned_or, with_lead, with_value, name_is_taken, is_repeated}
-use Rattle.yaml_subset.proofs.Rows.{marks_grows, append_empty, append_append, RowFits, FitsAt, fits_row, fits_at}
+use Rattle.yaml_subset.specs.Refusal.{is_holder, is_absent, with_row, turned, may_begin, may_have, is_deep, Misplaced, with_lead, with_value, name_is_taken, is_repeated}
+use Rattle.yaml_subset.proofs.Rows.{marks_grows, append_append, RowFits, fits_at}
 
 abbrev pub kept : Front → Bool → Option Front
 kept front true = None

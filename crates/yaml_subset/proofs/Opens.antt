@@ -1,5 +1,5 @@
 -- The parts that are open, as a list from the outermost.
-use Rattle.std.proofs.Common.{◌≡◌, ℕ, zero, suc, ◌+◌, ◌-◌, ◌<◌, ◌≤◌, Bool, true, false, ◌&&◌, ◌||◌, ◌==◌, List, [], ◌∷◌, ◌++◌, length, take, drop, refl, sym, ap, subst, ◌∙◌, arith, append_assoc, append-nil, Option, Some, None}
+use Rattle.std.proofs.Common.{◌≡◌, ℕ, suc, ◌+◌, ◌<◌, ◌≤◌, Bool, true, false, ◌&&◌, ◌||◌, ◌==◌, List, [], ◌∷◌, ◌++◌, length, refl, sym, ap, ◌∙◌, arith, Some, None}
 use Rattle.std.specs.Prelude.{nat_lt, if◌then◌else◌}
 use Rattle.std.specs.List.{list_any}
 use Rattle.std.proofs.lemmas.List.{length-append}
@@ -10,8 +10,8 @@ use Rattle.yaml_subset.specs.declared.open.Holder.TheVariants as holders
 use Rattle.yaml_subset.specs.declared.open.Open.{Open}
 use Rattle.yaml_subset.specs.declared.open.Tip.{Tip}
 use Rattle.yaml_subset.specs.declared.open.Tip.TheVariants as tips
-use Rattle.yaml_subset.specs.Tree.{Leaf, What, absent, leaf, rows}
-use Rattle.yaml_subset.specs.Front.{Frame, Front}
+use Rattle.yaml_subset.specs.Tree.{What, absent, leaf, rows}
+use Rattle.yaml_subset.specs.Front.{Frame}
 use Rattle.yaml_subset.specs.Refusal.{is_holder, is_absent, is_plain, may_begin, has_column}
 use Rattle.yaml_subset.specs.Held.{opened, openings, tip_of}
 use Rattle.yaml_subset.specs.Kept.{kept_count}

@@ -1,9 +1,9 @@
 -- Rows one after the other: their marks, their entries, and how they fit.
-use Rattle.std.proofs.Common.{◌≡◌, ◌≢◌, ℕ, suc, ◌<◌, true, List, [], ◌∷◌, ◌++◌, length, refl, sym, ap, subst, ◌∙◌, append_assoc, append-nil}
+use Rattle.std.proofs.Common.{◌≡◌, ◌≢◌, ℕ, suc, List, ◌∷◌, ◌++◌, refl, sym, ap, subst, ◌∙◌, append_assoc, append-nil}
 use Rattle.yaml_subset.specs.declared.open.Holder.{Holder}
 use Rattle.yaml_subset.specs.declared.open.Holder.TheVariants as holders
-use Rattle.yaml_subset.specs.Tree.{Leaf, What, absent, leaf, rows, Forest, empty, grows, one, append, Entry, entries, row_entries}
-use Rattle.yaml_subset.specs.Layout.{Mark, lead, inside, marks, may_hold, max_levels, Lacks, IsNameIn, IsHeld, Fits}
+use Rattle.yaml_subset.specs.Tree.{What, absent, leaf, rows, Forest, empty, grows, one, append, entries, row_entries}
+use Rattle.yaml_subset.specs.Layout.{lead, inside, marks, Lacks, IsNameIn, IsHeld, Fits}
 use Rattle.yaml_subset.specs.Front.{IsNewIn}
 
 pub marks_grows : (h : Holder) (c line : ℕ) (name : List ℕ) (what : What) (inner later : Forest) → marks h c (grows line name what inner later) ≡ lead h c line name ∷ (inside what inner ++ marks h c later)

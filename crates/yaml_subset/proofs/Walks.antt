@@ -1,20 +1,20 @@
 -- From a part to the parts in it, and to the next one.
-use Rattle.std.proofs.Common.{◌≡◌, ◌≢◌, ◌⊎◌, inl, inr, ℕ, zero, suc, ◌+◌, ◌-◌, ◌<◌, ◌≤◌, Bool, true, false, ◌==◌, cond, List, [], ◌∷◌, ◌++◌, length, drop, get_or, refl, sym, ap, subst, ◌∙◌, arith, append_assoc, append-nil, length-append, Option, Some, None}
-use Rattle.std.specs.Prelude.{nat_lt, map, count_by, MatchOption, IsTrue, ◌↔◌}
+use Rattle.std.proofs.Common.{◌≡◌, ◌≢◌, ◌⊎◌, inl, inr, ℕ, zero, suc, ◌+◌, ◌<◌, ◌≤◌, Bool, true, false, ◌==◌, cond, List, [], ◌∷◌, ◌++◌, length, drop, get_or, refl, sym, ap, ◌∙◌, arith, append_assoc, append-nil, length-append, Option, None}
+use Rattle.std.specs.Prelude.{nat_lt, map, count_by}
 use Rattle.std.proofs.lemmas.List.Recursion.{is_count_by}
 use Rattle.std.specs.List.{take_while}
 use Rattle.std.proofs.lemmas.List.{drop-drop}
 use Rattle.std.proofs.lemmas.List.Sums.{take_while-cons}
 use Rattle.std.proofs.lemmas.Bool.{false_from_ne_true}
 use Rattle.std.proofs.lemmas.Bool.Decides.{Decides-eqb, Decides-ltb}
-use Rattle.yaml_subset.specs.declared.kind.PartKind.{PartKind}
 use Rattle.yaml_subset.specs.declared.node.Node.{Node}
-use Rattle.yaml_subset.specs.declared.docs.Docs.{Docs}
-use Rattle.yaml_subset.specs.declared.docs.Part.{Part}
+use Rattle.yaml_subset.specs.declared.preorder.Preorder.{Preorder}
+use Rattle.yaml_subset.specs.declared.preorder.Part.{Part}
 use Rattle.yaml_subset.specs.Tree.{Entry}
 use Rattle.yaml_subset.specs.Held.{node_shown}
 use Rattle.yaml_subset.specs.Trees.{Told, Trees, none, tree, tree_entries}
-use Rattle.yaml_subset.specs.Docs.{parts_kept, IsDepthAt, Shallower, StandAt, StandsAt, IsFirstOf, FirstOf, ForFirst, AreDocuments, count_of, rows_from, NoneNamed, IsTailOf, IsMember}
+use Rattle.yaml_subset.specs.Preorder.{parts_kept, IsDepthAt, Shallower, StandAt, StandsAt, IsFirstOf, FirstOf, ForFirst, AreDocuments}
+use Rattle.yaml_subset.specs.Docs.{count_of, rows_from}
 
 abbrev pub entry_of : ℕ → Told → Entry
 entry_of depth t = record { depth = depth; line = t.line; kind = t.kind; name = t.name; text = t.text }
@@ -36,7 +36,7 @@ past_at [] n h = omega arith
 past_at (x ∷ xs) zero h = absurd (omega (arith, ap length h))
 past_at (x ∷ xs) (suc n) h = omega (arith, past_at xs n h)
 
-drop_on : (xs ys zs : List Entry) (n m : ℕ) → drop n xs ≡ ys ++ zs → m ≡ n + length ys → drop m xs ≡ zs
+pub drop_on : (xs ys zs : List Entry) (n m : ℕ) → drop n xs ≡ ys ++ zs → m ≡ n + length ys → drop m xs ≡ zs
 drop_on xs ys zs n m h e = ap (λ k. drop k xs) e ∙ sym (drop-drop (length ys) n xs) ∙ ap (drop (length ys)) h ∙ drop_front ys zs
   where
     drop_front : (ys zs : List Entry) → drop (length ys) (ys ++ zs) ≡ zs
@@ -47,14 +47,14 @@ pub first_entry : (depth : ℕ) (t : Told) (c l : Trees) → tree_entries depth 
 unfolding tree_entries
 first_entry depth t c l = refl
 
-no_entries : (depth : ℕ) → tree_entries depth none ≡ []
+pub no_entries : (depth : ℕ) → tree_entries depth none ≡ []
 unfolding tree_entries
 no_entries depth = refl
 
-tree_some : (t : Told) (c l : Trees) → tree t c l ≢ none
+pub tree_some : (t : Told) (c l : Trees) → tree t c l ≢ none
 tree_some t c l e = let bad : ⊥ = cc in bad
 
-module _ (docs : Docs) (n : ℕ) (t : Told) (c l : Trees) (h : StandAt docs n (tree t c l)) where
+module _ (docs : Preorder) (n : ℕ) (t : Told) (c l : Trees) (h : StandAt docs n (tree t c l)) where
   whole : drop n (parts_kept docs) ≡ entry_of h.depth t ∷ ((tree_entries (suc h.depth) c ++ tree_entries h.depth l) ++ h.others)
   whole = h.are ∙ ap (λ x. x ++ h.others) (first_entry h.depth t c l)
 
@@ -78,7 +78,7 @@ first_of [] h = absurd (omega (arith, h))
 first_of (x ∷ xs) h = x
 
 -- what stands behind a row is no deeper than it
-row_depth : (docs : Docs) (m depth d : ℕ) (l : Trees) (others : List Entry) → drop m (parts_kept docs) ≡ tree_entries depth l ++ others → Shallower depth others → IsDepthAt docs m d → d ≤ depth
+row_depth : (docs : Preorder) (m depth d : ℕ) (l : Trees) (others : List Entry) → drop m (parts_kept docs) ≡ tree_entries depth l ++ others → Shallower depth others → IsDepthAt docs m d → d ≤ depth
 row_depth docs m depth d none [] e shallow is = absurd (omega (arith, is.inside, past_at docs.nodes.items m (e ∙ ap (λ x. x ++ []) (no_entries depth))))
 row_depth docs m depth d none (o ∷ others) e shallow is = at_other (e ∙ ap (λ x. x ++ o ∷ others) (no_entries depth))
   where
@@ -94,7 +94,7 @@ row_depth docs m depth d (tree t c l) others e shallow is = at_tree (e ∙ ap (�
         omega (arith, at)
 
 -- a row that has a part has one of its own depth
-row_has : (docs : Docs) (m depth d : ℕ) (l : Trees) (others : List Entry) → l ≢ none → drop m (parts_kept docs) ≡ tree_entries depth l ++ others → IsDepthAt docs m d → d ≡ depth
+row_has : (docs : Preorder) (m depth d : ℕ) (l : Trees) (others : List Entry) → l ≢ none → drop m (parts_kept docs) ≡ tree_entries depth l ++ others → IsDepthAt docs m d → d ≡ depth
 row_has docs m depth d none others some e is = absurd (some refl)
 row_has docs m depth d (tree t c l) others some e is = at_tree (e ∙ ap (λ x. x ++ others) (first_entry depth t c l))
   where
@@ -102,11 +102,11 @@ row_has docs m depth d (tree t c l) others some e is = at_tree (e ∙ ap (λ x. 
     at_tree k = let any : Node = first_of docs.nodes.items (inside_at docs.nodes.items m (entry_of depth t) ((tree_entries (suc depth) c ++ tree_entries depth l) ++ others) k) in
         is.is any ∙ ap (λ x. x.depth) (head_at docs.nodes.items m (entry_of depth t) ((tree_entries (suc depth) c ++ tree_entries depth l) ++ others) k any)
 
-row_inside : (docs : Docs) (m depth : ℕ) (l : Trees) (others : List Entry) → l ≢ none → drop m (parts_kept docs) ≡ tree_entries depth l ++ others → m < length docs.nodes.items
+row_inside : (docs : Preorder) (m depth : ℕ) (l : Trees) (others : List Entry) → l ≢ none → drop m (parts_kept docs) ≡ tree_entries depth l ++ others → m < length docs.nodes.items
 row_inside docs m depth none others some e = absurd (some refl)
 row_inside docs m depth (tree t c l) others some e = inside_at docs.nodes.items m (entry_of depth t) ((tree_entries (suc depth) c ++ tree_entries depth l) ++ others) (e ∙ ap (λ x. x ++ others) (first_entry depth t c l))
 
-row_below : (depth deeper : ℕ) (l : Trees) (others : List Entry) → depth < deeper → Shallower depth others → Shallower deeper (tree_entries depth l ++ others)
+pub row_below : (depth deeper : ℕ) (l : Trees) (others : List Entry) → depth < deeper → Shallower depth others → Shallower deeper (tree_entries depth l ++ others)
 unfolding tree_entries
 row_below depth deeper none [] lt shallow = tt
 row_below depth deeper none (o ∷ others) lt shallow = omega (arith, lt, shallow)
@@ -123,30 +123,30 @@ pub record Tells (node : Node) (t : Told) : Type 0 where
   pub name : node.name.items ≡ t.name
   pub text : node.text.items ≡ t.text
 
-pub own_told : (docs : Docs) (n : ℕ) (node : Node) (row : Trees) → node ≡ get_or docs.nodes.items n node → StandAt docs n row → ForFirst row (λ told inner later. Tells node told)
+pub own_told : (docs : Preorder) (n : ℕ) (node : Node) (row : Trees) → node ≡ get_or docs.nodes.items n node → StandAt docs n row → ForFirst row (λ told inner later. Tells node told)
 own_told docs n node none is h = tt
 own_told docs n node (tree t c l) is h =
     let e : node_shown node ≡ entry_of h.depth t = ap node_shown is ∙ own_entry docs n t c l h node in
     record { kind = ap (λ x. x.kind) e; line = ap (λ x. x.line) e; name = ap (λ x. x.name) e; text = ap (λ x. x.text) e }
 
-own_depth : (docs : Docs) (n : ℕ) (node : Node) (t : Told) (c l : Trees) (h : StandAt docs n (tree t c l)) → node ≡ get_or docs.nodes.items n node → node.depth ≡ h.depth
+own_depth : (docs : Preorder) (n : ℕ) (node : Node) (t : Told) (c l : Trees) (h : StandAt docs n (tree t c l)) → node ≡ get_or docs.nodes.items n node → node.depth ≡ h.depth
 own_depth docs n node t c l h is = ap (λ x. x.depth) (ap node_shown is ∙ own_entry docs n t c l h node)
 
-pub first_some : (docs : Docs) (n d : ℕ) (node : Node) (p : Part) (row : Trees) → p.number ≡ n + 1 → node ≡ get_or docs.nodes.items n node → IsDepthAt docs (n + 1) d → node.depth < d → StandAt docs n row → ForFirst row (λ told inner later. IsFirstOf docs inner p)
+pub first_some : (docs : Preorder) (n d : ℕ) (node : Node) (p : Part) (row : Trees) → p.number ≡ n + 1 → node ≡ get_or docs.nodes.items n node → IsDepthAt docs (n + 1) d → node.depth < d → StandAt docs n row → ForFirst row (λ told inner later. IsFirstOf docs inner p)
 first_some docs n d node p none num is at lt h = tt
 first_some docs n d node p (tree t none l) num is at lt h =
     absurd (omega (arith, lt, own_depth docs n node t none l h is, row_depth docs (n + 1) h.depth d l h.others (behind docs n t none l h ∙ ap (λ x. x ++ (tree_entries h.depth l ++ h.others)) (no_entries (suc h.depth))) h.end at))
 first_some docs n d node p (tree t (tree u b r) l) num is at lt h =
     (record { depth = suc h.depth; others = tree_entries h.depth l ++ h.others; are = ap (λ k. drop k (parts_kept docs)) num ∙ behind docs n t (tree u b r) l h; end = row_below h.depth (suc h.depth) l h.others (omega arith) h.end }, tree_some u b r)
 
-pub first_none : (docs : Docs) (n d : ℕ) (node : Node) (row : Trees) → node ≡ get_or docs.nodes.items n node → IsDepthAt docs (n + 1) d → d ≤ node.depth → StandAt docs n row → ForFirst row (λ told inner later. inner ≡ none)
+pub first_none : (docs : Preorder) (n d : ℕ) (node : Node) (row : Trees) → node ≡ get_or docs.nodes.items n node → IsDepthAt docs (n + 1) d → d ≤ node.depth → StandAt docs n row → ForFirst row (λ told inner later. inner ≡ none)
 first_none docs n d node none is at le h = tt
 first_none docs n d node (tree t c l) is at le h = elim (is_none_or c) [
   | inl without ↦ without
   | inr some ↦ absurd (omega (arith, le, own_depth docs n node t c l h is, row_has docs (n + 1) (suc h.depth) d c (tree_entries h.depth l ++ h.others) some (behind docs n t c l h) at))
 ]
 
-pub first_past : (docs : Docs) (n : ℕ) (row : Trees) → length docs.nodes.items ≤ n + 1 → StandAt docs n row → ForFirst row (λ told inner later. inner ≡ none)
+pub first_past : (docs : Preorder) (n : ℕ) (row : Trees) → length docs.nodes.items ≤ n + 1 → StandAt docs n row → ForFirst row (λ told inner later. inner ≡ none)
 first_past docs n none past h = tt
 first_past docs n (tree t c l) past h = elim (is_none_or c) [
   | inl without ↦ without
@@ -198,10 +198,10 @@ drop_shown (suc n) [] = refl
 drop_shown (suc n) (node ∷ nodes) = drop_shown n nodes
 
 -- the place behind a part
-abbrev pub IsBehind : Docs → ℕ → ℕ → Type 0
+abbrev pub IsBehind : Preorder → ℕ → ℕ → Type 0
 IsBehind docs n m = (node : Node) → m ≡ n + 1 + length (take_while (λ (other : Node). nat_lt (get_or docs.nodes.items n node).depth other.depth) (drop (n + 1) docs.nodes.items))
 
-next_place : (docs : Docs) (n m : ℕ) (node : Node) (t : Told) (c l : Trees) (h : StandAt docs n (tree t c l)) → node ≡ get_or docs.nodes.items n node → IsBehind docs n m → drop m (parts_kept docs) ≡ tree_entries h.depth l ++ h.others
+next_place : (docs : Preorder) (n m : ℕ) (node : Node) (t : Told) (c l : Trees) (h : StandAt docs n (tree t c l)) → node ≡ get_or docs.nodes.items n node → IsBehind docs n m → drop m (parts_kept docs) ≡ tree_entries h.depth l ++ h.others
 next_place docs n m node t c l h is b =
     let depth : (get_or docs.nodes.items n node).depth ≡ h.depth = ap (λ x. x.depth) (own_entry docs n t c l h node) in
     let count : length (take_while (λ (other : Node). nat_lt (get_or docs.nodes.items n node).depth other.depth) (drop (n + 1) docs.nodes.items)) ≡ length (tree_entries (suc h.depth) c) + 0 =
@@ -212,7 +212,7 @@ next_place docs n m node t c l h is b =
     ∙ ap (λ k. length (tree_entries (suc h.depth) c) + k) (none_deeper h.depth l h.others h.end) in
     beyond docs n t c l h m (omega (arith, b node, count))
 
-pub next_some : (docs : Docs) (n m d : ℕ) (node : Node) (p : Part) (row : Trees) → p.number ≡ m → node ≡ get_or docs.nodes.items n node → IsBehind docs n m → IsDepthAt docs m d → d ≡ node.depth → StandAt docs n row → ForFirst row (λ told inner later. IsFirstOf docs later p)
+pub next_some : (docs : Preorder) (n m d : ℕ) (node : Node) (p : Part) (row : Trees) → p.number ≡ m → node ≡ get_or docs.nodes.items n node → IsBehind docs n m → IsDepthAt docs m d → d ≡ node.depth → StandAt docs n row → ForFirst row (λ told inner later. IsFirstOf docs later p)
 next_some docs n m d node p none num is b at eq h = tt
 next_some docs n m d node p (tree t c none) num is b at eq h = absurd (after_row h.others (next_place docs n m node t c none h is b) h.end)
   where
@@ -224,14 +224,14 @@ next_some docs n m d node p (tree t c none) num is b at eq h = absurd (after_row
 next_some docs n m d node p (tree t c (tree u b r)) num is behind_it at eq h =
     (record { depth = h.depth; others = h.others; are = ap (λ k. drop k (parts_kept docs)) num ∙ next_place docs n m node t c (tree u b r) h is behind_it; end = h.end }, tree_some u b r)
 
-pub next_none : (docs : Docs) (n m d : ℕ) (node : Node) (row : Trees) → node ≡ get_or docs.nodes.items n node → IsBehind docs n m → IsDepthAt docs m d → (d ≡ node.depth → ⊥) → StandAt docs n row → ForFirst row (λ told inner later. later ≡ none)
+pub next_none : (docs : Preorder) (n m d : ℕ) (node : Node) (row : Trees) → node ≡ get_or docs.nodes.items n node → IsBehind docs n m → IsDepthAt docs m d → (d ≡ node.depth → ⊥) → StandAt docs n row → ForFirst row (λ told inner later. later ≡ none)
 next_none docs n m d node none is b at ne h = tt
 next_none docs n m d node (tree t c l) is b at ne h = elim (is_none_or l) [
   | inl without ↦ without
   | inr some ↦ absurd (ne (row_has docs m h.depth d l h.others some (next_place docs n m node t c l h is b) at ∙ sym (own_depth docs n node t c l h is)))
 ]
 
-pub next_past : (docs : Docs) (n m : ℕ) (node : Node) (row : Trees) → node ≡ get_or docs.nodes.items n node → IsBehind docs n m → length docs.nodes.items ≤ m → StandAt docs n row → ForFirst row (λ told inner later. later ≡ none)
+pub next_past : (docs : Preorder) (n m : ℕ) (node : Node) (row : Trees) → node ≡ get_or docs.nodes.items n node → IsBehind docs n m → length docs.nodes.items ≤ m → StandAt docs n row → ForFirst row (λ told inner later. later ≡ none)
 next_past docs n m node none is b past h = tt
 next_past docs n m node (tree t c l) is b past h = elim (is_none_or l) [
   | inl without ↦ without
@@ -242,12 +242,12 @@ pub for_first : (row : Trees) (P Q : Told → Trees → Trees → Type 0) → Fo
 for_first none P Q h f = tt
 for_first (tree t inner later) P Q h f = f t inner later h
 
-pub no_documents : (docs : Docs) (documents : Trees) → AreDocuments docs documents → length docs.nodes.items ≡ 0 → documents ≡ none
+pub no_documents : (docs : Preorder) (documents : Trees) → AreDocuments docs documents → length docs.nodes.items ≡ 0 → documents ≡ none
 unfolding tree_entries
 no_documents docs none are z = refl
 no_documents docs (tree t c l) are z = absurd (omega (arith, z, shown_length docs.nodes.items, ap length are))
 
-pub all_documents : (docs : Docs) (documents : Trees) → AreDocuments docs documents → 0 < length docs.nodes.items → StandAt docs 0 documents × (documents ≢ none)
+pub all_documents : (docs : Preorder) (documents : Trees) → AreDocuments docs documents → 0 < length docs.nodes.items → StandAt docs 0 documents × (documents ≢ none)
 all_documents docs documents are z = (record { depth = 0; others = []; are = are ∙ sym (append-nil (tree_entries 0 documents)); end = tt }, some documents are)
   where
     some : (documents : Trees) → AreDocuments docs documents → documents ≢ none
@@ -284,12 +284,12 @@ shown_tops : List Node → ℕ
 unfolding tops
 shown_tops nodes = tops (map node_shown nodes)
 
-pub counted : (docs : Docs) (documents : Trees) → AreDocuments docs documents → count_by (λ (node : Node). node.depth == 0) docs.nodes.items ≡ count_of documents
+pub counted : (docs : Preorder) (documents : Trees) → AreDocuments docs documents → count_by (λ (node : Node). node.depth == 0) docs.nodes.items ≡ count_of documents
 unfolding shown_tops tops
 counted docs documents are = sym (is_count_by shown_tops (λ (node : Node). node.depth == 0) refl (λ x xs. refl) docs.nodes.items) ∙ ap tops are ∙ tops_all documents
 
 -- one document more
-pub rows_next : (docs : Docs) (n : ℕ) (row : Trees) (p : Part) (found : Option Part) → IsFirstOf docs (rows_from n row) p → ((rest : Trees) → StandsAt docs p rest → ForFirst rest (λ told inner later. FirstOf docs later found)) → FirstOf docs (rows_from (suc n) row) found
+pub rows_next : (docs : Preorder) (n : ℕ) (row : Trees) (p : Part) (found : Option Part) → IsFirstOf docs (rows_from n row) p → ((rest : Trees) → StandsAt docs p rest → ForFirst rest (λ told inner later. FirstOf docs later found)) → FirstOf docs (rows_from (suc n) row) found
 rows_next docs zero none p found f next = absurd (f.1 refl)
 rows_next docs zero (tree t c l) p found f next = next (tree t c l) f.0
 rows_next docs (suc n) none p found f next = absurd (f.1 refl)
@@ -302,56 +302,5 @@ rows_past (suc n) zero row l e = absurd (omega (arith, l))
 rows_past (suc n) (suc k) none l e = refl
 rows_past (suc n) (suc k) (tree t c r) l e = rows_past n k r (omega (arith, l)) e
 
-pub none_first : (docs : Docs) (row : Trees) → row ≡ none → FirstOf docs row None
+pub none_first : (docs : Preorder) (row : Trees) → row ≡ none → FirstOf docs row None
 none_first docs row e = e
-
--- searching for a name
-pub record Going (docs : Docs) (name : List ℕ) (row : Trees) (here : Option Part) : Type 0 where
-  pub tail : Trees
-  pub at : FirstOf docs tail here
-  pub part : IsTailOf tail row
-  pub onward : NoneNamed name tail → NoneNamed name row
-
-tail_self : (row : Trees) → IsTailOf row row
-tail_self none = refl
-tail_self (tree t c l) = inl refl
-
-tail_of_tail : (x tail row : Trees) → IsTailOf x tail → IsTailOf tail row → IsTailOf x row
-tail_of_tail x tail none h e = subst (λ (y : Trees). IsTailOf x y) e h
-tail_of_tail x tail (tree t c l) h (inl e) = subst (λ (y : Trees). IsTailOf x y) e h
-tail_of_tail x tail (tree t c l) h (inr further) = inr (tail_of_tail x tail l h further)
-
-pub going_start : (docs : Docs) (name : List ℕ) (row : Trees) (here : Option Part) → FirstOf docs row here → Going docs name row here
-going_start docs name row here f = record { tail = row; at = f; part = tail_self row; onward = λ h. h }
-
-going_past : (docs : Docs) (name : List ℕ) (row : Trees) (p : Part) (next : Option Part) (tail : Trees) → IsFirstOf docs tail p → IsTailOf tail row → (NoneNamed name tail → NoneNamed name row) → ForFirst tail (λ told inner later. (told.name ≢ name) × FirstOf docs later next) → Going docs name row next
-going_past docs name row p next none f part onward h = absurd (f.1 refl)
-going_past docs name row p next (tree t c l) f part onward h = record {
-  tail = l;
-  at = h.1;
-  part = tail_of_tail l (tree t c l) row (inr (tail_self l)) part;
-  onward = λ k. onward (h.0, k);
-}
-
-pub both_first : (tail : Trees) (P Q : Told → Trees → Trees → Type 0) → ForFirst tail P → ForFirst tail Q → ForFirst tail (λ told inner later. P told inner later × Q told inner later)
-both_first none P Q p q = tt
-both_first (tree t c l) P Q p q = (p, q)
-
-pub going_on : (docs : Docs) (name : List ℕ) (row : Trees) (p : Part) (next : Option Part) (b : Bool) → b ≡ false → Going docs name row (Some p) → ((rest : Trees) → StandsAt docs p rest → ForFirst rest (λ told inner later. IsTrue b ↔ (told.name ≡ name))) → ((rest : Trees) → StandsAt docs p rest → ForFirst rest (λ told inner later. FirstOf docs later next)) → Going docs name row next
-going_on docs name row p next b e g named follows =
-    going_past docs name row p next g.tail g.at g.part g.onward
-    (both_first g.tail _ _ (for_first g.tail _ (λ told inner later. told.name ≢ name) (named g.tail g.at.0) (λ t inner later d k. let x : b ≡ true = d.1 k in cc)) (follows g.tail g.at.0))
-
-member_at : (docs : Docs) (name : List ℕ) (row : Trees) (p : Part) (tail : Trees) → IsFirstOf docs tail p → IsTailOf tail row → ForFirst tail (λ told inner later. told.name ≡ name) → IsMember docs name row p
-member_at docs name row p none f part h = absurd (f.1 refl)
-member_at docs name row p (tree t c l) f part h = record { told = t; inner = c; later = l; here = f.0; of_them = part; named = h }
-
-pub going_found : (docs : Docs) (name : List ℕ) (row : Trees) (p : Part) (b : Bool) → b ≡ true → Going docs name row (Some p) → ((rest : Trees) → StandsAt docs p rest → ForFirst rest (λ told inner later. IsTrue b ↔ (told.name ≡ name))) → IsMember docs name row p
-going_found docs name row p b e g named = member_at docs name row p g.tail g.at g.part (for_first g.tail _ (λ told inner later. told.name ≡ name) (named g.tail g.at.0) (λ t inner later d. d.0 e))
-
-pub going_end : (docs : Docs) (name : List ℕ) (row : Trees) → Going docs name row None → NoneNamed name row
-going_end docs name row g = g.onward (subst (NoneNamed name) (sym g.at) tt)
-
-abbrev pub parts_left : ℕ → Option Part → ℕ
-parts_left n None = 0
-parts_left n (Some p) = suc (n - p.number)

@@ -1,14 +1,14 @@
 -- Reading all marks of a file, and those of the front of one.
-use Rattle.std.proofs.Common.{◌≡◌, ◌≢◌, ℕ, suc, ◌<◌, Bool, true, false, ◌&&◌, List, [], ◌∷◌, ◌++◌, length, refl, sym, ap, subst, ◌∙◌, append_assoc, append-nil, arith, Option, Some, None, Result, Ok, Err}
+use Rattle.std.proofs.Common.{◌≡◌, ℕ, ◌<◌, Bool, true, false, ◌&&◌, List, [], ◌∷◌, ◌++◌, length, refl, sym, ap, subst, ◌∙◌, append-nil, arith, Some}
 use Rattle.std.specs.Prelude.{nat_lt}
 use Rattle.yaml_subset.specs.declared.open.Holder.{Holder}
 use Rattle.yaml_subset.specs.declared.open.Holder.TheVariants as holders
-use Rattle.yaml_subset.specs.Tree.{Leaf, What, absent, leaf, rows, Forest, empty, grows, one, append}
-use Rattle.yaml_subset.specs.Layout.{Mark, lead, inside, says_of, marks, may_hold, max_levels, nests, IsHeld, IsWithin, Fits}
-use Rattle.yaml_subset.specs.Front.{Frame, Front, IsNewIn, IsPlaced, AreOpen, IsTip, IsFront, marks_then, front_marks, row_lead}
-use Rattle.yaml_subset.specs.Refusal.{is_absent, may_begin, is_deep, with_lead, is_repeated}
+use Rattle.yaml_subset.specs.Tree.{What, absent, leaf, rows, Forest, empty, grows, append}
+use Rattle.yaml_subset.specs.Layout.{Mark, lead, inside, marks, nests, IsWithin, Fits}
+use Rattle.yaml_subset.specs.Front.{Frame, Front, IsNewIn, IsPlaced, AreOpen, IsTip, IsFront, marks_then, row_lead}
+use Rattle.yaml_subset.specs.Refusal.{may_begin, is_deep}
 use Rattle.yaml_subset.proofs.Rows.{marks_grows, fits_at}
-use Rattle.yaml_subset.proofs.Machine.{run, said, led, kept, run_append, Reaches, Reached, rows_reached, waits, closed, lead_begins, said_lead, not_taken, next_row, not_deep, value_begins, had}
+use Rattle.yaml_subset.proofs.Machine.{run, led, kept, Reached, rows_reached, waits, closed, lead_begins, said_lead, not_taken, next_row, not_deep, value_begins, had}
 
 start_empty : (level : ℕ) (h : Holder) (c : ℕ) (f : Forest) → Fits level h c f → Fits level h c (append empty f)
 unfolding append

@@ -1,12 +1,12 @@
 -- Steps of loops over the bytes of a word.
-use Rattle.std.proofs.Common.{◌≡◌, ℕ, zero, suc, ◌+◌, ◌-◌, ◌<◌, ◌≤◌, Bool, true, false, ◌&&◌, ◌||◌, ◌==◌, not, List, [], ◌∷◌, ◌++◌, length, take, drop, refl, sym, ap, subst, ◌∙◌, arith, append_assoc, append-nil, Option, Some, None, option_map}
+use Rattle.std.proofs.Common.{◌≡◌, ℕ, zero, suc, ◌+◌, ◌<◌, ◌≤◌, Bool, true, false, ◌&&◌, ◌==◌, not, List, [], ◌∷◌, ◌++◌, length, take, drop, refl, sym, ap, ◌∙◌, arith, Option, Some, None}
 use Rattle.std.specs.Prelude.{if◌then◌else◌, IfSome}
 use Rattle.yaml_subset.specs.Blank.{is_white}
 use Rattle.yaml_subset.specs.declared.found.Found.{Found}
 use Rattle.yaml_subset.specs.declared.found.Found.TheVariants.{Here as here, Past as past, Nowhere as nowhere, Later as later}
 use Rattle.yaml_subset.specs.Found.{place_by, shifted, found_at}
-use Rattle.yaml_subset.specs.Plain.{before_white, trimmed, comment_found, comment_place, before_comment, ends_name, colon_found, colon_place}
-use Rattle.yaml_subset.specs.Quoted.{pairs, quote_found, paired_after, len_at_end, quoted_len}
+use Rattle.yaml_subset.specs.Plain.{before_white, trimmed, comment_found, comment_place, ends_name, colon_found, colon_place}
+use Rattle.yaml_subset.specs.Quoted.{quote_found, paired_after, len_at_end, quoted_len}
 
 pub drop_next : (n : ℕ) (xs : List ℕ) (y : ℕ) (ys : List ℕ) → drop n xs ≡ y ∷ ys → drop (suc n) xs ≡ ys
 drop_next zero [] y ys e = cc

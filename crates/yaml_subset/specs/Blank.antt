@@ -1,5 +1,5 @@
 -- White space, comments and the marks of documents.
-use Rattle.std.specs.Prelude.{ℕ, ◌-◌, Bool, true, false, ◌&&◌, ◌||◌, ◌==◌, nat_lt, if◌then◌else◌, List, [], ◌∷◌, length, drop, take, bytes_eq, slice_index}
+use Rattle.std.specs.Prelude.{ℕ, ◌-◌, Bool, true, false, ◌&&◌, ◌||◌, ◌==◌, nat_lt, List, [], ◌∷◌, length, drop, take, bytes_eq, slice_index}
 use Rattle.std.specs.List.{take_while}
 
 -- a space or a tab

@@ -1,5 +1,5 @@
 -- Literal blocks (YAML 1.2, section 8.1.2): raw lines below the line that has `|`.
-use Rattle.std.specs.Prelude.{ℕ, suc, ◌+◌, ◌-◌, Bool, true, false, ◌&&◌, ◌||◌, not, ◌==◌, nat_le, nat_lt, if◌then◌else◌, List, [], ◌∷◌, ◌++◌, length, take, drop, Option, Some, None}
+use Rattle.std.specs.Prelude.{ℕ, ◌+◌, ◌-◌, Bool, ◌&&◌, ◌||◌, not, nat_le, nat_lt, if◌then◌else◌, List, [], ◌∷◌, ◌++◌, length, take, drop, Option, Some, None}
 use Rattle.yaml_subset.specs.declared.shallow.Shallow.{Shallow}
 use Rattle.yaml_subset.specs.Blank.{spaces_of, begins_with, is_mark, is_blank_line}
 

@@ -1,5 +1,5 @@
 -- What a file says.
-use Rattle.std.specs.Prelude.{◌≡◌, ℕ, true, false, if◌then◌else◌, List, [], ◌∷◌, take, drop, bytes_eq, IsUtf8, Result, MatchResult, ◌⊎◌}
+use Rattle.std.specs.Prelude.{◌≡◌, ℕ, true, if◌then◌else◌, List, [], ◌∷◌, take, drop, bytes_eq, IsUtf8, Result, MatchResult, ◌⊎◌}
 use Rattle.std.specs.Str.Lines.{lines}
 use Rattle.side_base.specs.Text.{IsNotUtf8At}
 use Rattle.yaml_subset.specs.declared.error.YamlErr.{YamlErr}

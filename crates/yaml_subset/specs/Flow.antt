@@ -1,5 +1,5 @@
 -- Sequences in brackets on one line (YAML 1.2, section 7.4.1).
-use Rattle.std.specs.Prelude.{ℕ, suc, ◌-◌, Bool, true, false, ◌&&◌, ◌||◌, not, ◌==◌, if◌then◌else◌, List, [], ◌∷◌, ◌++◌, length, drop, take, Option, Some, None}
+use Rattle.std.specs.Prelude.{ℕ, ◌-◌, Bool, true, false, ◌&&◌, ◌||◌, not, ◌==◌, if◌then◌else◌, List, [], ◌∷◌, ◌++◌, drop, take, Option, Some, None}
 use Rattle.std.specs.List.{list_any}
 use Rattle.yaml_subset.specs.declared.kind.PartKind.TheVariants as kinds
 use Rattle.yaml_subset.specs.declared.found.Found.{Found}

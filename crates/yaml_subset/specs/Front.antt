@@ -1,8 +1,8 @@
 -- The front of a layout: what is open where it ends.
-use Rattle.std.specs.Prelude.{◌≡◌, ℕ, suc, ◌<◌, Bool, true, List, [], ◌∷◌, ◌++◌, length}
+use Rattle.std.specs.Prelude.{◌≡◌, ℕ, ◌<◌, true, List, [], ◌∷◌, ◌++◌, length}
 use Rattle.yaml_subset.specs.declared.open.Holder.{Holder}
 use Rattle.yaml_subset.specs.declared.open.Holder.TheVariants as holders
-use Rattle.yaml_subset.specs.Tree.{Leaf, What, absent, leaf, rows, Forest, empty, grows, one, append, Entry, entries, row_entries}
+use Rattle.yaml_subset.specs.Tree.{What, absent, leaf, rows, Forest, empty}
 use Rattle.yaml_subset.specs.Layout.{Mark, lead, inside, marks, may_hold, max_levels, Lacks, IsHeld, Fits}
 
 -- rows that are open: the whole rows, and the last one, which may go on

@@ -1,5 +1,5 @@
 -- How a reader's own lists stand to the front of a layout.
-use Rattle.std.specs.Prelude.{◌≡◌, ℕ, suc, ◌&&◌, ◌==◌, bytes_eq, Bool, true, false, List, [], ◌∷◌, ◌++◌, length, map, if◌then◌else◌, Option, Some, None, Result, Ok, Err}
+use Rattle.std.specs.Prelude.{◌≡◌, ℕ, ◌&&◌, ◌==◌, bytes_eq, Bool, List, [], ◌∷◌, ◌++◌, length, map, if◌then◌else◌, Option, Some, Result, Ok, Err}
 use Rattle.yaml_subset.specs.declared.error.YamlErr.{YamlErr}
 use Rattle.yaml_subset.specs.declared.error.YamlErr.TheVariants.{Tab, Indent, LeftOut, Repeated, Scalar, NotUtf8, NoMemory}
 use Rattle.yaml_subset.specs.Refusal.{is_repeated, repeats}
@@ -10,7 +10,7 @@ use Rattle.yaml_subset.specs.declared.open.Open.{Open}
 use Rattle.yaml_subset.specs.declared.open.Tip.{Tip}
 use Rattle.yaml_subset.specs.declared.open.Tip.TheVariants as tips
 use Rattle.yaml_subset.specs.declared.reader.Reader.{Reader}
-use Rattle.yaml_subset.specs.Tree.{Leaf, What, absent, leaf, rows, Forest, empty, Entry, entries, row_entries}
+use Rattle.yaml_subset.specs.Tree.{What, absent, leaf, rows, Entry, entries, row_entries}
 use Rattle.yaml_subset.specs.Front.{Frame, Front}
 
 abbrev pub node_shown : Node → Entry

@@ -23,6 +23,9 @@ pub mod Held
 pub mod Kept
 pub mod Reading
 pub mod Trees
+pub mod TreesCode
 pub mod File
+pub mod Preorder
 pub mod Docs
+pub mod Built
 pub mod ReadLines

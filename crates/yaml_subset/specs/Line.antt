@@ -2,7 +2,7 @@
 use Rattle.std.specs.Prelude.{◌≡◌, ℕ, Bool, true, false, List, [], ◌∷◌, ◌++◌, Option, Some, None}
 use Rattle.yaml_subset.specs.declared.shallow.Shallow.{Shallow}
 use Rattle.yaml_subset.specs.Tree.{Leaf}
-use Rattle.yaml_subset.specs.Layout.{Mark, Says, start, item, named, value, nests}
+use Rattle.yaml_subset.specs.Layout.{Mark, Says, start, item, named, value}
 
 -- what a name or a value spells: something good, what is left out, by its first byte, or nothing; then it may still begin
 -- as a value in brackets or braces does

@@ -1,5 +1,5 @@
 -- A line that has been cut, as contracts see it.
-use Rattle.std.specs.Prelude.{ℕ, List, Option, Some, None, option_map}
+use Rattle.std.specs.Prelude.{option_map}
 use Rattle.yaml_subset.specs.declared.line.Name.{Name as NameHeld}
 use Rattle.yaml_subset.specs.declared.line.Value.{Value as ValueHeld}
 use Rattle.yaml_subset.specs.declared.line.Parts.{Parts as PartsHeld}

@@ -1,5 +1,5 @@
 -- What stands in a line that has content.
-use Rattle.std.specs.Prelude.{ℕ, suc, ◌+◌, ◌-◌, Bool, true, false, ◌&&◌, ◌||◌, not, ◌==◌, if◌then◌else◌, List, [], ◌∷◌, ◌++◌, length, drop, take, Option, Some, None}
+use Rattle.std.specs.Prelude.{ℕ, ◌+◌, ◌-◌, Bool, true, false, ◌&&◌, ◌||◌, not, ◌==◌, if◌then◌else◌, List, [], ◌∷◌, length, drop, take, Option, Some, None}
 use Rattle.yaml_subset.specs.declared.shallow.Shallow.{Shallow}
 use Rattle.yaml_subset.specs.Blank.{spaces_of, whites_of, begins_with, is_tail}
 use Rattle.yaml_subset.specs.Plain.{trimmed, ends_name, colon_place, begins_plain, is_left_out}

@@ -1,7 +1,7 @@
 -- Plain scalars (YAML 1.2, section 7.3.3), and what ends a name.
-use Rattle.std.specs.Prelude.{ℕ, suc, ◌+◌, Bool, true, false, ◌&&◌, ◌||◌, not, ◌==◌, nat_lt, if◌then◌else◌, List, [], ◌∷◌, length, drop, take, bytes_eq, Option, Some, None, option_map}
+use Rattle.std.specs.Prelude.{ℕ, suc, Bool, false, ◌&&◌, ◌||◌, not, ◌==◌, nat_lt, if◌then◌else◌, List, [], ◌∷◌, length, take, bytes_eq, Option, Some, None}
 use Rattle.yaml_subset.specs.declared.found.Found.{Found}
-use Rattle.yaml_subset.specs.declared.found.Found.TheVariants.{Here as here, Past as past, Nowhere as nowhere, Later as later}
+use Rattle.yaml_subset.specs.declared.found.Found.TheVariants.{Here as here, Nowhere as nowhere, Later as later}
 use Rattle.yaml_subset.specs.Found.{place_by}
 use Rattle.yaml_subset.specs.Blank.{is_white, begins_with, is_end}
 

@@ -1,7 +1,7 @@
 -- Scalars in quotes (YAML 1.2, sections 7.3.1 and 7.3.2).
-use Rattle.std.specs.Prelude.{ℕ, zero, suc, ◌+◌, ◌-◌, ◌*◌, ◌<◌, Bool, true, false, ◌&&◌, ◌||◌, not, ◌==◌, nat_lt, nat_le, if◌then◌else◌, List, [], ◌∷◌, ◌++◌, length, drop, take, encode_utf8, Option, Some, None, option_map}
+use Rattle.std.specs.Prelude.{ℕ, zero, suc, ◌+◌, ◌-◌, ◌*◌, ◌<◌, Bool, false, ◌&&◌, ◌||◌, not, ◌==◌, nat_le, if◌then◌else◌, List, [], ◌∷◌, ◌++◌, encode_utf8, Option, Some, None, option_map}
 use Rattle.yaml_subset.specs.declared.found.Found.{Found}
-use Rattle.yaml_subset.specs.declared.found.Found.TheVariants.{Here as here, Past as past, Nowhere as nowhere, Later as later}
+use Rattle.yaml_subset.specs.declared.found.Found.TheVariants.{Here as here, Past as past, Later as later}
 use Rattle.yaml_subset.specs.Found.{place_by}
 use Rattle.yaml_subset.specs.declared.quoted.Escape.{Escape}
 use Rattle.yaml_subset.specs.declared.quoted.Escape.TheVariants.{Between as between, Backslash as backslash, Digits as digits}

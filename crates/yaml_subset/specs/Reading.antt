@@ -1,5 +1,5 @@
 -- What a list of lines says, and where it is refused.
-use Rattle.std.specs.Prelude.{◌≡◌, ℕ, List, [], ◌∷◌, ◌++◌, Result, Ok, Err}
+use Rattle.std.specs.Prelude.{◌≡◌, List, ◌∷◌, ◌++◌, Err}
 use Rattle.yaml_subset.specs.declared.error.YamlErr.{YamlErr}
 use Rattle.yaml_subset.specs.declared.open.Holder.TheVariants as holders
 use Rattle.yaml_subset.specs.Tree.{Forest}

@@ -1,5 +1,5 @@
 -- What a reader holds, as contracts see it.
-use Rattle.std.specs.Prelude.{ℕ, List, [], ◌∷◌, map, Option, Some, None, option_map}
+use Rattle.std.specs.Prelude.{map}
 use Rattle.yaml_subset.specs.declared.value.Item.{Item}
 use Rattle.yaml_subset.specs.declared.value.Leaf.{Leaf as LeafHeld}
 use Rattle.yaml_subset.specs.declared.value.Spelled.{Spelled as SpelledHeld}

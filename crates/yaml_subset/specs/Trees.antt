@@ -1,5 +1,5 @@
 -- The parts of a file as trees, without the places where they were written.
-use Rattle.std.specs.Prelude.{◌≡◌, ◌≢◌, ℕ, suc, ◌+◌, List, [], ◌∷◌, ◌++◌}
+use Rattle.std.specs.Prelude.{ℕ, suc, List, [], ◌∷◌, ◌++◌}
 use Rattle.yaml_subset.specs.declared.kind.PartKind.{PartKind}
 use Rattle.yaml_subset.specs.Tree.{Scalar, What, absent, leaf, rows, Forest, empty, grows, Entry, kind_of, text_of}
 

@@ -1,5 +1,5 @@
 -- What a value spells: the bytes from its first one to the end of its line, and the lines below it.
-use Rattle.std.specs.Prelude.{ℕ, suc, ◌-◌, Bool, true, false, ◌&&◌, ◌||◌, not, ◌==◌, if◌then◌else◌, List, [], ◌∷◌, ◌++◌, length, drop, take, Option, Some, None}
+use Rattle.std.specs.Prelude.{ℕ, ◌-◌, Bool, true, false, ◌&&◌, not, ◌==◌, if◌then◌else◌, List, [], ◌∷◌, drop, take, Option, Some, None}
 use Rattle.yaml_subset.specs.declared.kind.PartKind.{PartKind}
 use Rattle.yaml_subset.specs.declared.kind.PartKind.TheVariants as kinds
 use Rattle.yaml_subset.specs.Blank.{begins_with, is_tail}

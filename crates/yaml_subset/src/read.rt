@@ -3,7 +3,7 @@ ghost use Rattle.yaml_subset.specs.Docs.{Shows};
 ghost use Rattle.yaml_subset.specs.File.{IsFile, IsRefusal, IsRefusalOrMemory, IsErrUnlessNoMemory, IsOkUnlessNoMemory, without_order_mark};
 ghost use Rattle.yaml_subset.specs.Trees.{Trees};
 
-use crate::docs::Docs;
+use crate::docs::{Docs, docs_of};
 use crate::error::YamlErr;
 use crate::nodes::nodes_of;
 use crate::source::{lines_in, source_of};
@@ -46,7 +46,7 @@ pub fn read_docs(alloc: Global, bytes: &[u8]) -> Result<Docs, YamlErr>
         Err(_) => return Err(YamlErr::NoMemory),
     };
     match nodes_of(alloc, source_of(&lines)) {
-        Ok(nodes) => Ok(Docs { nodes }),
+        Ok(nodes) => Ok(docs_of(nodes)),
         Err(error) => Err(error),
     }
 }

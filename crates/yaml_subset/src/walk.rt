@@ -1,12 +1,13 @@
-// From a part to the parts in it, and to the next one.
+// From a part that is kept to the parts in it, and to the next one.
 ghost use Rattle.std.specs.Prelude.{◌≡◌, ◌≢◌, ◌+◌, ◌<◌, ◌≤◌, ◌==◌, nat_lt, ℕ, length, drop, count_by, slice_index_or, IfSome, IfNone, IsTrue, ◌↔◌};
 ghost use Rattle.std.specs.List.{take_while};
-ghost use Rattle.yaml_subset.specs.Docs.{parts_kept, IsPart, IsAfter, IsDepthAt, AreDocuments, FirstOf, OfPart, IsNamed, count_of, rows_from};
+ghost use Rattle.yaml_subset.specs.Docs.{IsAfter, count_of, rows_from};
+ghost use Rattle.yaml_subset.specs.Preorder.{IsPart, IsDepthAt, AreDocuments, FirstOf, OfPart};
 ghost use Rattle.yaml_subset.specs.Trees.{Trees};
 
-use crate::docs::{Docs, Part};
 use crate::kind::PartKind;
 use crate::node::Node;
+use crate::preorder::{Part, Preorder};
 
 fn is_deeper(node: &Node, depth: usize) -> bool
     ensures { result ≡ nat_lt depth node.now.depth }
@@ -32,16 +33,7 @@ fn count_documents(nodes: &[Node]) -> usize
     nodes.iter().filter(|node| node.depth == 0).count()
 }
 
-impl Part {
-    fn is_named(self, docs: &Docs, name: &[u8]) -> bool
-        requires { IsPart docs.now self }
-        ensures { OfPart docs.now self (λ told inner later. IsTrue result ↔ (told.name ≡ name.now)) }
-    {
-        docs.name(self) == name
-    }
-}
-
-impl Docs {
+impl Preorder {
     // The part's node.
     fn node(&self, p: Part) -> &Node
         requires { IsPart self.now p }
@@ -73,14 +65,14 @@ impl Docs {
     }
 
     /// How many documents there are; those of comments and blank lines don't count.
-    pub fn count(&self) -> usize
+    pub(crate) fn count(&self) -> usize
         ensures { (documents : Trees) → AreDocuments self.now documents → result ≡ count_of documents }
     {
         count_documents(&self.nodes)
     }
 
     /// The document of number `doc`, from 0; `None` exactly where there is none.
-    pub fn root(&self, doc: usize) -> Option<Part>
+    pub(crate) fn root(&self, doc: usize) -> Option<Part>
         ensures part { IfSome result (IsPart self.now) }
         ensures root { (documents : Trees) → AreDocuments self.now documents → FirstOf self.now (rows_from doc documents) result }
     {
@@ -107,7 +99,7 @@ impl Docs {
     }
 
     /// What the part is.
-    pub fn kind(&self, p: Part) -> PartKind
+    pub(crate) fn kind(&self, p: Part) -> PartKind
         requires { IsPart self.now p }
         ensures { OfPart self.now p (λ told inner later. result ≡ told.kind) }
     {
@@ -115,7 +107,7 @@ impl Docs {
     }
 
     /// The name of a member; empty for another part.
-    pub fn name(&self, p: Part) -> &[u8]
+    pub(crate) fn name(&self, p: Part) -> &[u8]
         requires { IsPart self.now p }
         ensures { OfPart self.now p (λ told inner later. result.now ≡ told.name) }
     {
@@ -123,7 +115,7 @@ impl Docs {
     }
 
     /// The text of a scalar; empty for another part.
-    pub fn text(&self, p: Part) -> &[u8]
+    pub(crate) fn text(&self, p: Part) -> &[u8]
         requires { IsPart self.now p }
         ensures { OfPart self.now p (λ told inner later. result.now ≡ told.text) }
     {
@@ -131,7 +123,7 @@ impl Docs {
     }
 
     /// The line on which the part begins, counted from 1: that of its name or its dash, if it has one.
-    pub fn line(&self, p: Part) -> usize
+    pub(crate) fn line(&self, p: Part) -> usize
         requires { IsPart self.now p }
         ensures { OfPart self.now p (λ told inner later. result ≡ told.line) }
     {
@@ -139,9 +131,10 @@ impl Docs {
     }
 
     /// The first member of a mapping, or the first item of a sequence; `None` exactly where there is none.
-    pub fn first(&self, p: Part) -> Option<Part>
+    pub(crate) fn first(&self, p: Part) -> Option<Part>
         requires { IsPart self.now p }
         ensures part { IfSome result (IsPart self.now) }
+        ensures after { IfSome result (IsAfter p) }
         ensures first { OfPart self.now p (λ told inner later. FirstOf self.now inner result) }
     {
         let own = self.node(p).depth;
@@ -159,7 +152,7 @@ impl Docs {
     }
 
     /// The member, the item or the document that follows; `None` exactly where there is none.
-    pub fn next(&self, p: Part) -> Option<Part>
+    pub(crate) fn next(&self, p: Part) -> Option<Part>
         requires { IsPart self.now p }
         ensures part { IfSome result (IsPart self.now) }
         ensures after { IfSome result (IsAfter p) }
@@ -176,40 +169,6 @@ impl Docs {
                 }
             }
             None => None,
-        }
-    }
-
-    /// The member of this name; `None` exactly where the part is no mapping with such a member.
-    pub fn get(&self, p: Part, name: &[u8]) -> Option<Part>
-        requires { IsPart self.now p }
-        ensures part { IfSome result (IsPart self.now) }
-        ensures named { OfPart self.now p (λ told inner later. IsNamed self.now name.now told.kind inner result) }
-    {
-        match self.kind(p) {
-            PartKind::Mapping => self.member_from(self.first(p), name),
-            PartKind::Scalar => None,
-            PartKind::Sequence => None,
-            PartKind::Empty => None,
-        }
-    }
-
-    // The first part of this name, from one on.
-    fn member_from(&self, from: Option<Part>, name: &[u8]) -> Option<Part>
-        requires { IfSome from (IsPart self.now) }
-        ensures part { IfSome result (IsPart self.now) }
-        ensures named { (row : Trees) → FirstOf self.now row from → IsNamed self.now name.now PartKind.Mapping row result }
-    {
-        let mut here = from;
-        loop {
-            match here {
-                Some(p) => {
-                    if p.is_named(self, name) {
-                        return Some(p);
-                    }
-                    here = self.next(p);
-                }
-                None => return None,
-            }
         }
     }
 }

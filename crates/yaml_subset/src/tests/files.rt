@@ -15,7 +15,7 @@ fn letter(kind: PartKind) -> u8 {
 // A line for each part: a dot for each part that it stands in, a letter for its kind, its line, its name and its text.
 fn outline(alloc: Global, docs: &Docs) -> Result<Vec<u8>, AllocError> {
     let mut text = Vec::new(alloc);
-    for node in &docs.nodes {
+    for node in &docs.kept.nodes {
         for _ in 0..node.depth {
             text.push(b'.')?;
         }

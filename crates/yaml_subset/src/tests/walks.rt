@@ -1,4 +1,4 @@
-use crate::{PartKind, read_docs};
+use crate::{At, PartKind, read_docs};
 use std::test::Fail;
 
 #[test]
@@ -26,5 +26,18 @@ fn members_and_items(rt: HostRuntime) -> Result<(), Fail> {
     let last = docs.root(1).ok_or("no second document")?;
     assert_eq!(rt; docs.text(last), b"last".as_slice());
     assert_eq!(rt; docs.line(last), 6);
+    Ok(())
+}
+
+#[test]
+fn ends_of_paths(rt: HostRuntime) -> Result<(), Fail> {
+    let docs = read_docs(rt.alloc(), b"a:\n  b: 1\n  c:\n")?;
+    let root = docs.root(0).ok_or("no document")?;
+    let a = docs.get(root, b"a").ok_or("no member")?;
+    let b = docs.get(a, b"b").ok_or("no inner member")?;
+    assert_eq!(rt; docs.at(root, &["a", "b"]), At::Here(b));
+    assert_eq!(rt; docs.at(root, &["a", "c"]), At::Absent);
+    assert_eq!(rt; docs.at(root, &["x", "c"]), At::Absent);
+    assert_eq!(rt; docs.at(root, &["a", "b", "c"]), At::Wrong(2));
     Ok(())
 }

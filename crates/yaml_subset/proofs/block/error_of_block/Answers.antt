@@ -1,5 +1,4 @@
-use Rattle.std.proofs.Common.{◌≡◌, ◌+◌, ◌++◌, ◌∷◌, ◌<◌, [], ℕ, List, drop, length, sym, ap, subst, ◌∙◌, arith}
-use Rattle.std.specs.Borrow.{Bor}
+use Rattle.std.proofs.Common.{length, ap, arith}
 use Rattle.yaml_subset.specs.Texts.{texts}
 use Rattle.yaml_subset.proofs.Blocks.{block_le, texts_length}
 use Rattle.yaml_subset.proofs.block.error_of_block.Goals as goal

@@ -1,6 +1,5 @@
-use Rattle.std.proofs.Common.{◌≡◌, ◌+◌, ◌++◌, ◌∷◌, ◌<◌, [], ℕ, List, drop, length, sym, ap, subst, ◌∙◌, arith}
+use Rattle.std.proofs.Common.{[], ℕ, List, sym, ap, ◌∙◌}
 use Rattle.std.specs.Borrow.{Bor}
-use Rattle.yaml_subset.specs.Texts.{texts}
 use Rattle.std.proofs.Common.{Some}
 use Rattle.yaml_subset.proofs.Blocks.{shallow_on, shallow_here, shallow_end}
 use Rattle.yaml_subset.proofs.block.first_error.Goals as goal

@@ -1,6 +1,5 @@
-use Rattle.std.proofs.Common.{◌≡◌, ◌+◌, ◌++◌, ◌∷◌, ◌<◌, [], ℕ, List, drop, length, sym, ap, subst, ◌∙◌, arith}
+use Rattle.std.proofs.Common.{[], ℕ, List, sym, ◌∙◌}
 use Rattle.std.specs.Borrow.{Bor}
-use Rattle.yaml_subset.specs.Texts.{texts}
 use Rattle.yaml_subset.proofs.Blocks.{own_on, own_here, own_end}
 use Rattle.yaml_subset.proofs.block.indent_of_block.Goals as goal
 

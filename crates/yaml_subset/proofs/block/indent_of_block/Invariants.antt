@@ -1,4 +1,4 @@
-use Rattle.std.proofs.Common.{◌≡◌, length, drop}
+use Rattle.std.proofs.Common.{◌≡◌, drop}
 use Rattle.yaml_subset.specs.Block.{own_indent}
 use Rattle.yaml_subset.specs.Texts.{texts}
 use Rattle.yaml_subset.proofs.block.indent_of_block.Given as goal

@@ -1,6 +1,5 @@
-use Rattle.std.proofs.Common.{◌≡◌, ◌+◌, ◌++◌, ◌∷◌, ◌<◌, [], ℕ, List, drop, length, sym, ap, subst, ◌∙◌, arith}
+use Rattle.std.proofs.Common.{[], ℕ, List, sym, ◌∙◌}
 use Rattle.std.specs.Borrow.{Bor}
-use Rattle.yaml_subset.specs.Texts.{texts}
 use Rattle.yaml_subset.proofs.Blocks.{block_on, block_stop, block_end, block_taken, block_whole}
 use Rattle.yaml_subset.proofs.block.lines_of_block.Goals as goal
 

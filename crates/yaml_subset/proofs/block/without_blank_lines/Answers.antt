@@ -1,6 +1,5 @@
-use Rattle.std.proofs.Common.{◌≡◌, ◌+◌, ◌++◌, ◌∷◌, ◌<◌, [], ℕ, List, drop, length, sym, ap, subst, ◌∙◌, arith}
+use Rattle.std.proofs.Common.{[], ℕ, List, sym, ◌∙◌, arith}
 use Rattle.std.specs.Borrow.{Bor}
-use Rattle.yaml_subset.specs.Texts.{texts}
 use Rattle.yaml_subset.proofs.Blocks.{last_blank, last_other, none_left}
 use Rattle.yaml_subset.proofs.block.without_blank_lines.Goals as goal
 

@@ -1,6 +1,6 @@
-use Rattle.std.proofs.Common.{◌≡◌, ◌∷◌, [], sym, ap, subst, ◌∙◌, false, refl}
+use Rattle.std.proofs.Common.{◌∷◌, sym, ap, ◌∙◌, false}
 use Rattle.yaml_subset.specs.declared.flow.Within.TheVariants.{Before as before}
-use Rattle.yaml_subset.specs.Flow.{pieces, gather, gathered, gathered_none}
+use Rattle.yaml_subset.specs.Flow.{pieces, gather, gathered}
 use Rattle.yaml_subset.specs.Gathering.{gathering_shown}
 use Rattle.yaml_subset.proofs.Items.{gone_comma, gone_close, gone_other, gone_end, gathered_one}
 use Rattle.yaml_subset.proofs.flow.gather_items.Goals as goal

@@ -1,5 +1,4 @@
-use Rattle.std.proofs.Common.{◌≡◌, ◌+◌, refl, sym, ap, ◌∙◌, arith, length, false}
-use Rattle.yaml_subset.specs.ItemLength.{item_len}
+use Rattle.std.proofs.Common.{sym, ◌∙◌, arith}
 use Rattle.yaml_subset.proofs.Words.{left_on}
 use Rattle.yaml_subset.proofs.Items.{len_on, len_stop, len_end}
 use Rattle.yaml_subset.proofs.flow.item_length.Goals as goal

@@ -1,4 +1,4 @@
-use Rattle.std.proofs.Common.{◌&&◌, ℕ, List, drop, ap, ◌∙◌}
+use Rattle.std.proofs.Common.{◌&&◌, drop, ap, ◌∙◌}
 use Rattle.std.specs.List.{list_any}
 use Rattle.yaml_subset.specs.declared.open.Holder.TheVariants as holders
 use Rattle.yaml_subset.specs.Refusal.{is_holder}

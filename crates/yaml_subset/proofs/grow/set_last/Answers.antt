@@ -1,4 +1,4 @@
-use Rattle.std.proofs.Common.{◌≡◌, ◌∷◌, [], ℕ, List, length, sym, ap, ◌∙◌, arith}
+use Rattle.std.proofs.Common.{◌≡◌, ◌∷◌, [], sym, ap, ◌∙◌, arith}
 use Rattle.std.specs.Prelude.{map}
 use Rattle.yaml_subset.specs.Held.{node_shown, last_with}
 use Rattle.yaml_subset.proofs.Growth.{last_snoc, last_none, shown_append, no_nodes}

@@ -1,4 +1,4 @@
-use Rattle.std.proofs.Common.{sym, ap, ◌∙◌, []}
+use Rattle.std.proofs.Common.{sym, ap, ◌∙◌}
 use Rattle.yaml_subset.specs.Layout.{may_hold}
 use Rattle.yaml_subset.specs.Refusal.{may_begin}
 use Rattle.yaml_subset.proofs.Opens.{innermost, no_frames, file_begins}

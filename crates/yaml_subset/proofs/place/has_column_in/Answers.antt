@@ -1,4 +1,4 @@
-use Rattle.std.proofs.Common.{sym, ap, ◌∙◌, ◌==◌}
+use Rattle.std.proofs.Common.{ap, ◌∙◌, ◌==◌}
 use Rattle.std.specs.List.{list_any}
 use Rattle.yaml_subset.specs.declared.open.Open.{Open}
 use Rattle.yaml_subset.proofs.Opens.{any_opening}

@@ -1,4 +1,4 @@
-use Rattle.std.proofs.Common.{sym, ap, ◌∙◌, length}
+use Rattle.std.proofs.Common.{ap, ◌∙◌, length}
 use Rattle.std.specs.Prelude.{nat_lt}
 use Rattle.yaml_subset.proofs.Opens.{openings_length}
 use Rattle.yaml_subset.proofs.place.is_full_with.Goals as goal

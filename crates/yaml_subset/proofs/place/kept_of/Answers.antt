@@ -1,4 +1,4 @@
-use Rattle.std.proofs.Common.{sym, ap, ◌∙◌}
+use Rattle.std.proofs.Common.{sym, ◌∙◌}
 use Rattle.yaml_subset.proofs.Opens.{kept_all, kept_on, kept_here, kept_none, kept_end, below_is, not_below}
 use Rattle.yaml_subset.proofs.place.kept_of.Goals as goal
 

@@ -1,4 +1,4 @@
-use Rattle.std.proofs.Common.{refl, sym, ap, ◌∙◌, arith, false, ◌==◌}
+use Rattle.std.proofs.Common.{sym, ap, ◌∙◌}
 use Rattle.yaml_subset.specs.Plain.{trimmed}
 use Rattle.yaml_subset.proofs.Words.{no_bytes, trimmed_white, trimmed_other, trimmed_none}
 use Rattle.yaml_subset.proofs.plain.trim.Goals as goal

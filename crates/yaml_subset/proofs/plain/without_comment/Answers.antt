@@ -1,7 +1,7 @@
-use Rattle.std.proofs.Common.{refl, sym, ap, ◌∙◌, arith, false, ◌==◌}
+use Rattle.std.proofs.Common.{sym, ap, ◌∙◌, false, ◌==◌}
 use Rattle.yaml_subset.specs.Plain.{comment_place, up_to}
 use Rattle.yaml_subset.specs.Found.{found_at}
-use Rattle.yaml_subset.proofs.Words.{left_all, left_on, shifted_zero, comment_step, comment_end, comment_here, told}
+use Rattle.yaml_subset.proofs.Words.{left_all, left_on, shifted_zero, comment_step, comment_end, comment_here}
 use Rattle.yaml_subset.proofs.plain.without_comment.Goals as goal
 
 pub loop-byte-init : goal.loop-byte-init

@@ -1,4 +1,4 @@
-use Rattle.std.proofs.Common.{get_or, length, sym, ap, subst, ◌∙◌, ◌++◌, ◌+◌, ◌<◌, arith, drop}
+use Rattle.std.proofs.Common.{sym, ap, ◌∙◌, ◌+◌, drop}
 use Rattle.yaml_subset.specs.Quoted.{double_text, prefixed}
 use Rattle.yaml_subset.specs.Piece.{step_shown}
 use Rattle.yaml_subset.proofs.Escapes.{double_none, double_some, double_end, between_end, not_between}

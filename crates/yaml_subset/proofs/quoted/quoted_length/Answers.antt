@@ -1,4 +1,4 @@
-use Rattle.std.proofs.Common.{refl, sym, ap, subst, ◌∙◌, ◌≤◌, ℕ, arith, false, ◌==◌, length, Option, None}
+use Rattle.std.proofs.Common.{refl, sym, ap, subst, ◌∙◌, ◌≤◌, ℕ, false, length, Option}
 use Rattle.std.specs.Prelude.{IfSome}
 use Rattle.yaml_subset.specs.Quoted.{quoted_len, paired_after}
 use Rattle.yaml_subset.specs.Found.{found_at}

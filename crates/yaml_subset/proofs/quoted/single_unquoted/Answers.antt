@@ -1,4 +1,4 @@
-use Rattle.std.proofs.Common.{get_or, length, sym, ap, subst, ◌∙◌, ◌++◌, ◌+◌, ◌<◌, arith, drop}
+use Rattle.std.proofs.Common.{sym, ap, ◌∙◌, ◌++◌, ◌+◌, drop}
 use Rattle.yaml_subset.specs.Quoted.{single_text}
 use Rattle.yaml_subset.proofs.Escapes.{single_on, single_end}
 use Rattle.yaml_subset.proofs.quoted.single_unquoted.Goals as goal

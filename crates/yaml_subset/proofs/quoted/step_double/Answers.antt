@@ -1,5 +1,4 @@
-use Rattle.std.proofs.Common.{sym, subst, arith, ◌<◌}
-use Rattle.yaml_subset.specs.declared.quoted.Escape.TheVariants.{Digits as digits}
+use Rattle.std.proofs.Common.{subst, arith}
 use Rattle.yaml_subset.specs.Quoted.{FitsEscape}
 use Rattle.yaml_subset.proofs.Escapes.{fits_bound, fits_less, fits_stepped}
 use Rattle.yaml_subset.proofs.quoted.step_double.Goals as goal

@@ -1,4 +1,4 @@
-use Rattle.std.proofs.Common.{sym, ◌∙◌, refl}
+use Rattle.std.proofs.Common.{◌∙◌}
 use Rattle.std.proofs.lemmas.Iterator.Consumers.{YieldsList-at, YieldsList-end}
 use Rattle.std.proofs.lemmas.Iterator.Splits.{YieldsList-from_lines}
 use Rattle.yaml_subset.proofs.source.lines_in.Goals as goal

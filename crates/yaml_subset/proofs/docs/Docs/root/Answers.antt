@@ -1,22 +1,10 @@
-use Rattle.std.proofs.Common.{◌≡◌, ◌+◌, ℕ, suc, sym, ap, subst, ◌∙◌, arith, Option}
-use Rattle.yaml_subset.specs.declared.docs.Part.{Part}
-use Rattle.yaml_subset.specs.Docs.{FirstOf, rows_from}
-use Rattle.yaml_subset.proofs.Walks.{rows_next, rows_past}
+use Rattle.std.proofs.Common.{ap, ◌∙◌}
+use Rattle.yaml_subset.specs.Docs.{rows_from}
+use Rattle.yaml_subset.specs.Trees.{tree_entries}
+use Rattle.yaml_subset.proofs.Numbers.{first_here}
 use Rattle.yaml_subset.proofs.docs.Docs.root.Goals as goal
 
-pub returns-in-None-clause-root : goal.returns-in-None-clause-root
-returns-in-None-clause-root c documents are =
-    rows_past c.loop-passed.passed c.args.doc documents (omega (arith, c.loop-passed.invariant.low))
-    (subst (λ (o : Option Part). FirstOf c.args.self.now (rows_from c.loop-passed.passed documents) o) c.in-None.is (c.loop-passed.invariant.going documents are))
-
-pub loop-passed-preserved : goal.loop-passed-preserved
-loop-passed-preserved c = record {
-  low = omega arith;
-  part = c.next-here.ensures.part;
-  going = λ documents are.
-      let next : suc c.loop-passed.passed ≡ c.loop-passed.passed + 1 = omega arith in
-      subst (λ (n : ℕ). FirstOf c.args.self.now (rows_from n documents) c.next-here.result) next
-      (rows_next c.args.self.now c.loop-passed.passed documents c.in-Some.p c.next-here.result
-      (subst (λ (o : Option Part). FirstOf c.args.self.now (rows_from c.loop-passed.passed documents) o) c.in-Some.is (c.loop-passed.invariant.going documents are))
-      c.next-here.ensures.next);
-}
+pub returns : goal.returns
+returns c =
+    first_here c.self.inside.kept c.args.self.now c.self.view_is c.self.invariant (rows_from c.args.doc c.args.self.now) c.root.result c.root.ensures.part
+    (c.root.ensures.root c.args.self.now (c.self.invariant.are ∙ ap (tree_entries 0) c.self.view_is))

@@ -1,6 +1,8 @@
-use Rattle.std.proofs.Common.{◌∙◌}
-use Rattle.yaml_subset.proofs.Walks.{own_told, for_first}
+use Rattle.yaml_subset.proofs.Numbers.{inside_kept, told_here}
 use Rattle.yaml_subset.proofs.docs.Docs.text.Goals as goal
 
+pub text-requires : goal.text-requires
+text-requires c = inside_kept c.self.inside.kept c.args.self.now c.self.view_is c.self.invariant c.args.p c.requires
+
 pub returns : goal.returns
-returns c row h = for_first row _ _ (own_told c.args.self.now c.args.p.number c.node.result.now row c.node.ensures h) (λ t inner later e. c.as_slice.ensures.value ∙ e.text)
+returns c = told_here c.self.inside.kept c.args.self.now c.self.view_is c.self.invariant c.args.p _ c.requires c.text.ensures

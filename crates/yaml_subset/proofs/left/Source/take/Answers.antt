@@ -1,4 +1,4 @@
-use Rattle.std.proofs.Common.{refl, ◌∙◌, ◌+◌, ◌-◌, length, take, drop}
+use Rattle.std.proofs.Common.{◌+◌, ◌-◌, length, take, drop}
 use Rattle.yaml_subset.specs.Left.{no_line}
 use Rattle.yaml_subset.specs.LineShown.{cut_shown, line_shown}
 use Rattle.yaml_subset.proofs.Sources.{contents_take, rest_is_drop}

@@ -1,4 +1,4 @@
-use Rattle.std.proofs.Common.{◌≡◌, refl, sym, ap, ◌∙◌}
+use Rattle.std.proofs.Common.{sym, ◌∙◌}
 use Rattle.yaml_subset.proofs.Causes.{lead_full}
 use Rattle.yaml_subset.proofs.reader.Reader.lead.Goals as goal
 

@@ -1,4 +1,4 @@
-use Rattle.std.proofs.Common.{◌≡◌, ◌∷◌, [], refl, sym, ap, ◌∙◌}
+use Rattle.std.proofs.Common.{ap}
 use Rattle.yaml_subset.specs.Refusal.{may_begin, is_absent, at_line}
 use Rattle.yaml_subset.proofs.Machine.{lead_begins}
 use Rattle.yaml_subset.proofs.Causes.{both_true, absent_is, new_not_repeated}

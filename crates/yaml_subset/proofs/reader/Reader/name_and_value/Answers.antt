@@ -1,4 +1,4 @@
-use Rattle.std.proofs.Common.{refl, sym, ap, ◌∙◌}
+use Rattle.std.proofs.Common.{sym, ap, ◌∙◌}
 use Rattle.std.specs.Prelude.{option_map}
 use Rattle.yaml_subset.specs.LineShown.{name_shown, value_shown}
 use Rattle.yaml_subset.specs.Refusal.{with_leaf, repeats, ◌>>=◌}

@@ -1,14 +1,13 @@
-use Rattle.std.proofs.Common.{◌≡◌, ◌∷◌, ◌++◌, ◌-◌, ◌&&◌, [], ℕ, List, suc, length, take, drop, refl, sym, ap, subst, ◌∙◌, arith, Some}
+use Rattle.std.proofs.Common.{◌≡◌, ◌∷◌, ◌++◌, ◌&&◌, [], length, take, drop, refl, sym, ap, ◌∙◌, arith}
 use Rattle.std.specs.Prelude.{map}
 use Rattle.std.specs.List.{list_any}
-use Rattle.yaml_subset.specs.declared.open.Open.{Open}
 use Rattle.yaml_subset.specs.declared.open.Holder.TheVariants as holders
 use Rattle.yaml_subset.specs.declared.kind.PartKind.TheVariants as kinds
-use Rattle.yaml_subset.specs.Tree.{Entry, rows, absent, empty, entries}
+use Rattle.yaml_subset.specs.Tree.{Entry, rows, empty, entries}
 use Rattle.yaml_subset.specs.Front.{Frame}
 use Rattle.yaml_subset.specs.Refusal.{is_holder}
 use Rattle.yaml_subset.specs.Held.{node_shown, is_row_named, entries_open, openings, opened}
-use Rattle.yaml_subset.proofs.Growth.{TurnedTo, turned_to, with_none, entries_with, shown_append, any_shown, drop_shown, drop_front, named_rows, turned_added, opened_row}
+use Rattle.yaml_subset.proofs.Growth.{turned_to, with_none, shown_append, any_shown, drop_shown, drop_front, named_rows, turned_added, opened_row}
 use Rattle.yaml_subset.proofs.reader.Reader.turn.Goals as goal
 
 pub returns : goal.returns

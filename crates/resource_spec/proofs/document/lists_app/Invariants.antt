@@ -1,0 +1,16 @@
+use Rattle.std.proofs.Common.{◌≡◌}
+use Rattle.std.specs.Prelude.{IfSome, length}
+use Rattle.yaml_subset.specs.Trees.{Trees}
+use Rattle.yaml_subset.specs.Docs.{IsPart, IsFirst, parts_left}
+use Rattle.resource_spec.specs.Document.{names_app}
+use Rattle.resource_spec.proofs.Scopes.{names_with}
+use Rattle.resource_spec.proofs.document.lists_app.Given as goal
+
+abbrev pub invariant-loop-here : goal.invariant-loop-here
+invariant-loop-here l = record {
+  part : IfSome l.here (IsPart l.docs);
+  going : (row : Trees) → IsFirst l.docs row l.fn.items → (rest : Trees) × (IsFirst l.docs rest l.here × (names_app l.app row ≡ names_with l.found l.app rest));
+}
+
+abbrev pub decreases-loop-here : goal.decreases-loop-here
+decreases-loop-here l = parts_left l.docs l.here

@@ -1,0 +1,15 @@
+use Rattle.std.proofs.Common.{◌≡◌, []}
+use Rattle.std.specs.Prelude.{IfSome}
+use Rattle.yaml_subset.specs.Trees.{Trees}
+use Rattle.yaml_subset.specs.Docs.{IsPart, IsFirst, parts_left}
+use Rattle.resource_spec.specs.Load.{settings_from}
+use Rattle.resource_spec.proofs.parse.settings_of.Given as goal
+
+abbrev pub invariant-loop-here : goal.invariant-loop-here
+invariant-loop-here l = record {
+  part : IfSome l.here (IsPart l.docs);
+  going : (row : Trees) → IsFirst l.docs row l.fn.items → (rest : Trees) × (IsFirst l.docs rest l.here × (settings_from l.doc l.component [] row ≡ settings_from l.doc l.component l.settings rest));
+}
+
+abbrev pub decreases-loop-here : goal.decreases-loop-here
+decreases-loop-here l = parts_left l.docs l.here

@@ -1,0 +1,25 @@
+//! Components: what the documents of resource files say of stores, brokers and bindings.
+#![tactic(auto)]
+
+mod clash;
+mod component;
+mod component_list;
+mod document;
+mod field;
+mod field_err;
+mod load;
+mod parse;
+mod setting;
+mod spec_err;
+#[cfg(test)]
+mod tests;
+mod url;
+
+pub use component::{Component, ComponentKind};
+pub use component_list::Components;
+pub use document::head;
+pub use field_err::FieldErr;
+pub use load::{components, join};
+pub use setting::{Setting, Settings};
+pub use spec_err::SpecErr;
+pub use url::{Url, url_of};
