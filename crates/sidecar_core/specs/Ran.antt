@@ -1,0 +1,22 @@
+-- A state call over the objects: the events of its attempts, at the places of its store and its breaker.
+use Rattle.std.specs.Prelude.{◌≡◌, ℕ, List, map, Result, unwrap_or}
+use Rattle.turn_cell.specs.declared.error.ApiErr.{ApiErr}
+use Rattle.retry_core.specs.declared.policy.Bound.{Bound}
+use Rattle.state_core.specs.declared.command.Cmd.{Cmd}
+use Rattle.state_core.specs.History.{Step}
+use Rattle.policy_run.specs.Event.{Event}
+use Rattle.policy_run.specs.Attempts.{Attempts}
+use Rattle.policy_run.specs.declared.outcome.Outcome.{Outcome}
+use Rattle.state_api.specs.declared.call.StateAnswer.{StateAnswer}
+use Rattle.state_api.specs.declared.running.Ran.{Ran}
+use Rattle.state_api.specs.Call.{Makes}
+use Rattle.state_api.specs.Ran.{ran_of}
+use Rattle.sidecar_core.specs.Doing.{Doing, placed}
+
+-- the attempts of a command at the store of this place, under what is bound to it
+pub record StoreRan (place : ℕ) (bound : Bound) (cmd : Cmd) (events : List Doing) (result : Result Ran ApiErr) : Type 0 where
+  pub attempts : List (Event Step)
+  pub outcome : Outcome StateAnswer (Unit {0})
+  pub made : Attempts bound (λ limit. Makes cmd) outcome attempts
+  pub ran : result ≡ ran_of outcome
+  pub whole : events ≡ map (placed place (unwrap_or bound.breaker 0)) attempts
