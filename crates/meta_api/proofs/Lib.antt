@@ -1,0 +1,3 @@
+pub mod Joined
+pub mod Noting
+pub mod Placed

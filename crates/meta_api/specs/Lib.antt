@@ -1,0 +1,5 @@
+pub mod Book
+pub mod History
+pub mod Notes
+pub mod Body
+pub mod Laws
