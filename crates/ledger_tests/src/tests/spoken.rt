@@ -15,13 +15,9 @@ use std::process::Abort;
 
 /// A number in decimal digits; 0 where there are none.
 fn number(rt: &impl Abort, digits: &str) -> u64 {
-    match digits.parse() {
-        Ok(number) => number,
-        Err(_) => {
-            assert!(rt; digits.is_empty(), "digits");
-            0
-        }
-    }
+    let number = digits.parse::<u64>();
+    assert!(rt; number.is_ok() || digits.is_empty(), "digits");
+    number.unwrap_or(0)
 }
 
 /// A policy, as `c100x2` for a constant wait of 100 ms and 2 retries, or `e600` for an exponential one of at most 600 ms and no
