@@ -22,6 +22,3 @@ pub use ledger::Ledger;
 pub use plan::{Aim, Aims, Plan, Plans};
 pub use reply::{LedgerReply, Reason};
 pub use size::{MOST_BYTES, MOST_ROWS};
-
-#[cfg(test)]
-mod tests;

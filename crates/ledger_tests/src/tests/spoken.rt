@@ -7,15 +7,17 @@ ghost use Rattle.ledger_core.specs.Plan.{AreWithinLimit};
 ghost use Rattle.ledger_core.specs.Aims.{AreAims, IsGiven};
 ghost use Rattle.ledger_core.specs.declared.plan.Aim.{Aim};
 
-use crate::{Aim, Aims, Finish, LedgerCmd, LedgerReply, Plan, Plans, Reason};
+use ledger_core::{Aim, Aims, Finish, LedgerCmd, LedgerReply, Plan, Plans, Reason};
 use retry_core::{RetryKind, RetryPolicy};
 use side_base::{Blob, Moment, NoMemory, Text};
 use std::alloc::Global;
 use std::process::Abort;
 
-/// A number in decimal digits.
+/// A number in decimal digits; 0 where there are none.
 fn number(rt: &impl Abort, digits: &str) -> u64 {
-    digits.parse().expect(rt, "digits")
+    let number = digits.parse::<u64>();
+    assert!(rt; number.is_ok() || digits.is_empty(), "digits");
+    number.unwrap_or(0)
 }
 
 /// A policy, as `c100x2` for a constant wait of 100 ms and 2 retries, or `e600` for an exponential one of at most 600 ms and no
@@ -95,16 +97,17 @@ fn aims_of(rt: &impl Abort, alloc: Global, words: &str) -> Result<Aims, NoMemory
 
 /// How a delivery ended, and what follows it: the moment of a `later`, or the word of a `retry`.
 fn finish_of(rt: &impl Abort, name: &str, rest: &str) -> (Finish, u64) {
-    let value = if rest.is_empty() { 0 } else { number(rt, rest) };
     if name == "done" {
-        (Finish::Success, 0)
-    } else if name == "drop" {
-        (Finish::Drop, 0)
-    } else if name == "later" {
-        (Finish::Later { at: value }, 0)
-    } else {
-        (Finish::Retry, value)
+        return (Finish::Success, 0);
     }
+    if name == "drop" {
+        return (Finish::Drop, 0);
+    }
+    let value = number(rt, rest);
+    if name == "later" {
+        return (Finish::Later { at: value }, 0);
+    }
+    (Finish::Retry, value)
 }
 
 /// A settling: `done:1.0.1` for message 1, subscription 0 and claim 1, `drop:1.0.1`, `later:1.0.1:500`, or
@@ -211,11 +214,25 @@ fn tell_taken(
     attempt: u64,
 ) -> Result<(), NoMemory> {
     let (no, sub, claim) = row;
-    out.push(format!(in alloc; "taken:{no}.{sub}.{claim}:")?.as_bytes())?;
-    out.push(event.bytes())?;
-    out.push(b":")?;
-    out.push(path.bytes())?;
-    out.push(format!(in alloc; ":{attempt}")?.as_bytes())
+    let head = format!(in alloc; "taken:{no}.{sub}.{claim}:")?;
+    let tail = format!(in alloc; ":{attempt}")?;
+    push_each(
+        out,
+        &[
+            head.as_bytes(),
+            event.bytes(),
+            b":",
+            path.bytes(),
+            tail.as_bytes(),
+        ],
+    )
+}
+
+fn push_each(out: &mut Blob, pieces: &[&[u8]]) -> Result<(), NoMemory> {
+    for piece in pieces {
+        out.push(piece)?;
+    }
+    Ok(())
 }
 
 /// A reply, as `accepted:1`, `idle:500`, `dropped:asked` or `again:500`.

@@ -7,7 +7,7 @@ mod spoken;
 
 use crate::tests::cases::CASES;
 use crate::tests::spoken::{cmd_of, is_given, plans_of, tell};
-use crate::{Aim, Aims, Ledger, LedgerCmd, LedgerReply, Plans};
+use ledger_core::{Aim, Aims, Ledger, LedgerCmd, LedgerReply, Plans};
 use side_base::{Blob, Moment, NoMemory, Text};
 use std::alloc::Global;
 use std::process::Abort;
@@ -110,13 +110,21 @@ fn plays_anew(
     plays(rt, alloc, &mut ledger, len, history, replies)
 }
 
-#[test]
-fn a_ledger_answers_by_its_history(rt: HostRuntime) -> Result<(), Fail> {
-    let alloc = rt.alloc();
-    for (plans, history, replies) in CASES {
-        plays_anew(&rt, alloc, plans, history, replies)?;
+/// The same for each row of a table.
+fn plays_each(
+    rt: &impl Abort,
+    alloc: Global,
+    cases: &[(&str, &str, &str)],
+) -> Result<(), NoMemory> {
+    for (plans, history, replies) in cases {
+        plays_anew(rt, alloc, plans, history, replies)?;
     }
     Ok(())
+}
+
+#[test]
+fn a_ledger_answers_by_its_history(rt: HostRuntime) -> Result<(), Fail> {
+    Ok(plays_each(&rt, rt.alloc(), &CASES)?)
 }
 
 /// A ledger for two subscriptions, the first with a dead-letter topic, with so many rows of no bytes.
@@ -158,16 +166,30 @@ fn a_ledger_has_room_for_65536_rows(rt: HostRuntime) -> Result<(), Fail> {
     Ok(())
 }
 
-/// An event of 4,194,304 bytes for 64 subscriptions, by empty paths but for the last.
-fn large(rt: &impl Abort, alloc: Global, last: &str) -> Result<LedgerCmd, NoMemory> {
+/// The path of a subscription, empty but for the last one of 64.
+fn path_of(sub: u32, last: &str) -> &str {
+    if sub == 63 { last } else { "" }
+}
+
+fn aim_by(alloc: Global, sub: u32, path: &str) -> Result<Aim, NoMemory> {
+    Ok(Aim {
+        sub,
+        path: Some(Text::from_str(alloc, path)?),
+    })
+}
+
+/// Aims at 64 subscriptions, by empty paths but for the last.
+fn aims_by(alloc: Global, last: &str) -> Result<Aims, NoMemory> {
     let mut aims = Aims::new(alloc);
     for sub in 0..64 {
-        let path = if sub == 63 { last } else { "" };
-        aims.push(Aim {
-            sub,
-            path: Some(Text::from_str(alloc, path)?),
-        })?;
+        aims.push(aim_by(alloc, sub, path_of(sub, last))?)?;
     }
+    Ok(aims)
+}
+
+/// An event of 4,194,304 bytes for 64 subscriptions, by empty paths but for the last.
+fn large(rt: &impl Abort, alloc: Global, last: &str) -> Result<LedgerCmd, NoMemory> {
+    let aims = aims_by(alloc, last)?;
     Ok(LedgerCmd::Accept {
         event: Blob::from_vec(vec![in alloc; b'x'; 4_194_304]?),
         aims,

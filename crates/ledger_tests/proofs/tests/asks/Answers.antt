@@ -1,6 +1,6 @@
 use Rattle.std.proofs.Common.{rules, ◌++◌, ◌∷◌, [], subst, sym}
 use Rattle.ledger_core.specs.Aims.{IsGiven}
-use Rattle.ledger_core.proofs.tests.asks.Goals as goal
+use Rattle.ledger_tests.proofs.tests.asks.Goals as goal
 
 pub apply-requires-clause-ready : goal.apply-requires-clause-ready
 apply-requires-clause-ready g c =
