@@ -6,7 +6,7 @@ use Rattle.side_world.specs.Moments.{Between, Rises}
 use Rattle.side_world.specs.Told.{Tells}
 use Rattle.turn_cell.specs.declared.object.Object.{Ghosts}
 use Rattle.turn_cell.specs.Sitting.{Begun, Sitting}
-use Rattle.turn_cell.specs.Growth.{EachGrew}
+use Rattle.turn_cell.specs.Growth.{Grew, EachGrew}
 use Rattle.state_core.specs.declared.command.Cmd.{Cmd}
 use Rattle.state_core.specs.declared.reply.Reply.{Reply}
 use Rattle.ledger_core.specs.declared.ledger.Ledger.{Ledger}
@@ -15,26 +15,32 @@ use Rattle.ledger_core.specs.declared.reply.LedgerReply.{LedgerReply}
 use Rattle.breaker_core.specs.declared.breaker.Breaker.{Breaker}
 use Rattle.breaker_core.specs.declared.command.BreakerCmd.{BreakerCmd}
 use Rattle.breaker_core.specs.declared.command.BreakerReply.{BreakerReply}
+use Rattle.meta_api.specs.declared.notes.Notes.{Notes}
+use Rattle.meta_api.specs.declared.command.NotesCmd.{NotesCmd}
+use Rattle.meta_api.specs.declared.command.NotesReply.{NotesReply}
 use Rattle.policy_run.specs.Effects.{Clocked}
-use Rattle.sidecar_core.specs.Doing.{Doing, stored_at, entered_at, broke_at, asked_in, word_in, moment_in, pause_in, tick_in}
+use Rattle.sidecar_core.specs.Doing.{Doing, stored_at, entered_at, broke_at, noted_in, asked_in, word_in, moment_in, pause_in, tick_in}
 
 -- what the objects of each kind are, by their traits
 pub record Kinds (O : Type 0) : Type 1 where
   pub store : Ghosts O Cmd Reply
   pub ledger : Ghosts Ledger LedgerCmd LedgerReply
   pub breaker : Ghosts Breaker BreakerCmd BreakerReply
+  pub notes : Ghosts Notes NotesCmd NotesReply
 
 -- the cells of all objects
 pub record CellsAt (O : Type 0) : Type 0 where
   pub stores : List (Begun O)
   pub ledgers : List (Begun Ledger)
   pub breakers : List (Begun Breaker)
+  pub notes : Begun Notes
 
 -- the seats of a pass, at the places of their cells
 pub record SeatsAt (O : Type 0) : Type 0 where
   pub stores : List (Sitting O Cmd Reply)
   pub ledgers : List (Sitting Ledger LedgerCmd LedgerReply)
   pub breakers : List (Sitting Breaker BreakerCmd BreakerReply)
+  pub notes : Sitting Notes NotesCmd NotesReply
 
 -- Each kind of event in order is what was done there: at each place the steps of the seat there, the calls of the link, the random words, and what the clock was
 -- asked. Moments don't fall, and lie between what the clock told last before and after
@@ -42,6 +48,7 @@ pub record Did {O : Type 0} (kinds : Kinds O) (cells : CellsAt O) (seats : Seats
   pub stores : EachGrew kinds.store cells.stores seats.stores (λ k. flat_map (stored_at k) events) seats'.stores
   pub ledgers : EachGrew kinds.ledger cells.ledgers seats.ledgers (λ k. flat_map (entered_at k) events) seats'.ledgers
   pub breakers : EachGrew kinds.breaker cells.breakers seats.breakers (λ k. flat_map (broke_at k) events) seats'.breakers
+  pub notes : Grew kinds.notes cells.notes.first seats.notes (flat_map noted_in events) seats'.notes
   pub times : Between clock.last (flat_map moment_in events) clock'.last
   pub pauses : Rises clock.paused (sum_by (λ (ms : ℕ). ms) (flat_map pause_in events)) clock'.paused
   pub ticks : Tells clock.ticks clock'.ticks (flat_map tick_in events)

@@ -1,4 +1,129 @@
-use keeper_core::Keeper;
+ghost use Rattle.std.specs.Prelude.{◌≡◌, ◌<◌, ◌⊎◌, ℕ, List, [], length, Option, Some, None, is_some, Err, IfOk};
+ghost use Rattle.std.specs.Option.{ForSome};
+ghost use Rattle.rand_core.specs.Stream.{next_u64};
+ghost use Rattle.side_world.specs.Moments.{Drawn};
+ghost use Rattle.side_world.specs.declared.link.LinkCall.{LinkCall};
+ghost use Rattle.retry_core.specs.Bound.{IsWithinLimit};
+ghost use Rattle.turn_cell.specs.Sitting.{IsSeatOf};
+ghost use Rattle.turn_cell.specs.Growth.{Grew};
+ghost use Rattle.turn_cell.specs.Passes.{EachSeated};
+ghost use Rattle.state_core.specs.History.{Step};
+ghost use Rattle.state_core.specs.Taken.{IsTaken};
+ghost use Rattle.policy_run.specs.Event.{Event};
+ghost use Rattle.policy_run.specs.Effects.{Effects, clocked};
+ghost use Rattle.policy_run.specs.Attempts.{Attempts};
+ghost use Rattle.policy_run.specs.declared.outcome.Outcome.{Outcome as OutcomeOf};
+ghost use Rattle.state_api.specs.declared.call.StateAnswer.{StateAnswer as AnswerData};
+ghost use Rattle.state_api.specs.Call.{Makes};
+ghost use Rattle.state_api.specs.Ran.{ran_of, IsAnswer};
+ghost use Rattle.sidecar_core.specs.Doing.{Doing};
+ghost use Rattle.sidecar_core.specs.Did.{Did};
+ghost use Rattle.sidecar_core.specs.Ran.{StoreRan};
 
-/// Placeholder.
-pub fn run_store<K: Keeper>(_keeper: &K) {}
+use crate::{Objects, Pass};
+use breaker_core::Breaker;
+use keeper_core::Keeper;
+use ledger_core::Ledger;
+use meta_api::Notes;
+use policy_run::{BreakerAt, NoBreaker};
+use rand_core::Rng;
+use retry_core::Bound;
+use side_world::Clock;
+use state_api::{Ran, run};
+use state_core::{Cmd, Store};
+use std::sync::Wait;
+use turn_cell::{ApiErr, Object, Seat, TurnCell};
+
+/// Makes a state call at the store of this place, under what is bound to it: each attempt is one step of the store, let through by the breaker that is bound, if
+/// one is, and reported to it. The command is left at the moment of the last attempt.
+pub fn run_store<K: Keeper, C: Clock, R: Rng, W: Wait>(
+    rt: &W,
+    objects: &Objects<K>,
+    pass: &mut Pass<K>,
+    place: usize,
+    bound: &Bound,
+    cmd: &mut Cmd,
+    clock: &mut C,
+    rng: &mut R,
+) -> Result<Ran, ApiErr>
+    requires limits { IsWithinLimit bound.now }
+    requires place { place < length objects.now.stores.items }
+    requires breaker { ForSome bound.now.breaker (λ k. k < length objects.now.breakers.items) }
+    requires stores { EachSeated objects.now.stores.items pass.old.stores.items }
+    requires breakers { EachSeated objects.now.breakers.items pass.old.breakers.items }
+    requires taken { IsTaken cmd.old }
+    ensures ran { (events : List Doing) × StoreRan place bound.now cmd.old events result × ((calls : Option (List LinkCall)) → Did (record { store = ⟦<Store<K> as Object>⟧; ledger = ⟦<Ledger as Object>⟧; breaker = ⟦<Breaker as Object>⟧; notes = ⟦<Notes as Object>⟧ }) (record { stores = objects.now.stores.items; ledgers = objects.now.ledgers.items; breakers = objects.now.breakers.items; notes = objects.now.notes }) (record { stores = pass.old.stores.items; ledgers = pass.old.ledgers.items; breakers = pass.old.breakers.items; notes = pass.old.notes }) events (record { stores = pass.new.stores.items; ledgers = pass.new.ledgers.items; breakers = pass.new.breakers.items; notes = pass.new.notes }) (clocked C.Clock clock.old) (clocked C.Clock clock.new) calls calls (λ ws. Drawn next_u64 (R.stream rng.old) ws (R.stream rng.new))) }
+    ensures answer { IfOk result (IsAnswer cmd.old) }
+{
+    match bound.breaker {
+        None => plain(
+            rt,
+            cmd,
+            &objects.stores[place],
+            &mut pass.stores[place],
+            bound,
+            clock,
+            rng,
+        ),
+        Some(k) => gated(
+            rt,
+            cmd,
+            &objects.stores[place],
+            &mut pass.stores[place],
+            bound,
+            &objects.breakers[k as usize],
+            &mut pass.breakers[k as usize],
+            clock,
+            rng,
+        ),
+    }
+}
+
+/// The call without a breaker.
+fn plain<K: Keeper, C: Clock, R: Rng, W: Wait>(
+    rt: &W,
+    cmd: &mut Cmd,
+    cell: &TurnCell<Store<K>>,
+    seat: &mut Seat<Store<K>>,
+    bound: &Bound,
+    clock: &mut C,
+    rng: &mut R,
+) -> Result<Ran, ApiErr>
+    requires limits { IsWithinLimit bound.now }
+    requires breaker { bound.now.breaker ≡ None }
+    requires seat { IsSeatOf cell.now seat.old }
+    requires taken { IsTaken cmd.old }
+    ensures ran { (events : List (Event Step)) × (outcome : OutcomeOf AnswerData (Unit {0})) × Attempts bound.now (λ limit. Makes cmd.old) outcome events × (result ≡ ran_of outcome) × Effects events (λ xs. Grew ⟦<Store<K> as Object>⟧ cell.now.first seat.old xs seat.new) (λ xs. xs ≡ []) (clocked C.Clock clock.old) (clocked C.Clock clock.new) (λ ws. Drawn next_u64 (R.stream rng.old) ws (R.stream rng.new)) }
+    ensures answer { IfOk result (IsAnswer cmd.old) }
+    ensures shows { (count : ℕ) → result ≡ Err (ApiErr.Exhausted count) → seat.new.count ≡ Some count }
+{
+    run(rt, cmd, cell, seat, bound, &mut NoBreaker, clock, rng)
+}
+
+/// The call behind its breaker.
+fn gated<K: Keeper, C: Clock, R: Rng, W: Wait>(
+    rt: &W,
+    cmd: &mut Cmd,
+    cell: &TurnCell<Store<K>>,
+    seat: &mut Seat<Store<K>>,
+    bound: &Bound,
+    gate: &TurnCell<Breaker>,
+    key: &mut Seat<Breaker>,
+    clock: &mut C,
+    rng: &mut R,
+) -> Result<Ran, ApiErr>
+    requires limits { IsWithinLimit bound.now }
+    requires breaker { (k : ℕ) × (bound.now.breaker ≡ Some k) }
+    requires seat { IsSeatOf cell.now seat.old }
+    requires key { IsSeatOf gate.now key.old }
+    requires taken { IsTaken cmd.old }
+    ensures ran { (events : List (Event Step)) × (outcome : OutcomeOf AnswerData (Unit {0})) × Attempts bound.now (λ limit. Makes cmd.old) outcome events × (result ≡ ran_of outcome) × Effects events (λ xs. Grew ⟦<Store<K> as Object>⟧ cell.now.first seat.old xs seat.new) (λ xs. Grew ⟦<Breaker as Object>⟧ gate.now.first key.old xs key.new) (clocked C.Clock clock.old) (clocked C.Clock clock.new) (λ ws. Drawn next_u64 (R.stream rng.old) ws (R.stream rng.new)) }
+    ensures answer { IfOk result (IsAnswer cmd.old) }
+    ensures shows { (count : ℕ) → result ≡ Err (ApiErr.Exhausted count) → (key.new.count ≡ Some count) ⊎ (seat.new.count ≡ Some count) }
+{
+    let mut guard = BreakerAt {
+        cell: gate,
+        seat: key,
+    };
+    run(rt, cmd, cell, seat, bound, &mut guard, clock, rng)
+}
