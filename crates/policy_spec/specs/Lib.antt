@@ -1,2 +1,4 @@
-pub mod Bounds
+pub mod Named
 pub mod Policies
+pub mod Readers
+pub mod Policy

@@ -2,7 +2,7 @@ ghost use Rattle.std.specs.Prelude.{◌≡◌, [], length};
 ghost use Rattle.std.specs.Option.{ForSome};
 ghost use Rattle.policy_spec.specs.Policies.{aim_of, named_bound, bound_by, nothing, IsBoundWithin};
 
-use crate::bounds::Bounds;
+use crate::named::Named;
 use crate::target::Target;
 use retry_core::{Bound, BreakerPolicy};
 use side_base::Sequence;
@@ -16,9 +16,9 @@ pub type BreakerPolicies = Sequence<BreakerPolicy>;
 /// of breakers. What is bound has its durations within their limit, and its breaker in that list.
 #[derive(Drop)]
 pub struct Policies {
-    pub(crate) apps: Bounds,
-    pub(crate) outbound: Bounds,
-    pub(crate) inbound: Bounds,
+    pub(crate) apps: Named<Bound>,
+    pub(crate) outbound: Named<Bound>,
+    pub(crate) inbound: Named<Bound>,
     pub(crate) breakers: BreakerPolicies,
 }
 
@@ -38,9 +38,9 @@ impl Policies {
         ensures { result ≡ record { apps = []; outbound = []; inbound = []; breakers = [] } }
     {
         Policies {
-            apps: Bounds::new(alloc),
-            outbound: Bounds::new(alloc),
-            inbound: Bounds::new(alloc),
+            apps: Named::new(alloc),
+            outbound: Named::new(alloc),
+            inbound: Named::new(alloc),
             breakers: Sequence::new(alloc),
         }
     }
