@@ -138,23 +138,34 @@ is_mapping_or_empty field parts.Empty = Ok tt
 is_mapping_or_empty field parts.Scalar = Err (fields.Wrong field)
 is_mapping_or_empty field parts.Sequence = Err (fields.Wrong field)
 
+-- both directions of a component, `outbound` first
+abbrev pub directions_put : ℕ → Tables → List ℕ → List ℕ → Binding → Trees → Result Binding PolicyErr
+directions_put doc tables field name b row =
+    follow (direction_put doc tables (with_name field (codes "outbound")) sides.Outbound name b (member (codes "outbound") row)) (λ more.
+    direction_put doc tables (with_name field (codes "inbound")) sides.Inbound name more (member (codes "inbound") row))
+
+-- a component of this field is a mapping, or empty
+abbrev pub tested_put : ℕ → Tables → List ℕ → List ℕ → Binding → Trees → Result Binding PolicyErr
+tested_put doc tables field name b row = follow (in_doc doc (is_mapping_or_empty field (told_of row).kind)) (λ _. directions_put doc tables field name b row)
+
 abbrev pub component_put : ℕ → Tables → Binding → Trees → Result Binding PolicyErr
 component_put doc tables b row =
-    follow (in_doc doc (member_field (codes "spec.targets.components") (told_of row).name)) (λ own.
-    follow (in_doc doc (is_mapping_or_empty own (told_of row).kind)) (λ _.
-    follow (direction_put doc tables (with_name own (codes "outbound")) sides.Outbound (told_of row).name b (member (codes "outbound") row)) (λ more.
-    direction_put doc tables (with_name own (codes "inbound")) sides.Inbound (told_of row).name more (member (codes "inbound") row))))
+    follow (in_doc doc (member_field (codes "spec.targets.components") (told_of row).name)) (λ own. tested_put doc tables own (told_of row).name b row)
 
 abbrev pub components_from : ℕ → Tables → Binding → Trees → Result Binding PolicyErr
 components_from doc tables b none = Ok b
 components_from doc tables b (tree t inner later) = follow (component_put doc tables b (tree t inner later)) (λ more. components_from doc tables more later)
 
 -- the targets of a document: apps, and then components
+abbrev pub app_targets_put : ℕ → Tables → Binding → Trees → Result Binding PolicyErr
+app_targets_put doc tables b row = follow (in_doc doc (mapping_at (codes "spec" ∷ codes "targets" ∷ codes "apps" ∷ []) row)) (apps_from doc tables b)
+
+abbrev pub component_targets_put : ℕ → Tables → Binding → Trees → Result Binding PolicyErr
+component_targets_put doc tables b row =
+    follow (in_doc doc (mapping_at (codes "spec" ∷ codes "targets" ∷ codes "components" ∷ []) row)) (components_from doc tables b)
+
 abbrev pub targets_put : ℕ → Tables → Binding → Trees → Result Binding PolicyErr
-targets_put doc tables b row =
-    follow (in_doc doc (mapping_at (codes "spec" ∷ codes "targets" ∷ codes "apps" ∷ []) row)) (λ apps.
-    follow (apps_from doc tables b apps) (λ more.
-    follow (in_doc doc (mapping_at (codes "spec" ∷ codes "targets" ∷ codes "components" ∷ []) row)) (components_from doc tables more)))
+targets_put doc tables b row = follow (app_targets_put doc tables b row) (λ more. component_targets_put doc tables more row)
 
 -- a document that has a name is for the app
 abbrev pub named_document : Readers → ℕ → Binding → Trees → Option (List ℕ) → Result Binding PolicyErr

@@ -5,13 +5,14 @@ mod choice;
 mod load;
 mod millis;
 mod named;
-mod policies;
 mod policy;
 mod policy_err;
+mod policy_list;
 mod read;
 mod section;
 mod target;
 
-pub use policies::{BreakerPolicies, Policies, bind, breakers};
+pub use load::policies;
 pub use policy_err::PolicyErr;
+pub use policy_list::{BreakerPolicies, Policies, bind, breakers};
 pub use target::Target;

@@ -87,8 +87,8 @@ fn wrong_member(alloc: Global, field: &str, name: &str) -> FieldErr
     }
 }
 
-// The refusal of a field.
-fn wrong_field(alloc: Global, field: &str) -> FieldErr
+/// The refusal of a field.
+pub(crate) fn wrong_field(alloc: Global, field: &str) -> FieldErr
     ensures { IsFieldErr {T = Unit {0}} result (Err (FieldErr.Wrong field.now)) }
 {
     match Text::from_str(alloc, field) {

@@ -4,7 +4,7 @@ use Rattle.retry_core.specs.declared.policy.Bound.{Bound}
 use Rattle.policy_spec.specs.Resiliency.{place_for, breaker_of}
 use Rattle.policy_spec.specs.Policies.{Binding, IsBoundWithin}
 use Rattle.policy_spec.proofs.Sound.{placed, sound_app, sound_outbound, sound_inbound}
-use Rattle.policy_spec.proofs.policies.Policies.bind_new.Goals as goal
+use Rattle.policy_spec.proofs.policy_list.Policies.bind_new.Goals as goal
 
 pub invariant_of-self-in-App : goal.invariant_of-self-in-App
 invariant_of-self-in-App c =

@@ -2,7 +2,7 @@ use Rattle.std.proofs.Common.{◌∙◌, ap, sym}
 use Rattle.policy_spec.specs.Named.{under}
 use Rattle.policy_spec.specs.Policies.{app, outbound, inbound}
 use Rattle.policy_spec.proofs.Found.{sound_named}
-use Rattle.policy_spec.proofs.policies.Policies.named.Goals as goal
+use Rattle.policy_spec.proofs.policy_list.Policies.named.Goals as goal
 
 pub returns-in-App-clause-within : goal.returns-in-App-clause-within
 returns-in-App-clause-within c x e =
