@@ -11,6 +11,8 @@ mod policy_list;
 mod read;
 mod section;
 mod target;
+#[cfg(test)]
+mod tests;
 
 pub use load::policies;
 pub use policy_err::PolicyErr;
