@@ -1,1 +1,4 @@
 pub mod Found
+pub mod Said
+pub mod Sound
+pub mod Refused

@@ -1,2 +1,6 @@
-pub mod Bounds
+pub mod Named
 pub mod Policies
+pub mod Readers
+pub mod Policy
+pub mod Resiliency
+pub mod Shown

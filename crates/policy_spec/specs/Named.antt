@@ -1,8 +1,14 @@
--- What is bound to names.
+-- What stands under names, in byte order of the names.
 use Rattle.std.specs.Prelude.{ℕ, List, bytes_eq, Option}
 use Rattle.std.specs.Map.{lookup}
-use Rattle.retry_core.specs.declared.policy.Bound.{Bound}
+use Rattle.std.specs.BTreeMap.{insert_entry}
+use Rattle.std.specs.Cmp.Lexicographic.{slice_cmp}
+use Rattle.std.specs.Ordering.{nat_cmp}
 
--- what is bound to this name
-abbrev pub bound_to : List ℕ → List (List ℕ × Bound) → Option Bound
-bound_to name bounds = lookup (λ (other : List ℕ). bytes_eq name other) bounds
+-- what stands under this name
+abbrev pub under : {V : Type 0} → List ℕ → List (List ℕ × V) → Option V
+under name table = lookup (λ (other : List ℕ). bytes_eq name other) table
+
+-- the table in which this stands under a name, in place of what stood there
+abbrev pub put_under : {V : Type 0} → List (List ℕ × V) → List ℕ → V → List (List ℕ × V)
+put_under table name value = insert_entry (slice_cmp nat_cmp) table name value

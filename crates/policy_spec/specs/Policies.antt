@@ -6,7 +6,7 @@ use Rattle.retry_core.specs.declared.policy.BreakerPolicy.{BreakerPolicy}
 use Rattle.retry_core.specs.Bound.{IsWithinLimit}
 use Rattle.policy_spec.specs.declared.target.Target.{Target}
 use Rattle.policy_spec.specs.declared.target.Target.TheVariants as targets
-use Rattle.policy_spec.specs.Bounds.{bound_to}
+use Rattle.policy_spec.specs.Named.{under}
 
 -- whose calls something is bound to: an app's, those that are sent to a component, or those that come from one
 pub data Aim : Type 0 where
@@ -28,9 +28,9 @@ pub record Binding : Type 0 where
 
 -- what is bound to a target, if it is named
 abbrev pub named_bound : Binding → Aim → Option Bound
-named_bound policies (app id) = bound_to id policies.apps
-named_bound policies (outbound name) = bound_to name policies.outbound
-named_bound policies (inbound name) = bound_to name policies.inbound
+named_bound policies (app id) = under id policies.apps
+named_bound policies (outbound name) = under name policies.outbound
+named_bound policies (inbound name) = under name policies.inbound
 
 abbrev pub nothing : Bound
 nothing = record { timeout_ms = None; retry = None; breaker = None }

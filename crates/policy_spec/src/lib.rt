@@ -1,9 +1,20 @@
 //! Resiliency: which timeout, retries and circuit breaker are bound to which target.
 #![tactic(auto)]
 
-mod bounds;
-mod policies;
+mod choice;
+mod load;
+mod millis;
+mod named;
+mod policy;
+mod policy_err;
+mod policy_list;
+mod read;
+mod section;
 mod target;
+#[cfg(test)]
+mod tests;
 
-pub use policies::{BreakerPolicies, Policies, bind, breakers};
+pub use load::policies;
+pub use policy_err::PolicyErr;
+pub use policy_list::{BreakerPolicies, Policies, bind, breakers};
 pub use target::Target;

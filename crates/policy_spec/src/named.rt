@@ -1,58 +1,57 @@
 ghost use Rattle.std.specs.String.{string_bytes};
-ghost use Rattle.std.specs.Prelude.{◌≡◌, [], IfOk, OnOk, OnErr, Some, None, ℕ, List, if◌then◌else◌, bytes_eq, IsUtf8};
-ghost use Rattle.policy_spec.specs.Bounds.{bound_to};
+ghost use Rattle.std.specs.Prelude.{◌≡◌, [], OnOk, OnErr, Some, ℕ, List, if◌then◌else◌, bytes_eq};
+ghost use Rattle.policy_spec.specs.Named.{under, put_under};
 
-use retry_core::Bound;
 use side_base::NoMemory;
 use std::alloc::Global;
 use std::collections::BTreeMap;
 use std::marker::Model;
 
-/// What is bound to names. Contracts see it as the list of the names, in byte order, each with what is bound to it.
+/// What stands under names. Contracts see it as the list of the names, in byte order, each with what stands under it.
 #[derive(Drop)]
-pub(crate) struct Bounds {
-    tree: BTreeMap<String, Bound>,
+pub struct Named<V> {
+    tree: BTreeMap<String, V>,
 }
 
-impl Model for Bounds {
+impl<V> Model for Named<V> {
     ghost use Rattle.std.specs.Prelude.{ℕ, List, map};
     ghost use Rattle.std.specs.BTreeMap.{IsOrdered};
     ghost use Rattle.std.specs.String.{string_bytes, string_cmp};
-    ghost use Rattle.retry_core.specs.declared.policy.Bound.{Bound};
 
-    ghost Value = { List (List ℕ × Bound) };
+    ghost Value = { List (List ℕ × V) };
 
-    ghost view = { λ b. map (λ e. (string_bytes e.0, e.1)) b.tree.entries };
+    ghost view = { λ n. map (λ e. (string_bytes e.0, e.1)) n.tree.entries };
 
-    ghost invariant = { λ b. IsOrdered string_cmp b.tree };
+    ghost invariant = { λ n. IsOrdered string_cmp n.tree };
 }
 
-impl Bounds {
-    /// Nothing is bound to any name. Takes no memory.
-    pub fn new(alloc: Global) -> Bounds
+impl<V: Copy + Drop> Named<V> {
+    /// Nothing stands under any name. Takes no memory.
+    pub fn new(alloc: Global) -> Self
         ensures { result ≡ [] }
     {
-        Bounds {
+        Named {
             tree: BTreeMap::new(alloc),
         }
     }
 
-    /// What is bound to this name; `None` where it isn't named.
-    pub fn find(&self, name: &str) -> Option<Bound>
-        ensures { result ≡ bound_to name.now self.now }
+    /// What stands under this name.
+    pub fn find(&self, name: &str) -> Option<V>
+        ensures { result ≡ under name.now self.now }
     {
         match self.tree.get(name) {
-            Some(bound) => Some(*bound),
+            Some(value) => Some(*value),
             None => None,
         }
     }
 
-    /// Binds something to a name, in place of what was bound to it; without memory all stays as it was.
-    pub fn put(&mut self, name: String, bound: Bound) -> Result<(), NoMemory>
-        ensures ok { OnOk result ((other : List ℕ) → bound_to other self.new ≡ (if bytes_eq (string_bytes name) other then Some bound else bound_to other self.old)) }
+    /// Puts something under a name, in place of what stood there; without memory all stays as it was.
+    pub fn put(&mut self, name: String, value: V) -> Result<(), NoMemory>
+        ensures ok { OnOk result (self.new ≡ put_under self.old (string_bytes name) value) }
+        ensures found { OnOk result ((other : List ℕ) → under other self.new ≡ (if bytes_eq (string_bytes name) other then Some value else under other self.old)) }
         ensures err { OnErr result (self.new ≡ self.old) }
     {
-        self.tree.insert(name, bound)?;
+        self.tree.insert(name, value)?;
         Ok(())
     }
 }

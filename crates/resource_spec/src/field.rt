@@ -46,7 +46,7 @@ fn names_at_least(field: &str, passed: usize) -> usize
 }
 
 /// The field that so many names of a path lead to, which begins at a part that is this field.
-pub(crate) fn field_of(
+pub fn field_of(
     alloc: Global,
     field: &str,
     path: &[&str],
@@ -70,7 +70,7 @@ fn wrong_field(alloc: Global, field: &str, path: &[&str], passed: usize) -> Fiel
 }
 
 /// The text that a part is, if it is a scalar.
-pub(crate) fn part_text<'a>(docs: &'a Docs, p: Part) -> Option<&'a str>
+pub fn part_text<'a>(docs: &'a Docs, p: Part) -> Option<&'a str>
     requires { IsPart docs.now p }
     ensures { option_map (λ text. text.now) result ≡ text_of (told_of (row_of docs.now p)) }
 {
@@ -86,7 +86,7 @@ pub(crate) fn part_text<'a>(docs: &'a Docs, p: Part) -> Option<&'a str>
 }
 
 /// The text of a field, which may be absent or empty. The path begins at a part that is this field.
-pub(crate) fn said<'a>(
+pub fn said<'a>(
     alloc: Global,
     docs: &'a Docs,
     p: Part,
@@ -107,7 +107,7 @@ pub(crate) fn said<'a>(
 }
 
 /// The text of a field, which must be there.
-pub(crate) fn asked<'a>(
+pub fn asked<'a>(
     alloc: Global,
     docs: &'a Docs,
     p: Part,

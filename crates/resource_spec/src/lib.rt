@@ -18,6 +18,7 @@ mod url;
 pub use component::{Component, ComponentKind};
 pub use component_list::Components;
 pub use document::head;
+pub use field::{asked, field_of, part_text, said};
 pub use field_err::FieldErr;
 pub use load::{components, join};
 pub use setting::{Setting, Settings};
