@@ -1,5 +1,5 @@
 -- A session that goes on.
-use Rattle.std.proofs.Common.{◌≡◌, ◌≢◌, ℕ, suc, ◌+◌, ◌<◌, ◌≤◌, Bool, true, false, List, [], ◌∷◌, ◌++◌, length, map, flat_map, All, Option, Some, None, is_some, Result, Ok, Err, refl, sym, ap, subst, ◌∙◌, arith, append_assoc, append-nil, length-append, if◌then◌else◌}
+use Rattle.std.proofs.Common.{◌≡◌, ℕ, suc, ◌+◌, Bool, true, false, List, [], ◌∷◌, ◌++◌, length, flat_map, Option, Some, None, is_some, Result, Ok, refl, sym, ap, subst, ◌∙◌, arith, append_assoc, append-nil, length-append, if◌then◌else◌}
 use Rattle.std.proofs.lemmas.List.{map-append}
 use Rattle.std.proofs.lemmas.List.Elements.{All-nil, All-push}
 use Rattle.std.proofs.lemmas.Grind.{flat_map-append}
@@ -9,12 +9,11 @@ use Rattle.side_world.proofs.Composed.{told_nothing, took_nothing, took_on, told
 use Rattle.turn_cell.specs.declared.error.ApiErr.{ApiErr}
 use Rattle.http_frames.specs.Framing.{State, waiting, fed, grown}
 use Rattle.http_frames.specs.Written.{written, continue_bytes}
-use Rattle.http_frames.specs.Streams.{Whole, Midway, GivesRequest, GivesContinue, asks}
+use Rattle.http_frames.specs.Streams.{Midway, GivesRequest, GivesContinue, asks}
 use Rattle.http_frames.specs.declared.refusal.FrameErr.{FrameErr}
 use Rattle.conn_serve.specs.declared.ended.Ended.{Ended}
-use Rattle.conn_serve.specs.declared.ended.Ended.TheVariants.{SinkFailed}
-use Rattle.conn_serve.specs.Exchanged.{Exchanged, AreAnswered, GoesOn, IsStop, request_in, is_head, mark_of, answer_bytes, out_of, wholes_of}
-use Rattle.conn_serve.specs.Ends.{SinkAt, SourceAt, Sent, Cut, Passed, Read, IsFinish, wrote, failed}
+use Rattle.conn_serve.specs.Exchanged.{Exchanged, AreAnswered, IsStop, request_in, is_head, answer_bytes, out_of, wholes_of}
+use Rattle.conn_serve.specs.Ends.{SinkAt, SourceAt, Sent, Cut, Passed, Read, IsFinish}
 use Rattle.conn_serve.specs.Going.{Going, mark_at}
 use Rattle.conn_serve.proofs.Moved.{two_sent, sent_then_cut, finish_after}
 

@@ -1,10 +1,9 @@
 -- What is sent and read, call after call.
-use Rattle.std.proofs.Common.{◌≡◌, ◌≢◌, ℕ, ◌≤◌, ◌<◌, ◌==◌, ◌||◌, Bool, true, false, List, [], ◌∷◌, ◌++◌, length, take, Option, Some, None, refl, sym, ap, subst, ◌∙◌, arith}
-use Rattle.std.specs.Prelude.{◌↔◌}
+use Rattle.std.proofs.Common.{◌≡◌, ℕ, ◌==◌, ◌||◌, Bool, true, false, List, [], ◌++◌, take, Option, Some, None, refl, sym, ap, subst, ◌∙◌}
 use Rattle.side_world.specs.Faults.{Rose}
-use Rattle.side_world.specs.Told.{Told, Took, SentSome, IsDrained, EndsWhereTold}
+use Rattle.side_world.specs.Told.{Told, Took, IsDrained, EndsWhereTold}
 use Rattle.side_world.proofs.Composed.{told_on, sent_after, sent_before}
-use Rattle.http_frames.specs.Framing.{State, Kept, waiting}
+use Rattle.http_frames.specs.Framing.{State, Kept}
 use Rattle.conn_serve.specs.declared.ended.Ended.{Ended}
 use Rattle.conn_serve.specs.declared.ended.Ended.TheVariants.{Done, Closed, Asked, ClosedByPeer, Refused, Limit, Spent, SourceFailed, SinkFailed, NoMemory}
 use Rattle.conn_serve.specs.Ends.{SinkAt, SourceAt, Sent, Cut, Read, HasEnded, IsFinish, wrote, failed}

@@ -3,7 +3,7 @@ use Rattle.std.proofs.Common.{◌≡◌, ◌≢◌, ◌⊎◌, ◌↔◌, ℕ, �
 use Rattle.std.proofs.lemmas.List.Elements.{All-push}
 use Rattle.side_base.specs.declared.message.Request.{Request}
 use Rattle.side_base.specs.declared.message.Response.{Response}
-use Rattle.side_world.specs.Told.{Told, Took, SentSome, IsDrained}
+use Rattle.side_world.specs.Told.{Told, Took, SentSome}
 use Rattle.side_world.specs.Faults.{Rose}
 use Rattle.side_world.proofs.Composed.{told_on, took_on}
 use Rattle.turn_cell.specs.declared.error.ApiErr.{ApiErr}
@@ -16,13 +16,13 @@ use Rattle.http_frames.specs.declared.step.Step.TheVariants as step
 use Rattle.http_frames.specs.Framing.{State, Kept, Stands, waiting, fed, IsNext as IsNextStep, IsRequestStep, IsContinueStep, IsNeedStep}
 use Rattle.http_frames.specs.Requests.{IsAccepted}
 use Rattle.http_frames.specs.Written.{written, continue_bytes}
-use Rattle.http_frames.specs.Streams.{GoesOn as StreamGoesOn, Whole, Begins, IsStream, Midway, GivesRequest, IsAsking, IsMarked, IsWholeStream, asks}
+use Rattle.http_frames.specs.Streams.{GoesOn as StreamGoesOn, Whole, IsStream, Midway, GivesRequest, IsAsking, IsMarked, IsWholeStream, asks}
 use Rattle.conn_serve.specs.declared.ended.Ended.{Ended}
 use Rattle.conn_serve.specs.declared.ended.Ended.TheVariants.{Done, Closed, Asked, ClosedByPeer, Refused, Limit, Spent, SourceFailed, SinkFailed, NoMemory}
-use Rattle.conn_serve.specs.Exchanged.{Exchanged, Unanswered, AreAnswered, IsStop, IsMark, StopsWith, request_in, is_head, out_of, wholes_of}
-use Rattle.conn_serve.specs.Session.{Session, IsNext, Ends, EndsSending, EndsAfter, EndsWithoutMemory, EndsRefused, EndsSpent, EndsWith, EndsBetween, CutWhileGoing, IsSpentAnswer, refused_bytes, trace_of}
-use Rattle.conn_serve.specs.Ends.{SinkAt, SourceAt, Sent, Cut, Passed, Read, HasEnded, HasFailed, IsFinish, wrote, failed}
-use Rattle.conn_serve.specs.Served.{Served, HasCause, NoFault, IsOver}
+use Rattle.conn_serve.specs.Exchanged.{Exchanged, Unanswered, AreAnswered, IsStop, IsMark, is_head, out_of, wholes_of}
+use Rattle.conn_serve.specs.Session.{IsNext, EndsSending, EndsAfter, EndsWithoutMemory, EndsRefused, EndsSpent, EndsWith, IsSpentAnswer, refused_bytes, trace_of}
+use Rattle.conn_serve.specs.Ends.{SinkAt, SourceAt, Sent, Cut, Passed, HasEnded, HasFailed, IsFinish, wrote, failed}
+use Rattle.conn_serve.specs.Served.{Served, NoFault, IsOver}
 use Rattle.conn_serve.specs.Answering.{Wants, Went, Answers, Finishes}
 use Rattle.conn_serve.specs.Answering as wants
 use Rattle.conn_serve.proofs.Moved.{finish_after, sent_then_cut}

@@ -1,5 +1,5 @@
 -- Requests of a connection and what came of them.
-use Rattle.std.specs.Prelude.{◌≡◌, ◌≢◌, ◌⊎◌, ℕ, suc, Bool, true, false, ◌==◌, List, [], ◌∷◌, ◌++◌, map, flat_map, All, codes, decimal, if◌then◌else◌, Option, Some, None, is_some, Result, Ok, Err}
+use Rattle.std.specs.Prelude.{◌≡◌, ◌≢◌, ◌⊎◌, ℕ, suc, Bool, true, false, List, [], ◌∷◌, ◌++◌, map, flat_map, All, if◌then◌else◌, Option, Some, None, is_some, Result, Ok}
 use Rattle.side_base.specs.declared.method.Method.{Method}
 use Rattle.side_base.specs.declared.method.Method.TheVariants as method
 use Rattle.side_base.specs.declared.message.Request.{Request}

@@ -1,5 +1,5 @@
 -- A session that goes on, and one turn of it: what the bytes that were read hold next.
-use Rattle.std.specs.Prelude.{◌≡◌, ◌≢◌, ◌⊎◌, ℕ, ◌<◌, Bool, true, false, List, [], ◌++◌, length, flat_map, Option, Some, None, Result}
+use Rattle.std.specs.Prelude.{◌≡◌, ◌⊎◌, ℕ, ◌<◌, Bool, true, false, List, [], ◌++◌, length, flat_map, Option, Some, None, Result}
 use Rattle.side_base.specs.declared.message.Request.{Request}
 use Rattle.side_base.specs.declared.message.Response.{Response}
 use Rattle.turn_cell.specs.declared.error.ApiErr.{ApiErr}
@@ -14,7 +14,7 @@ use Rattle.conn_serve.specs.declared.ended.Ended.TheVariants.{Refused, NoMemory}
 use Rattle.conn_serve.specs.Exchanged.{Exchanged, AreAnswered, GoesOn, out_of, wholes_of}
 use Rattle.conn_serve.specs.Session.{refused_bytes}
 use Rattle.conn_serve.specs.Ends.{SinkAt, SourceAt, Passed, Read, IsFinish}
-use Rattle.conn_serve.specs.Answering.{Finishes, LacksRoom}
+use Rattle.conn_serve.specs.Answering.{LacksRoom}
 use Rattle.conn_serve.specs.Served.{Served}
 
 -- `Continue` where it was given for what comes next

@@ -1,5 +1,5 @@
 -- The session of a connection: the bytes that were read, the requests that were answered, what was written, and how it ended.
-use Rattle.std.specs.Prelude.{◌≡◌, ◌≢◌, ◌⊎◌, ℕ, Bool, true, false, List, [], ◌∷◌, ◌++◌, flat_map, codes, decimal, Option, Some, None, Result, Ok, Err}
+use Rattle.std.specs.Prelude.{◌≡◌, ◌≢◌, ◌⊎◌, ℕ, Bool, true, false, List, [], ◌∷◌, ◌++◌, flat_map, codes, decimal, Option, Some, None, Result, Err}
 use Rattle.side_base.specs.declared.message.Request.{Request}
 use Rattle.side_base.specs.declared.message.Response.{Response}
 use Rattle.turn_cell.specs.declared.error.ApiErr.{ApiErr}
@@ -10,7 +10,7 @@ use Rattle.api_error.specs.NoMemory.{no_memory_response}
 use Rattle.http_frames.specs.declared.refusal.FrameErr.{FrameErr}
 use Rattle.http_frames.specs.Refusals.{refused_status, refused_name}
 use Rattle.http_frames.specs.Requests.{IsRefused, IsAccepted}
-use Rattle.http_frames.specs.Streams.{Whole, Begins, IsStream}
+use Rattle.http_frames.specs.Streams.{Begins, IsStream}
 use Rattle.http_frames.specs.Written.{written}
 use Rattle.conn_serve.specs.declared.ended.Ended.{Ended}
 use Rattle.conn_serve.specs.declared.ended.Ended.TheVariants.{Done, Closed, Asked, ClosedByPeer, Refused, Limit, Spent, SourceFailed, SinkFailed, NoMemory}

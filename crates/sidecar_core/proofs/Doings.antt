@@ -1,5 +1,5 @@
 -- Events of a call, as those of the objects; and what events did, part after part.
-use Rattle.std.proofs.Common.{◌≡◌, ◌≢◌, ℕ, zero, suc, ◌==◌, Bool, true, false, List, [], ◌∷◌, ◌++◌, length, map, set, Option, Some, Result, refl, sym, ap, subst, ◌∙◌, if◌then◌else◌, flat_map, arith}
+use Rattle.std.proofs.Common.{◌≡◌, ℕ, ◌==◌, Bool, true, false, List, [], ◌∷◌, ◌++◌, map, set, Option, Some, Result, refl, sym, ap, subst, if◌then◌else◌, flat_map, arith}
 use Rattle.std.specs.List.{sum_by}
 use Rattle.std.specs.Prelude.{Decides}
 use Rattle.std.proofs.lemmas.Bool.Decides.{Decides-eqb}

@@ -1,5 +1,4 @@
 use Rattle.std.proofs.Common.{refl, subst, ◌++◌}
-use Rattle.api_error.specs.NoMemory.{no_memory_response}
 use Rattle.conn_serve.specs.Ends.{Sent, Cut, wrote, failed, sink_at}
 use Rattle.conn_serve.proofs.Moved.{two_sent, sent_then_cut}
 use Rattle.conn_serve.proofs.ending.finish_without_memory.Goals as goal

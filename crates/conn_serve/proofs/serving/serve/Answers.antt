@@ -1,4 +1,4 @@
-use Rattle.std.proofs.Common.{[], false, None, sym, subst, arith}
+use Rattle.std.proofs.Common.{[], false, sym, subst, arith}
 use Rattle.http_frames.specs.Framing.{waiting}
 use Rattle.conn_serve.specs.Ends.{sink_at, source_at}
 use Rattle.conn_serve.specs.Going.{Going, After}

@@ -1,4 +1,4 @@
-use Rattle.std.proofs.Common.{rules, sym, ◌∙◌, true≢false}
+use Rattle.std.proofs.Common.{sym, ◌∙◌, true≢false}
 use Rattle.conn_serve.proofs.wanting.end_of.Goals as goal
 
 pub returns-then-is_between : goal.returns-then-is_between

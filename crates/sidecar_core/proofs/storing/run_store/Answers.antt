@@ -1,8 +1,5 @@
-use Rattle.std.proofs.Common.{◌≡◌, ◌<◌, refl, sym, ap, subst, arith}
+use Rattle.std.proofs.Common.{arith}
 use Rattle.atomic_table.proofs.Lists.{at_index}
-use Rattle.policy_run.specs.Effects.{clocked}
-use Rattle.rand_core.specs.Stream.{next_u64}
-use Rattle.side_world.specs.Moments.{Drawn}
 use Rattle.sidecar_core.proofs.Doings.{did_plainly, did_gated_at, placed_as, within}
 use Rattle.sidecar_core.proofs.storing.run_store.Goals as goal
 
