@@ -1,5 +1,5 @@
 -- A refusal of the first part is one of the whole.
-use Rattle.std.proofs.Common.{◌≡◌, ◌≢◌, ap, refl, ℕ, List, Result, Ok, Err}
+use Rattle.std.proofs.Common.{◌≢◌, ap, refl, ℕ, List, Result}
 use Rattle.yaml_subset.specs.Trees.{Trees, none, tree}
 use Rattle.resource_spec.specs.Follow.{follow}
 use Rattle.policy_spec.specs.declared.policy_err.PolicyErr.{PolicyErr}

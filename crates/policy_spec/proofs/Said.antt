@@ -1,10 +1,9 @@
 -- What is read of a text.
-use Rattle.std.proofs.Common.{◌≡◌, ◌∙◌, ap, refl, ℕ, true, false, List, [], ◌∷◌, Option, Some, None, Result, Ok, Err}
+use Rattle.std.proofs.Common.{◌≡◌, ap, refl, ℕ, List, [], ◌∷◌, Option, Some, None, Result, Ok, Err}
 use Rattle.std.specs.Prelude.{IsUtf8, if◌then◌else◌}
 use Rattle.std.specs.Str.{is_utf8}
 use Rattle.std.proofs.lemmas.Bool.{false_from_ne_true}
 use Rattle.std.proofs.lemmas.Str.{IsUtf8-from_is_utf8, is_utf8-from_IsUtf8}
-use Rattle.resource_spec.specs.declared.field_err.FieldErr.{FieldErr}
 use Rattle.resource_spec.specs.declared.field_err.FieldErr.TheVariants.{Wrong}
 use Rattle.resource_spec.specs.Field.{with_name, field_at}
 use Rattle.policy_spec.specs.Policy.{member_field}

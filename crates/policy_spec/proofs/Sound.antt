@@ -1,5 +1,5 @@
 -- What is bound stays within its limits where one more target is bound.
-use Rattle.std.proofs.Common.{◌≡◌, ◌⊎◌, inl, inr, ◌∙◌, ◌≤◌, ◌<◌, ◌+◌, ap, sym, subst, arith, ℕ, List, length, length-append, Option, Some, None}
+use Rattle.std.proofs.Common.{◌≡◌, ◌⊎◌, inl, inr, ◌≤◌, ap, sym, subst, arith, ℕ, List, length, length-append, Option, Some, None}
 use Rattle.std.specs.Prelude.{option_to_list, ◌++◌}
 use Rattle.retry_core.specs.declared.policy.Bound.{Bound}
 use Rattle.retry_core.specs.declared.policy.BreakerPolicy.{BreakerPolicy}

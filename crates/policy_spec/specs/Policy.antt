@@ -5,12 +5,12 @@ use Rattle.std.specs.Str.Parse.{digits_value}
 use Rattle.side_base.specs.Decimal.{digits_at, after_digits}
 use Rattle.yaml_subset.specs.declared.kind.PartKind.{PartKind}
 use Rattle.yaml_subset.specs.declared.kind.PartKind.TheVariants as parts
-use Rattle.yaml_subset.specs.Trees.{Told, Trees, none, tree}
+use Rattle.yaml_subset.specs.Trees.{Trees, none, tree}
 use Rattle.std.specs.Borrow.{Bor}
 use Rattle.yaml_subset.specs.declared.preorder.Part.{Part}
 use Rattle.yaml_subset.specs.Docs.{told_of, inner_of, member, Walked, absent, wrong, here, walked, IsFirst}
 use Rattle.resource_spec.specs.declared.field_err.FieldErr.{FieldErr}
-use Rattle.resource_spec.specs.declared.field_err.FieldErr.TheVariants.{Missing, Wrong, NoMemory}
+use Rattle.resource_spec.specs.declared.field_err.FieldErr.TheVariants.{Wrong}
 use Rattle.resource_spec.specs.Follow.{follow}
 use Rattle.resource_spec.specs.Field.{with_name, field_at, text_of, text_at, IsFieldErr}
 use Rattle.resource_spec.specs.Load.{is_there}

@@ -1,8 +1,8 @@
 -- What resiliency documents bind to their targets.
-use Rattle.std.specs.Prelude.{◌≡◌, ℕ, suc, ◌+◌, Bool, if◌then◌else◌, List, [], ◌∷◌, ◌++◌, length, codes, Option, Some, None, is_some, option_to_list, Result, Ok, Err}
+use Rattle.std.specs.Prelude.{◌≡◌, ℕ, suc, if◌then◌else◌, List, [], ◌∷◌, ◌++◌, length, codes, Option, Some, None, is_some, option_to_list, Result, Ok, Err}
 use Rattle.yaml_subset.specs.declared.kind.PartKind.{PartKind}
 use Rattle.yaml_subset.specs.declared.kind.PartKind.TheVariants as parts
-use Rattle.yaml_subset.specs.Trees.{Told, Trees, none, tree}
+use Rattle.yaml_subset.specs.Trees.{Trees, none, tree}
 use Rattle.yaml_subset.specs.Docs.{told_of, member}
 use Rattle.resource_spec.specs.declared.field_err.FieldErr.{FieldErr}
 use Rattle.resource_spec.specs.declared.field_err.FieldErr.TheVariants as fields
@@ -12,7 +12,6 @@ use Rattle.resource_spec.specs.Document.{head_of}
 use Rattle.retry_core.specs.declared.policy.Bound.{Bound}
 use Rattle.retry_core.specs.declared.policy.BreakerPolicy.{BreakerPolicy}
 use Rattle.retry_core.specs.declared.policy.RetryPolicy.{RetryPolicy}
-use Rattle.retry_core.specs.declared.policy.RetryKind.{RetryKind}
 use Rattle.retry_core.specs.declared.policy.RetryKind.TheVariants.{Constant, Exponential}
 use Rattle.policy_spec.specs.declared.choice.Choice.{Choice}
 use Rattle.policy_spec.specs.declared.choice.Side.{Side}

@@ -1,5 +1,5 @@
 -- Scopes, item by item.
-use Rattle.std.proofs.Common.{◌≡◌, ℕ, Bool, List}
+use Rattle.std.proofs.Common.{ℕ, Bool, List}
 use Rattle.std.specs.Prelude.{◌||◌, if◌then◌else◌, codes, Result, Ok, Err}
 use Rattle.yaml_subset.specs.Trees.{Trees}
 use Rattle.resource_spec.specs.declared.field_err.FieldErr.{FieldErr}

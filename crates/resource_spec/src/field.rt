@@ -46,12 +46,7 @@ fn names_at_least(field: &str, passed: usize) -> usize
 }
 
 /// The field that so many names of a path lead to, which begins at a part that is this field.
-pub fn field_of(
-    alloc: Global,
-    field: &str,
-    path: &[&str],
-    passed: usize,
-) -> Result<Text, NoMemory>
+pub fn field_of(alloc: Global, field: &str, path: &[&str], passed: usize) -> Result<Text, NoMemory>
     ensures { IfOk result (λ text. text ≡ field_at field.now (texts path.now) passed) }
 {
     let mut text = Text::from_str(alloc, field)?;

@@ -25,6 +25,7 @@ pub mod Reading
 pub mod Trees
 pub mod TreesCode
 pub mod File
+pub mod RefusalText
 pub mod Preorder
 pub mod Docs
 pub mod Built

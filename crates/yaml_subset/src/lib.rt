@@ -23,6 +23,7 @@ mod preorder;
 mod quoted;
 mod read;
 mod reader;
+mod refusal;
 mod scalar;
 mod shallow;
 mod source;

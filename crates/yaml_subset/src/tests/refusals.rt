@@ -1,4 +1,5 @@
 use crate::{YamlErr, read_docs};
+use side_base::{NoMemory, Text};
 use std::alloc::Global;
 use std::process::Abort;
 use std::test::Fail;
@@ -246,5 +247,27 @@ fn nesting(rt: HostRuntime) -> Result<(), Fail> {
     left_out(&rt, alloc, &nested(alloc, 31, b"- a: b")?, 32, b'a');
     left_out(&rt, alloc, &nested(alloc, 31, b"a: [b]")?, 32, b'[');
     scalar(&rt, alloc, &nested(alloc, 32, b"@")?, 33);
+    Ok(())
+}
+
+// How a file is refused, in the words that a user sees.
+fn told(alloc: Global, file: &str) -> Result<Text, NoMemory> {
+    match read_docs(alloc, file.as_bytes()) {
+        Ok(_) => Text::from_str(alloc, "read"),
+        Err(error) => error.text(alloc),
+    }
+}
+
+#[test]
+fn texts_of_refusals(rt: HostRuntime) -> Result<(), Fail> {
+    let table = [
+        ("a: b\n  more", "LeftOut line 2"),
+        ("a:\n\tb: 2", "Tab line 2"),
+        ("a: 1\na: 2", "Repeated line 2"),
+        ("a: 1", "read"),
+    ];
+    for (file, expected) in table {
+        assert_eq!(rt; told(rt.alloc(), file)?.as_str(), expected);
+    }
     Ok(())
 }

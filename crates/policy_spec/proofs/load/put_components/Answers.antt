@@ -1,4 +1,4 @@
-use Rattle.std.proofs.Common.{◌≡◌, sym, subst, Option, Result}
+use Rattle.std.proofs.Common.{sym, subst, Option, Result}
 use Rattle.yaml_subset.specs.declared.preorder.Part.{Part}
 use Rattle.yaml_subset.specs.Trees.{Trees}
 use Rattle.yaml_subset.specs.Docs.{Begins, IsFirst}

@@ -1,4 +1,4 @@
-use Rattle.std.proofs.Common.{◌≡◌, ◌∙◌, ◌≤◌, ap, sym, subst, refl, ℕ, List, Some}
+use Rattle.std.proofs.Common.{◌∙◌, ◌≤◌, ap, sym, subst, refl, ℕ, List, Some}
 use Rattle.side_base.specs.Duration.{IsDuration}
 use Rattle.policy_spec.proofs.Said.{none_read, err_is_not}
 use Rattle.policy_spec.proofs.read.duration.Goals as goal

@@ -1,4 +1,4 @@
-use Rattle.std.proofs.Common.{◌≡◌, ◌∙◌, ◌≤◌, ap, sym, subst, refl, ℕ, List, Some}
+use Rattle.std.proofs.Common.{sym, subst, refl, ℕ, List}
 use Rattle.retry_core.specs.TripText.{IsTrip}
 use Rattle.policy_spec.proofs.Said.{none_read, err_is_not}
 use Rattle.policy_spec.proofs.read.trip.Goals as goal

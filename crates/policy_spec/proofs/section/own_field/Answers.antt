@@ -1,4 +1,4 @@
-use Rattle.std.proofs.Common.{◌≡◌, ◌∙◌, ap, sym, Ok, Err}
+use Rattle.std.proofs.Common.{◌∙◌, ap, sym, Ok, Err}
 use Rattle.resource_spec.specs.declared.field_err.FieldErr.TheVariants.{Wrong}
 use Rattle.resource_spec.specs.Field.{with_name}
 use Rattle.policy_spec.proofs.Said.{field_one, member_good, member_bad}

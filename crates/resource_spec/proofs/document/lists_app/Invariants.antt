@@ -1,5 +1,5 @@
 use Rattle.std.proofs.Common.{◌≡◌}
-use Rattle.std.specs.Prelude.{IfSome, length}
+use Rattle.std.specs.Prelude.{IfSome}
 use Rattle.yaml_subset.specs.Trees.{Trees}
 use Rattle.yaml_subset.specs.Docs.{IsPart, IsFirst, parts_left}
 use Rattle.resource_spec.specs.Document.{names_app}

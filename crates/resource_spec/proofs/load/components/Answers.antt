@@ -1,4 +1,4 @@
-use Rattle.std.proofs.Common.{◌≡◌, ◌+◌, ◌∙◌, ap, arith, refl}
+use Rattle.std.proofs.Common.{◌≡◌, ◌∙◌, ap, arith, refl}
 use Rattle.yaml_subset.specs.Trees.{Trees, none, tree}
 use Rattle.yaml_subset.specs.Docs.{count_of}
 use Rattle.resource_spec.specs.Load.{loaded}

@@ -1,5 +1,5 @@
-use Rattle.std.proofs.Common.{◌∙◌, ap, sym, cond, Some, List, ℕ}
-use Rattle.std.specs.Prelude.{bytes_eq, map, String}
+use Rattle.std.proofs.Common.{◌∙◌, ap, sym, cond, Some}
+use Rattle.std.specs.Prelude.{bytes_eq, map}
 use Rattle.std.specs.String.{string_bytes}
 use Rattle.std.proofs.lemmas.Map.Text.{btree_map_updates_text}
 use Rattle.policy_spec.specs.Named.{under, put_under}
