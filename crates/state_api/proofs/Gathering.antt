@@ -1,7 +1,6 @@
 -- The values of a row, read one after the other.
 use Rattle.std.proofs.Common.{◌≡◌, ◌≢◌, ℕ, suc, ◌-◌, List, [], ◌∷◌, ◌++◌, Option, Some, None, refl, sym, ap, ◌∙◌, subst}
 use Rattle.std.specs.Prelude.{MatchOption, Result, Ok, Err}
-use Rattle.json_text.specs.declared.spot.Spot.{Spot}
 use Rattle.json_text.specs.declared.doc.Doc.{Doc}
 use Rattle.json_text.specs.declared.doc.Node.{Node}
 use Rattle.json_text.specs.Forest.{Forest, empty, grows}

@@ -1,5 +1,5 @@
 -- Whether of each name the last member is a text, by the list of the last members.
-use Rattle.std.proofs.Common.{◌≡◌, inl, inr, ℕ, zero, suc, ◌<◌, Bool, true, false, cond, ◌&&◌, ◌||◌, not, List, [], ◌∷◌, length, get_or, map, Option, Some, None, refl, sym, ap, subst, ◌∙◌, arith}
+use Rattle.std.proofs.Common.{◌≡◌, inl, inr, ℕ, zero, suc, ◌<◌, Bool, true, false, cond, ◌&&◌, ◌||◌, not, List, [], ◌∷◌, length, get_or, Option, Some, None, refl, sym, ap, subst, ◌∙◌, arith}
 use Rattle.std.specs.Prelude.{MatchOption, is_none}
 use Rattle.std.specs.Str.{bytes_eq}
 use Rattle.std.specs.Ordering.{nat_cmp, is_eq}
@@ -9,7 +9,6 @@ use Rattle.std.specs.List.{AllByRecursion}
 use Rattle.std.specs.List.Sorted.{IsStrictlySortedBy}
 use Rattle.std.proofs.lemmas.Map.Text.{is_eq-slice_cmp}
 use Rattle.std.proofs.lemmas.Slice.Eq.{bytes_eq-Decides}
-use Rattle.json_text.specs.declared.kind.Kind.{Kind}
 use Rattle.json_text.specs.declared.spot.Span.{Span}
 use Rattle.json_text.specs.declared.spot.Spot.{Spot}
 use Rattle.json_text.specs.declared.doc.Doc.{Doc}
@@ -22,7 +21,7 @@ use Rattle.std.proofs.Math.Logic.{∥∥₁_elim}
 use Rattle.std.proofs.Math.Bridge.{le_prop}
 use Rattle.json_text.specs.Visits.{HasValue}
 use Rattle.json_text.specs.LastMembers.{named as member_named, names_of, AreLastMembers}
-use Rattle.state_api.specs.Values.{Value, IsAt, IsTextAt, AreTextsAt, AreNodes, values_in, has_name, last_named, or_else, is_text, is_last, are_texts}
+use Rattle.state_api.specs.Values.{Value, AreTextsAt, AreNodes, values_in, has_name, last_named, or_else, is_text, is_last, are_texts}
 use Rattle.state_api.proofs.Members.{not_true, false_true, none_some, tail_last, none_last}
 
 -- ---- tails

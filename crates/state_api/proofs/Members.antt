@@ -1,7 +1,6 @@
 -- The last member of a name.
-use Rattle.std.proofs.Common.{◌≡◌, inl, inr, ℕ, Bool, true, false, cond, List, [], ◌∷◌, Option, Some, None, refl, sym, ap, subst, ◌∙◌}
+use Rattle.std.proofs.Common.{◌≡◌, inl, inr, ℕ, Bool, true, false, cond, List, Option, Some, None, refl, sym, ap, subst, ◌∙◌}
 use Rattle.std.specs.Prelude.{MatchOption}
-use Rattle.std.specs.Str.{bytes_eq}
 use Rattle.std.proofs.lemmas.Slice.Eq.{bytes_eq-Decides}
 use Rattle.json_text.specs.declared.spot.Span.{Span}
 use Rattle.json_text.specs.declared.spot.Spot.{Spot}
@@ -10,7 +9,7 @@ use Rattle.json_text.specs.declared.doc.Node.{Node}
 use Rattle.json_text.specs.Forest.{Forest, empty, grows}
 use Rattle.json_text.specs.Unescape.{unescaped, content, HasName}
 use Rattle.json_text.specs.Doc.{bytes_read, NoneNamed, IsTailOf, IsLastNamed}
-use Rattle.state_api.specs.Values.{Value, AreAt, values_in, has_name, last_named, or_else}
+use Rattle.state_api.specs.Values.{AreAt, values_in, has_name, last_named, or_else}
 
 pub none_some : {A : Type 0} (x : A) (B : Type 0) → None ≡ Some x → B
 none_some x B h = let bad : ⊥ = cc in absurd bad

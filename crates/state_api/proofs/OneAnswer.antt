@@ -1,6 +1,6 @@
 -- A body means one answer.
-use Rattle.std.proofs.Common.{◌≡◌, inl, inr, ℕ, suc, ◌<◌, ◌≤◌, ◌+◌, Bool, true, false, ◌&&◌, ◌||◌, List, length, take, get_or, refl, sym, ap, ◌∙◌, subst, arith}
-use Rattle.std.specs.Prelude.{Result, Ok, Err}
+use Rattle.std.proofs.Common.{◌≡◌, inl, inr, ℕ, suc, ◌<◌, ◌≤◌, ◌+◌, Bool, false, List, length, take, sym, ap, ◌∙◌, arith}
+use Rattle.std.specs.Prelude.{Result, Err}
 use Rattle.std.proofs.lemmas.Bool.{cases_lt}
 use Rattle.std.proofs.lemmas.List.{get_or_past, take_all}
 use Rattle.side_base.specs.declared.message.Request.{Request}
@@ -8,11 +8,10 @@ use Rattle.api_routes.specs.declared.route.Route.{Route}
 use Rattle.api_routes.specs.declared.route.Route.TheVariants as route
 use Rattle.state_core.specs.declared.command.Prefix.{Prefix}
 use Rattle.state_core.specs.declared.command.Cmd.{Cmd}
-use Rattle.json_text.specs.declared.spot.Spot.{Spot}
 use Rattle.json_text.specs.Forest.{Forest, empty, grows}
 use Rattle.json_text.specs.Grammar.{IsText}
 use Rattle.json_text.specs.Progress.{after}
-use Rattle.json_text.specs.Faults.{IsBad, dead, short, lone, IsDeep, IsClean, IsFirstBad, IsFirstDeep, IsLoneAt, is_lone, is_numbered, open_count}
+use Rattle.json_text.specs.Faults.{IsBad, dead, short, lone, IsDeep, IsFirstBad, IsFirstDeep, is_lone, is_numbered, open_count}
 use Rattle.state_api.specs.declared.what.What.{What}
 use Rattle.state_api.specs.declared.what.What.TheVariants.{Json}
 use Rattle.state_api.specs.Values.{Value}

@@ -10,12 +10,10 @@ use Rattle.json_text.specs.declared.spot.Spot.{Spot}
 use Rattle.json_text.specs.Grammar.{IsText}
 use Rattle.json_text.specs.Faults.{IsClean, IsFirstBad, IsFirstDeep}
 use Rattle.side_base.specs.declared.message.Request.{Request}
-use Rattle.side_base.specs.declared.message.Field.{Field}
 use Rattle.side_base.specs.Field.{first_value}
 use Rattle.api_routes.specs.declared.route.Route.{Route}
 use Rattle.api_routes.specs.declared.route.Route.TheVariants as route
 use Rattle.state_core.specs.declared.command.Prefix.{Prefix}
-use Rattle.state_core.specs.declared.command.Mode.{Mode}
 use Rattle.state_core.specs.declared.command.Item.{Item}
 use Rattle.state_core.specs.declared.command.Op.{Op}
 use Rattle.state_core.specs.declared.command.Op.TheVariants.{Upsert, Remove}

@@ -6,7 +6,7 @@ use Rattle.state_api.specs.declared.what.What.TheVariants.{Shape}
 use Rattle.state_api.specs.declared.raw.RawItem.{RawItem}
 use Rattle.state_api.specs.declared.raw.RawOp.{RawOp}
 use Rattle.state_api.specs.Given.{followed, provided, each}
-use Rattle.state_api.specs.Values.{Value, held_in, last_named, member, is_list, is_map, are_texts, text_of, needed, optional}
+use Rattle.state_api.specs.Values.{Value, held_in, last_named, member, is_list, is_map, are_texts, needed, optional}
 
 -- ---- an item
 

@@ -1,6 +1,5 @@
-use Rattle.std.proofs.Common.{refl, sym, ap, subst, ◌∙◌, Ok}
 use Rattle.std.proofs.lemmas.Result.{err_from_is_err_and}
-use Rattle.state_api.proofs.Following.{went, went_on, stopped, held, held_on, failed}
+use Rattle.state_api.proofs.Following.{went, went_on, stopped}
 use Rattle.state_api.proofs.asking.item_of.Goals as goal
 
 pub returns-in_err-key-clause-gives : goal.returns-in_err-key-clause-gives

@@ -1,6 +1,6 @@
-use Rattle.std.proofs.Common.{refl, sym, ap, subst, ◌∙◌, Ok}
+use Rattle.std.proofs.Common.{sym, subst}
 use Rattle.std.proofs.lemmas.Result.{err_from_is_err_and}
-use Rattle.state_api.proofs.Following.{went, went_on, stopped, held, held_on, failed}
+use Rattle.state_api.proofs.Following.{went, went_on, stopped}
 use Rattle.state_core.specs.Taken.{HasTtl}
 use Rattle.state_api.proofs.Wording.{op_fine}
 use Rattle.state_api.proofs.asking.op_of.Goals as goal

@@ -1,6 +1,6 @@
-use Rattle.std.proofs.Common.{refl, sym, ap, subst, ◌∙◌, Ok}
+use Rattle.std.proofs.Common.{ap, subst, ◌∙◌, Ok}
 use Rattle.std.proofs.lemmas.Result.{err_from_is_err_and}
-use Rattle.state_api.proofs.Following.{went, went_on, stopped, held, held_on, failed}
+use Rattle.state_api.proofs.Following.{went, went_on, stopped}
 use Rattle.std.proofs.Common.{◌≡◌, Err, ℕ, List, Option}
 use Rattle.state_core.specs.declared.command.Mode.{Mode}
 use Rattle.state_api.specs.Given.{Gives}

@@ -1,5 +1,4 @@
-use Rattle.std.proofs.Common.{refl, ap, sym, ◌∙◌, Ok, Some, Err}
-use Rattle.state_api.specs.declared.what.What.TheVariants.{Shape}
+use Rattle.std.proofs.Common.{ap, sym, ◌∙◌, Ok, Some, Err}
 use Rattle.std.specs.Option.{option_copied}
 use Rattle.state_api.specs.Asked.{field_text}
 use Rattle.std.proofs.lemmas.Str.{is_utf8-from_IsUtf8, IsUtf8-from_is_utf8}

@@ -1,6 +1,5 @@
-use Rattle.std.proofs.Common.{◌≡◌, ◌<◌, ◌≤◌, Err, List, refl, sym, subst, ap, ◌∙◌, [], ◌∷◌, ◌++◌, arith, length, nat_le, true, false}
+use Rattle.std.proofs.Common.{◌≡◌, ◌<◌, ◌≤◌, Err, List, refl, sym, subst, ap, ◌∙◌, [], ◌∷◌, arith, length}
 use Rattle.std.specs.Prelude.{All}
-use Rattle.std.proofs.lemmas.Bool.Decides.{nat_tests}
 use Rattle.std.proofs.lemmas.List.Elements.{All-append}
 use Rattle.state_api.specs.Given.{Gives, each}
 use Rattle.state_api.proofs.Following.{held, held_err, failed, joined, joined_start, joined_next, joined_stop, joined_end, all_one, all_none, few_more, few_enough}

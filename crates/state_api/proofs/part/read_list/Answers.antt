@@ -1,4 +1,4 @@
-use Rattle.std.proofs.Common.{sym, subst, ◌∙◌, Some, None}
+use Rattle.std.proofs.Common.{sym, subst, ◌∙◌}
 use Rattle.json_text.specs.Doc.{bytes_read}
 use Rattle.state_api.proofs.Following.{held, held_err, failed}
 use Rattle.state_api.proofs.Gathering.{Gathered, gathered_start, gathered_next, gathered_stop, gathered_end}

@@ -1,4 +1,4 @@
-use Rattle.std.proofs.Common.{sym, ◌∙◌, Some, None, refl}
+use Rattle.std.proofs.Common.{sym, ◌∙◌, refl}
 use Rattle.json_text.specs.Doc.{bytes_read}
 use Rattle.state_api.specs.declared.what.What.TheVariants.{Shape}
 use Rattle.state_api.specs.Given.{Gives}

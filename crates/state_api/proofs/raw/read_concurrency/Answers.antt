@@ -1,6 +1,5 @@
-use Rattle.std.proofs.Common.{refl, sym, ◌∙◌, Err, List, ℕ, Option}
+use Rattle.std.proofs.Common.{sym, ◌∙◌}
 use Rattle.json_text.specs.Doc.{bytes_read}
-use Rattle.state_api.specs.declared.what.What.TheVariants.{Shape}
 use Rattle.state_api.specs.Given.{Gives}
 use Rattle.state_api.specs.Raw.{concurrency_in}
 use Rattle.state_api.proofs.Nodes.{at_some}

@@ -1,4 +1,4 @@
-use Rattle.std.proofs.Common.{refl, sym, ap, subst, ◌∙◌, Ok}
+use Rattle.std.proofs.Common.{refl, sym, ◌∙◌}
 use Rattle.std.proofs.lemmas.Result.{err_from_is_err_and}
 use Rattle.state_api.proofs.Following.{went, went_on, stopped, held, held_err, failed}
 use Rattle.state_api.proofs.raw.read_op.Goals as goal

@@ -1,8 +1,6 @@
-use Rattle.std.proofs.Common.{◌≡◌, true, false, refl, sym, ◌∙◌, Ok, Err, List, ℕ, Option}
+use Rattle.std.proofs.Common.{sym, ◌∙◌, Err, List, ℕ, Option}
 use Rattle.json_text.specs.Doc.{bytes_read}
-use Rattle.state_api.specs.declared.what.What.TheVariants.{Shape}
 use Rattle.state_api.specs.Given.{Gives}
-use Rattle.state_api.specs.Values.{are_texts, held_in}
 use Rattle.state_api.specs.Raw.{ttl_text_in}
 use Rattle.state_api.proofs.Nodes.{at_some}
 use Rattle.state_api.proofs.Following.{held, held_on, failed, in_ok, of_ok}

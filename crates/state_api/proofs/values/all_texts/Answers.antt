@@ -1,8 +1,8 @@
-use Rattle.std.proofs.Common.{◌≡◌, ℕ, ◌<◌, true, false, length, get_or, sym, subst, ◌∙◌, ap, arith}
+use Rattle.std.proofs.Common.{◌<◌, length, sym, subst, ◌∙◌, arith}
 use Rattle.std.proofs.Common.{below_more}
 use Rattle.std.proofs.lemmas.List.{get_or_default}
 use Rattle.json_text.specs.declared.last.Member.{Member}
-use Rattle.state_api.specs.Values.{IsTextAt, IsAt, Value}
+use Rattle.state_api.specs.Values.{IsAt}
 use Rattle.state_api.proofs.values.all_texts.Goals as goal
 
 pub loop-i-preserved : goal.loop-i-preserved

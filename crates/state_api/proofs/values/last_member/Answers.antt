@@ -1,4 +1,3 @@
-use Rattle.json_text.specs.Doc.{IsLastNamed}
 use Rattle.state_api.proofs.Nodes.{at_node}
 use Rattle.state_api.proofs.Members.{last_is}
 use Rattle.state_api.proofs.values.last_member.Goals as goal

@@ -1,8 +1,7 @@
 use Rattle.state_api.specs.Given.{Gives}
 use Rattle.state_api.specs.Values.{needed}
 use Rattle.json_text.specs.Doc.{bytes_read}
-use Rattle.state_api.proofs.Nodes.{at_some, at_none}
-use Rattle.std.proofs.Common.{refl}
+use Rattle.state_api.proofs.Nodes.{at_some}
 use Rattle.state_api.proofs.values.needed.Goals as goal
 
 pub returns-in-Some : goal.returns-in-Some

@@ -1,5 +1,5 @@
-use Rattle.std.proofs.Common.{ap, sym, ◌∙◌, subst, cond, Option, Some, None}
-use Rattle.state_api.specs.Values.{Value, AreAt, IsAt, is_null, unless_null}
+use Rattle.std.proofs.Common.{ap, sym, ◌∙◌, subst, cond, Some, None}
+use Rattle.state_api.specs.Values.{AreAt, is_null, unless_null}
 use Rattle.state_api.proofs.Nodes.{at_node, at_some}
 use Rattle.state_api.proofs.values.unless_null.Goals as goal
 
