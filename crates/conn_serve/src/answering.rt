@@ -1,4 +1,4 @@
-ghost use Rattle.std.specs.Prelude.{◌≡◌, ◌⊎◌, ◌++◌, ℕ, List, None, Some, Result, Ok, Err};
+ghost use Rattle.std.specs.Prelude.{◌≡◌, ◌<◌, ◌⊎◌, ◌++◌, ℕ, List, length, None, Some, Result, Ok, Err};
 ghost use Rattle.http.specs.StatusCode.{IsStatusCode};
 ghost use Rattle.side_base.specs.declared.message.Response.{Response as ResponseRecord};
 ghost use Rattle.turn_cell.specs.declared.error.ApiErr.{ApiErr as ApiErrRecord};
@@ -80,7 +80,8 @@ fn go_on<N: Sink>(stop: Option<Ended>, out: &mut Blob, sink: &mut N) -> Option<E
 
 /// Sends what is gathered where it is much.
 fn make_room<N: Sink>(out: &mut Blob, sink: &mut N) -> Option<Ended>
-    ensures { ((result ≡ None) × Passed out.old out.new (sink_at N.Sink sink.old) (sink_at N.Sink sink.new)) ⊎ ((result ≡ Some Ended.SinkFailed) × Cut out.old (sink_at N.Sink sink.old) (sink_at N.Sink sink.new)) }
+    ensures went { ((result ≡ None) × Passed out.old out.new (sink_at N.Sink sink.old) (sink_at N.Sink sink.new)) ⊎ ((result ≡ Some Ended.SinkFailed) × Cut out.old (sink_at N.Sink sink.old) (sink_at N.Sink sink.new)) }
+    ensures room { result ≡ None → length out.new < 65536 }
 {
     if out.len() < GATHERED {
         return None;
