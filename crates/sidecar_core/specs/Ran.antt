@@ -1,5 +1,8 @@
 -- A state call over the objects: the events of its attempts, at the places of its store and its breaker.
-use Rattle.std.specs.Prelude.{◌≡◌, ℕ, List, map, Result, unwrap_or}
+use Rattle.std.specs.Prelude.{◌≡◌, ◌⊎◌, ℕ, List, map, Option, Some, Result, unwrap_or}
+use mathlib.Core.Option.{some}
+use lib.ListN.{get_elem?}
+use Rattle.turn_cell.specs.Sitting.{Sitting}
 use Rattle.turn_cell.specs.declared.error.ApiErr.{ApiErr}
 use Rattle.retry_core.specs.declared.policy.Bound.{Bound}
 use Rattle.state_core.specs.declared.command.Cmd.{Cmd}
@@ -20,3 +23,11 @@ pub record StoreRan (place : ℕ) (bound : Bound) (cmd : Cmd) (events : List Doi
   pub made : Attempts bound (λ limit. Makes cmd) outcome attempts
   pub ran : result ≡ ran_of outcome
   pub whole : events ≡ map (placed place (unwrap_or bound.breaker 0)) attempts
+
+-- the seat at this place shows this count of an exhausted cell
+abbrev pub ShowsAt : {O C R : Type 0} → ℕ → ℕ → List (Sitting O C R) → Type 0
+ShowsAt {O} {C} {R} k count seats = (seat : Sitting O C R) × (get_elem? seats k ≡ some seat) × (seat.count ≡ Some count)
+
+-- the seat of the store at this place shows the count, or that of the breaker that is bound
+abbrev pub IsShown : {O C R O' C' R' : Type 0} → ℕ → Bound → List (Sitting O C R) → List (Sitting O' C' R') → ℕ → Type 0
+IsShown place bound stores breakers count = ShowsAt place count stores ⊎ ((k : ℕ) × (bound.breaker ≡ Some k) × ShowsAt k count breakers)

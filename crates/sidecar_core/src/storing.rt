@@ -14,11 +14,12 @@ ghost use Rattle.policy_run.specs.Effects.{Effects, clocked};
 ghost use Rattle.policy_run.specs.Attempts.{Attempts};
 ghost use Rattle.policy_run.specs.declared.outcome.Outcome.{Outcome as OutcomeOf};
 ghost use Rattle.state_api.specs.declared.call.StateAnswer.{StateAnswer as AnswerData};
+ghost use Rattle.state_api.specs.Moment.{IsSame};
 ghost use Rattle.state_api.specs.Call.{Makes};
 ghost use Rattle.state_api.specs.Ran.{ran_of, IsAnswer};
 ghost use Rattle.sidecar_core.specs.Doing.{Doing};
 ghost use Rattle.sidecar_core.specs.Did.{Did};
-ghost use Rattle.sidecar_core.specs.Ran.{StoreRan};
+ghost use Rattle.sidecar_core.specs.Ran.{StoreRan, IsShown};
 
 use crate::{Objects, Pass};
 use breaker_core::Breaker;
@@ -54,6 +55,8 @@ pub fn run_store<K: Keeper, C: Clock, R: Rng, W: Wait>(
     requires taken { IsTaken cmd.old }
     ensures ran { (events : List Doing) × StoreRan place bound.now cmd.old events result × ((calls : Option (List LinkCall)) → Did (record { store = ⟦<Store<K> as Object>⟧; ledger = ⟦<Ledger as Object>⟧; breaker = ⟦<Breaker as Object>⟧; notes = ⟦<Notes as Object>⟧ }) (record { stores = objects.now.stores.items; ledgers = objects.now.ledgers.items; breakers = objects.now.breakers.items; notes = objects.now.notes }) (record { stores = pass.old.stores.items; ledgers = pass.old.ledgers.items; breakers = pass.old.breakers.items; notes = pass.old.notes }) events (record { stores = pass.new.stores.items; ledgers = pass.new.ledgers.items; breakers = pass.new.breakers.items; notes = pass.new.notes }) (clocked C.Clock clock.old) (clocked C.Clock clock.new) calls calls (λ ws. Drawn next_u64 (R.stream rng.old) ws (R.stream rng.new))) }
     ensures answer { IfOk result (IsAnswer cmd.old) }
+    ensures same { IsSame cmd.old cmd.new }
+    ensures shows { (count : ℕ) → result ≡ Err (ApiErr.Exhausted count) → IsShown place bound.now pass.new.stores.items pass.new.breakers.items count }
 {
     match bound.breaker {
         None => plain(
@@ -95,6 +98,7 @@ fn plain<K: Keeper, C: Clock, R: Rng, W: Wait>(
     requires taken { IsTaken cmd.old }
     ensures ran { (events : List (Event Step)) × (outcome : OutcomeOf AnswerData (Unit {0})) × Attempts bound.now (λ limit. Makes cmd.old) outcome events × (result ≡ ran_of outcome) × Effects events (λ xs. Grew ⟦<Store<K> as Object>⟧ cell.now.first seat.old xs seat.new) (λ xs. xs ≡ []) (clocked C.Clock clock.old) (clocked C.Clock clock.new) (λ ws. Drawn next_u64 (R.stream rng.old) ws (R.stream rng.new)) }
     ensures answer { IfOk result (IsAnswer cmd.old) }
+    ensures same { IsSame cmd.old cmd.new }
     ensures shows { (count : ℕ) → result ≡ Err (ApiErr.Exhausted count) → seat.new.count ≡ Some count }
 {
     run(rt, cmd, cell, seat, bound, &mut NoBreaker, clock, rng)
@@ -119,6 +123,7 @@ fn gated<K: Keeper, C: Clock, R: Rng, W: Wait>(
     requires taken { IsTaken cmd.old }
     ensures ran { (events : List (Event Step)) × (outcome : OutcomeOf AnswerData (Unit {0})) × Attempts bound.now (λ limit. Makes cmd.old) outcome events × (result ≡ ran_of outcome) × Effects events (λ xs. Grew ⟦<Store<K> as Object>⟧ cell.now.first seat.old xs seat.new) (λ xs. Grew ⟦<Breaker as Object>⟧ gate.now.first key.old xs key.new) (clocked C.Clock clock.old) (clocked C.Clock clock.new) (λ ws. Drawn next_u64 (R.stream rng.old) ws (R.stream rng.new)) }
     ensures answer { IfOk result (IsAnswer cmd.old) }
+    ensures same { IsSame cmd.old cmd.new }
     ensures shows { (count : ℕ) → result ≡ Err (ApiErr.Exhausted count) → (key.new.count ≡ Some count) ⊎ (seat.new.count ≡ Some count) }
 {
     let mut guard = BreakerAt {

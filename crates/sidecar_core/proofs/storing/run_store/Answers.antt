@@ -1,5 +1,5 @@
-use Rattle.std.proofs.Common.{arith}
-use Rattle.atomic_table.proofs.Lists.{at_index}
+use Rattle.std.proofs.Common.{Some, arith, inl, inr, ⊎_elim, ◌≡◌}
+use Rattle.atomic_table.proofs.Lists.{at_index, set_here}
 use Rattle.sidecar_core.proofs.Doings.{did_plainly, did_gated_at, placed_as, within}
 use Rattle.sidecar_core.proofs.storing.run_store.Goals as goal
 
@@ -41,3 +41,12 @@ returns-in-Some-clause-ran g c = let r = c.gated.ensures.ran in let low = within
       (at_index c.args.pass.now.breakers.items c.in-Some.k c.index_mut-in-Some-2.result.now (omega (arith, low, c.requires.breakers.wide)) c.index_mut-in-Some-2.ensures.value)
       r.0 r.4,
 )
+
+pub returns-in-None-clause-shows : goal.returns-in-None-clause-shows
+returns-in-None-clause-shows g c = λ count is. inl (c.plain.new.seat, set_here c.args.pass.now.stores.items c.args.place c.plain.new.seat (omega (arith, c.requires.place, c.requires.stores.wide)), c.plain.ensures.shows count is)
+
+pub returns-in-Some-clause-shows : goal.returns-in-Some-clause-shows
+returns-in-Some-clause-shows g c = λ count is. let low = within c.args.bound.now.breaker c.in-Some.k c.in-Some.is c.requires.breaker in ⊎_elim
+    (λ (h : c.gated.new.key.count ≡ Some count). inr (c.in-Some.k, c.in-Some.is, (c.gated.new.key, set_here c.args.pass.now.breakers.items c.in-Some.k c.gated.new.key (omega (arith, low, c.requires.breakers.wide)), h)))
+    (λ (h : c.gated.new.seat.count ≡ Some count). inl (c.gated.new.seat, set_here c.args.pass.now.stores.items c.args.place c.gated.new.seat (omega (arith, c.requires.place, c.requires.stores.wide)), h))
+    (c.gated.ensures.shows count is)
