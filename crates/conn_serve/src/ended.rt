@@ -15,7 +15,7 @@ pub enum Ended {
     Refused(FrameErr),
     /// The request that is the last one of a connection, the 100,000th, was answered.
     Limit,
-    /// A cell has no ticket left; `count` was read in it, and a response that says so was sent.
+    /// A cell has no ticket left; `count` was read in it, and a response that says so, or the one that takes no memory, was sent.
     Spent { count: u64 },
     /// A read failed: the source's count of faults rose.
     SourceFailed,

@@ -21,6 +21,7 @@ impl Model for Millis {
 }
 
 impl Millis {
+    /// `count` milliseconds, at most a year of them.
     pub fn new(count: u64) -> Millis
         requires { count ≤ 31536000000 }
         ensures { result ≡ count }
@@ -28,6 +29,7 @@ impl Millis {
         Millis { count }
     }
 
+    /// How many milliseconds.
     pub fn count(self) -> u64
         ensures exact { result ≡ self }
         ensures within { result ≤ 31536000000 }
