@@ -2,3 +2,4 @@ pub mod Found
 pub mod Said
 pub mod Sound
 pub mod Refused
+pub mod Joined

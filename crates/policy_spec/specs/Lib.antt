@@ -4,3 +4,4 @@ pub mod Readers
 pub mod Policy
 pub mod Resiliency
 pub mod Shown
+pub mod Join

@@ -1,12 +1,14 @@
 -- What resiliency documents bind to which targets.
 use Rattle.std.specs.Prelude.{ℕ, ◌<◌, List, length, Option, None, unwrap_or}
+use Rattle.std.specs.List.{All}
 use Rattle.std.specs.Option.{ForSome}
 use Rattle.retry_core.specs.declared.policy.Bound.{Bound}
 use Rattle.retry_core.specs.declared.policy.BreakerPolicy.{BreakerPolicy}
 use Rattle.retry_core.specs.Bound.{IsWithinLimit}
+use Rattle.retry_core.specs.BreakerPolicy.{IsWithinLimit as IsBreakerWithinLimit}
 use Rattle.policy_spec.specs.declared.target.Target.{Target}
 use Rattle.policy_spec.specs.declared.target.Target.TheVariants as targets
-use Rattle.policy_spec.specs.Named.{under}
+use Rattle.policy_spec.specs.Named.{under, AreNames}
 
 -- whose calls something is bound to: an app's, those that are sent to a component, or those that come from one
 pub data Aim : Type 0 where
@@ -44,5 +46,14 @@ pub record IsBoundWithin (count : ℕ) (bound : Bound) : Type 0 where
   pub limit : IsWithinLimit bound
   pub place : ForSome bound.breaker (λ place. place < count)
 
-abbrev pub IsSound : Binding → Type 0
-IsSound policies = (aim : Aim) → ForSome (named_bound policies aim) (IsBoundWithin (length policies.breakers))
+-- no app is named twice, and no component in one direction
+pub record AreNamedOnce (policies : Binding) : Type 0 where
+  pub apps : AreNames policies.apps
+  pub outbound : AreNames policies.outbound
+  pub inbound : AreNames policies.inbound
+
+-- targets are named once, what is bound is within its limits, its breaker one of the list, and so is each breaker's policy
+pub record IsSound (policies : Binding) : Type 0 where
+  pub bounds : (aim : Aim) → ForSome (named_bound policies aim) (IsBoundWithin (length policies.breakers))
+  pub names : AreNamedOnce policies
+  pub limits : All IsBreakerWithinLimit policies.breakers

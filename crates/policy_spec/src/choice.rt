@@ -2,6 +2,7 @@
 ghost use Rattle.std.specs.Prelude.{◌≡◌, ◌≤◌, if◌then◌else◌};
 ghost use Rattle.std.specs.Option.{ForSome};
 ghost use Rattle.retry_core.specs.RetryPolicy.{IsWithinLimit as IsRetryWithinLimit};
+ghost use Rattle.retry_core.specs.BreakerPolicy.{IsWithinLimit as IsBreakerWithinLimit};
 ghost use Rattle.retry_core.specs.Bound.{IsWithinLimit};
 ghost use Rattle.policy_spec.specs.Resiliency.{timeout_of, retry_of, breaker_of, bound_for};
 
@@ -73,7 +74,8 @@ fn retry_policy(policy: Option<Policy>) -> Option<RetryPolicy>
 }
 
 fn breaker_policy(policy: Option<Policy>) -> Option<BreakerPolicy>
-    ensures { result ≡ breaker_of policy }
+    ensures exact { result ≡ breaker_of policy }
+    ensures within { ForSome result IsBreakerWithinLimit }
 {
     match policy {
         Some(policy) => match policy {
@@ -100,6 +102,7 @@ pub(crate) fn bound_of(choice: Choice, place: u32) -> (Bound, Option<BreakerPoli
     ensures exact { result.0 ≡ bound_for place choice }
     ensures breaker { result.1 ≡ breaker_of choice.breaker }
     ensures within { IsWithinLimit result.0 }
+    ensures limit { ForSome result.1 IsBreakerWithinLimit }
 {
     let policy = breaker_policy(choice.breaker);
     let breaker = match policy {

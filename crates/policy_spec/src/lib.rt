@@ -2,6 +2,7 @@
 #![tactic(auto)]
 
 mod choice;
+mod joining;
 mod load;
 mod millis;
 mod named;
@@ -14,6 +15,7 @@ mod target;
 #[cfg(test)]
 mod tests;
 
+pub use joining::join;
 pub use load::policies;
 pub use policy_err::PolicyErr;
 pub use policy_list::{BreakerPolicies, Policies, bind, breakers};

@@ -1,7 +1,8 @@
 ghost use Rattle.std.specs.String.{string_bytes};
-ghost use Rattle.std.specs.Prelude.{◌≡◌, [], OnOk, OnErr, Some, ℕ, List, if◌then◌else◌, bytes_eq};
-ghost use Rattle.policy_spec.specs.Named.{under, put_under};
+ghost use Rattle.std.specs.Prelude.{◌≡◌, [], ◌∷◌, OnOk, OnErr, IfOk, IfSome, IfNone, Some, None, ℕ, List, if◌then◌else◌, bytes_eq};
+ghost use Rattle.policy_spec.specs.Named.{under, put_under, AreNames};
 
+use retry_core::Bound;
 use side_base::NoMemory;
 use std::alloc::Global;
 use std::collections::BTreeMap;
@@ -45,13 +46,35 @@ impl<V: Copy + Drop> Named<V> {
         }
     }
 
+    /// Takes off the first name, with what stands under it. Takes no memory.
+    pub fn take_first(&mut self) -> Option<(String, V)>
+        ensures first { IfSome result (λ e. self.old ≡ (string_bytes e.0, e.1) ∷ self.new) }
+        ensures apart { IfSome result (λ e. under (string_bytes e.0) self.new ≡ None) }
+        ensures none { IfNone result (self.old ≡ []) }
+    {
+        self.tree.pop_first()
+    }
+
     /// Puts something under a name, in place of what stood there; without memory all stays as it was.
     pub fn put(&mut self, name: String, value: V) -> Result<(), NoMemory>
         ensures ok { OnOk result (self.new ≡ put_under self.old (string_bytes name) value) }
         ensures found { OnOk result ((other : List ℕ) → under other self.new ≡ (if bytes_eq (string_bytes name) other then Some value else under other self.old)) }
+        ensures names { AreNames self.new }
         ensures err { OnErr result (self.new ≡ self.old) }
     {
         self.tree.insert(name, value)?;
         Ok(())
+    }
+}
+
+impl Named<Bound> {
+    /// A copy of what is bound to names.
+    pub fn copy(&self) -> Result<Self, NoMemory>
+        ensures same { IfOk result (λ copy. copy ≡ self.now) }
+        ensures names { AreNames self.now }
+    {
+        Ok(Named {
+            tree: self.tree.clone()?,
+        })
     }
 }

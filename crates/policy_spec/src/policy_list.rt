@@ -1,9 +1,11 @@
 ghost use Rattle.std.specs.Prelude.{◌≡◌, ◌⊎◌, ◌++◌, ℕ, List, [], Some, length, is_some, option_to_list, OnOk, OnErr};
 ghost use Rattle.std.specs.String.{string_bytes};
-ghost use Rattle.policy_spec.specs.Named.{under, put_under};
+ghost use Rattle.policy_spec.specs.Named.{under, put_under, AreNames};
 ghost use Rattle.policy_spec.specs.Resiliency.{aim_for, with_bound, bound_for, breaker_of, choice_put, IsChange};
+ghost use Rattle.std.specs.List.{All};
 ghost use Rattle.std.specs.Option.{ForSome};
-ghost use Rattle.policy_spec.specs.Policies.{aim_of, named_bound, bound_by, nothing, IsBoundWithin};
+ghost use Rattle.retry_core.specs.BreakerPolicy.{IsWithinLimit};
+ghost use Rattle.policy_spec.specs.Policies.{aim_of, named_bound, bound_by, nothing, IsBoundWithin, IsSound};
 
 use crate::choice::{Choice, Side, bound_of};
 use crate::named::Named;
@@ -18,7 +20,7 @@ use std::marker::Model;
 pub type BreakerPolicies = Sequence<BreakerPolicy>;
 
 /// What is bound to targets. Contracts see it as a record of what is bound to apps, outbound and inbound, by name, and the list
-/// of breakers. What is bound has its durations within their limit, and its breaker in that list.
+/// of breakers. What is bound has its durations within their limit, and its breaker in that list; so have the breakers theirs.
 #[derive(Drop)]
 pub struct Policies {
     pub(crate) apps: Named<Bound>,
@@ -131,6 +133,7 @@ fn push_breaker(
 // Binds this to a name.
 fn put_bound(table: &mut Named<Bound>, name: String, bound: Bound) -> Result<(), NoMemory>
     ensures ok { OnOk result (table.new ≡ put_under table.old (string_bytes name) bound) }
+    ensures names { AreNames table.new }
     ensures kept { (other : List ℕ) (x : Bound) → under other table.new ≡ Some x → (under other table.old ≡ Some x) ⊎ (x ≡ bound) }
 {
     table.put(name, bound)
@@ -159,7 +162,9 @@ pub fn bind(policies: &Policies, target: &Target<'_>) -> Bound
 
 /// The breakers, one for each target that names one: what a bound's `breaker` counts in.
 pub fn breakers(policies: &Policies) -> &BreakerPolicies
-    ensures { result.now ≡ policies.now.breakers }
+    ensures exact { result.now ≡ policies.now.breakers }
+    ensures within { All IsWithinLimit policies.now.breakers }
+    ensures sound { IsSound policies.now }
 {
     &policies.breakers
 }

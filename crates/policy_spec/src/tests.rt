@@ -1,4 +1,4 @@
-use crate::{Policies, PolicyErr, Target, bind, breakers, policies};
+use crate::{Policies, PolicyErr, Target, bind, breakers, join, policies};
 use retry_core::{Bound, RetryKind};
 use side_base::{NoMemory, Text};
 use std::alloc::Global;
@@ -57,18 +57,84 @@ fn outline(alloc: Global, all: &Policies) -> Result<String, NoMemory> {
     )
 }
 
-fn read_of(alloc: Global, spec: &str) -> Result<String, NoMemory> {
+// What the policies of a file of this text are.
+fn policies_of(alloc: Global, spec: &str) -> Result<Policies, PolicyErr> {
     let app = Text::from_static(alloc, "shop");
-    let file = format!(in alloc;
+    let file = match format!(in alloc;
         "apiVersion: dapr.io/v1alpha1\nkind: Resiliency\nmetadata:\n  name: r\nspec:\n{spec}"
-    )?;
+    ) {
+        Ok(file) => file,
+        Err(_) => return Err(PolicyErr::NoMemory),
+    };
     match read_docs(alloc, file.as_bytes()) {
-        Ok(docs) => match policies(alloc, &docs, &app) {
-            Ok(all) => outline(alloc, &all),
+        Ok(docs) => policies(alloc, &docs, &app),
+        Err(_) => Err(PolicyErr::NoMemory),
+    }
+}
+
+fn read_of(alloc: Global, spec: &str) -> Result<String, NoMemory> {
+    match policies_of(alloc, spec) {
+        Ok(all) => outline(alloc, &all),
+        Err(error) => refusal(alloc, error),
+    }
+}
+
+// Joins the policies of a file of this text, and tells a refusal.
+fn join_file(alloc: Global, all: &mut Policies, spec: &str) -> Result<String, NoMemory> {
+    match policies_of(alloc, spec) {
+        Ok(more) => match join(all, more) {
+            Ok(()) => Ok(String::new(alloc)),
             Err(error) => refusal(alloc, error),
         },
-        Err(_) => String::from_str(alloc, "no file"),
+        Err(error) => refusal(alloc, error),
     }
+}
+
+// The refusals of files of these texts, each joined to those before it, and then what is bound.
+fn joined(alloc: Global, specs: &[&str]) -> Result<String, NoMemory> {
+    let mut all = Policies::new(alloc);
+    let mut told = String::new(alloc);
+    for spec in specs {
+        let refused = join_file(alloc, &mut all, *spec)?;
+        told.push_str(refused.as_str())?;
+        told.push_str("/")?;
+    }
+    told.push_str(outline(alloc, &all)?.as_str())?;
+    Ok(told)
+}
+
+#[test]
+fn several_files(rt: HostRuntime) -> Result<(), Fail> {
+    let outbound =
+        "  policies:\n    circuitBreakers:\n      b:\n  targets:\n    components:\n      c:\n        outbound:\n          circuitBreaker: b\n";
+    let inbound =
+        "  policies:\n    timeouts:\n      t: 1s\n    circuitBreakers:\n      b:\n  targets:\n    components:\n      c:\n        inbound:\n          timeout: t\n          circuitBreaker: b\n";
+    let app = "  targets:\n    apps:\n      c:\n";
+    let alloc = rt.alloc();
+    let table = [
+        (
+            [outbound, inbound, app],
+            "///breaker 0; | timeout 1000;breaker 1; | 2",
+        ),
+        (
+            [inbound, outbound, app],
+            "///breaker 1; | timeout 1000;breaker 0; | 2",
+        ),
+        (
+            [outbound, outbound, inbound],
+            "/Repeated c//breaker 0; | timeout 1000;breaker 1; | 2",
+        ),
+        (
+            [inbound, app, inbound],
+            "//Repeated c/ | timeout 1000;breaker 0; | 1",
+        ),
+        ([app, app, outbound], "/Repeated c//breaker 0; |  | 1"),
+    ];
+    for (specs, expected) in table {
+        let told = joined(alloc, specs.as_slice())?;
+        assert_eq!(rt; told.as_str(), expected);
+    }
+    Ok(())
 }
 
 #[test]

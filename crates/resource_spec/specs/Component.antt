@@ -6,6 +6,13 @@ use Rattle.resource_spec.specs.declared.setting.Setting.{Setting}
 use Rattle.resource_spec.specs.Setting.{setting_named}
 use Rattle.resource_spec.specs.Url.{address_of}
 
+-- the type that documents give a component of a kind
+abbrev pub kind_name : ComponentKind → List ℕ
+kind_name kinds.StateMemory = codes "state.in-memory"
+kind_name kinds.StateJournal = codes "state.journal"
+kind_name kinds.PubsubMemory = codes "pubsub.in-memory"
+kind_name kinds.BindingHttp = codes "bindings.http"
+
 pub record Loaded : Type 0 where
   pub name : List ℕ
   pub kind : ComponentKind

@@ -17,7 +17,7 @@ use Rattle.resource_spec.specs.Setting.{setting_named}
 use Rattle.resource_spec.specs.Url.{Address, address_of}
 use Rattle.resource_spec.specs.Field.{field_at, text_at, asked_at}
 use Rattle.resource_spec.specs.Document.{head_of}
-use Rattle.resource_spec.specs.Component.{Loaded, setting_of}
+use Rattle.resource_spec.specs.Component.{Loaded, kind_name, setting_of}
 
 -- a refusal of a field, in the document of this number
 abbrev pub err_in : ℕ → FieldErr → SpecErr
@@ -29,13 +29,13 @@ abbrev pub in_doc : {T : Type 0} → ℕ → Result T FieldErr → Result T Spec
 in_doc doc (Ok x) = Ok x
 in_doc doc (Err e) = Err (err_in doc e)
 
--- the types, by their names
+-- the kind of component that has this type
 abbrev pub type_named : List ℕ → Option ComponentKind
 type_named name =
-    if bytes_eq name (codes "state.in-memory") then Some kinds.StateMemory
-    else if bytes_eq name (codes "state.journal") then Some kinds.StateJournal
-    else if bytes_eq name (codes "pubsub.in-memory") then Some kinds.PubsubMemory
-    else if bytes_eq name (codes "bindings.http") then Some kinds.BindingHttp
+    if bytes_eq name (kind_name kinds.StateMemory) then Some kinds.StateMemory
+    else if bytes_eq name (kind_name kinds.StateJournal) then Some kinds.StateJournal
+    else if bytes_eq name (kind_name kinds.PubsubMemory) then Some kinds.PubsubMemory
+    else if bytes_eq name (kind_name kinds.BindingHttp) then Some kinds.BindingHttp
     else None
 
 -- keys may not be kept by namespaces

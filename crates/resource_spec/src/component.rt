@@ -1,5 +1,5 @@
 ghost use Rattle.std.specs.Prelude.{◌≡◌, ℕ, List, Some, codes, option_map};
-ghost use Rattle.resource_spec.specs.Component.{HasNeeds, setting_of, prefix_by, key_prefix_of};
+ghost use Rattle.resource_spec.specs.Component.{HasNeeds, kind_name, setting_of, prefix_by, key_prefix_of};
 ghost use Rattle.resource_spec.specs.Url.{address_of, url_shown};
 
 use crate::setting::Settings;
@@ -18,6 +18,20 @@ pub enum ComponentKind {
     PubsubMemory,
     /// `bindings.http`: an output binding; its setting `url` is an address.
     BindingHttp,
+}
+
+impl ComponentKind {
+    /// The type that documents give a component of this kind. Takes no memory.
+    pub fn name(self) -> &'static str
+        ensures { result.now ≡ kind_name self }
+    {
+        match self {
+            ComponentKind::StateMemory => "state.in-memory",
+            ComponentKind::StateJournal => "state.journal",
+            ComponentKind::PubsubMemory => "pubsub.in-memory",
+            ComponentKind::BindingHttp => "bindings.http",
+        }
+    }
 }
 
 /// A component that has what its kind needs: a journal has a path, an output binding an address, and a store no prefix by

@@ -1,8 +1,9 @@
 // One component of a document.
-ghost use Rattle.std.specs.Prelude.{◌≡◌, ℕ, List, [], ◌∷◌, Ok, Err, Some, codes, option_map, bytes_eq, if◌then◌else◌, IfOk, IfSome, unwrap_or};
+ghost use Rattle.std.specs.Prelude.{◌≡◌, ◌↔◌, ℕ, List, [], ◌∷◌, Ok, Err, Some, codes, option_map, bytes_eq, if◌then◌else◌, IfOk, IfSome, unwrap_or};
 ghost use Rattle.yaml_subset.specs.Docs.{IsPart, row_of, IsFirst};
 ghost use Rattle.yaml_subset.specs.Trees.{Trees};
-ghost use Rattle.resource_spec.specs.Component.{Loaded, HasNeeds};
+ghost use Rattle.resource_spec.specs.Component.{Loaded, HasNeeds, kind_name};
+ghost use Rattle.resource_spec.specs.declared.component.ComponentKind.{ComponentKind};
 ghost use Rattle.resource_spec.specs.Document.{IsRead};
 ghost use Rattle.resource_spec.specs.Field.{field_at, text_at};
 ghost use Rattle.resource_spec.specs.Follow.{follow};
@@ -30,8 +31,10 @@ pub(crate) fn in_document(doc: usize, error: FieldErr) -> SpecErr
     }
 }
 
+// The kind of component that has this type.
 fn kind_of_type(name: &str) -> Option<ComponentKind>
-    ensures { result ≡ type_named name.now }
+    ensures kind { result ≡ type_named name.now }
+    ensures exact { (kind : ComponentKind) → (result ≡ Some kind) ↔ (name.now ≡ kind_name kind) }
 {
     match name {
         "state.in-memory" => Some(ComponentKind::StateMemory),
