@@ -1,3 +1,5 @@
+pub mod Causes
+pub mod Fitting
 pub mod Joined
 pub mod Noting
 pub mod Placed

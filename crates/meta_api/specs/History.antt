@@ -1,5 +1,5 @@
 -- The history of a book.
-use Rattle.std.specs.Prelude.{◌≡◌, ◌⊎◌, ℕ, Bool, List, [], ◌∷◌, length, fold, if◌then◌else◌}
+use Rattle.std.specs.Prelude.{◌≡◌, ◌⊎◌, List, length, fold, if◌then◌else◌}
 use Rattle.turn_cell.specs.declared.entry.Entry.{Entry}
 use Rattle.meta_api.specs.declared.command.Pair.{Pair}
 use Rattle.meta_api.specs.declared.command.NotesCmd.{NotesCmd}

@@ -3,3 +3,4 @@ pub mod History
 pub mod Notes
 pub mod Body
 pub mod Laws
+pub mod Fits

@@ -7,7 +7,7 @@ mod notes;
 mod pairs;
 mod response;
 
-pub use command::{NotesCmd, NotesReply, Pair, Pairs};
+pub use command::{NoteErr, NotesCmd, NotesReply, Pair, Pairs, put_command};
 pub use notes::Notes;
 pub use pairs::{BYTES_LIMIT, NAMES_LIMIT};
 pub use response::{

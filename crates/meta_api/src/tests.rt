@@ -3,8 +3,8 @@ ghost use Rattle.turn_cell.specs.Sitting.{IsSeatOf};
 ghost use Rattle.turn_cell.specs.Growth.{Stays};
 
 use crate::{
-    ComponentNote, ComponentNotes, Notes, NotesCmd, NotesReply, Pairs, SubscriptionNote,
-    SubscriptionNotes, health, metadata, put_response,
+    ComponentNote, ComponentNotes, NoteErr, Notes, NotesCmd, NotesReply, Pairs, SubscriptionNote,
+    SubscriptionNotes, health, metadata, put_command, put_response,
 };
 use side_base::Text;
 use std::alloc::{AllocError, Global};
@@ -106,5 +106,21 @@ fn a_book_may_be_full(rt: HostRuntime) -> Result<(), Fail> {
         b"{\"errorCode\":\"ERR_METADATA_FULL\",\"message\":\"full at 1025 names and 7 bytes\"}".as_slice()
     );
     assert_eq!(rt; health(rt.alloc()).status, 204);
+    Ok(())
+}
+
+#[test]
+fn a_value_that_is_noted_is_a_text(rt: HostRuntime) -> Result<(), Fail> {
+    let alloc = rt.alloc();
+    let name = Text::from_static(alloc, "m");
+    match put_command(alloc, &name, "caf\u{e9}".as_bytes()) {
+        Ok(NotesCmd::Put { name, value }) => {
+            assert_eq!(rt; name.as_str(), "m");
+            assert_eq!(rt; value.bytes(), b"caf\xc3\xa9".as_slice());
+        }
+        Ok(NotesCmd::List) => return Err("not a note")?,
+        Err(_) => return Err("no command")?,
+    }
+    assert!(rt; matches!(put_command(alloc, &name, b"caf\xe9"), Err(NoteErr::NotText)));
     Ok(())
 }

@@ -3,11 +3,15 @@ pub mod Attempted
 pub mod Bodies
 pub mod Cut
 pub mod Failing
+pub mod FirstFault
 pub mod Following
 pub mod Gathering
 pub mod Joined
+pub mod Judging
+pub mod Keyed
 pub mod Lasts
 pub mod Members
 pub mod Nodes
 pub mod OneAnswer
 pub mod Wording
+pub mod Moments

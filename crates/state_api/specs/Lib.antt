@@ -7,3 +7,4 @@ pub mod Values
 pub mod Words
 pub mod Raw
 pub mod Asked
+pub mod Laws

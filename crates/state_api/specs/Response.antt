@@ -15,6 +15,8 @@ use Rattle.state_core.specs.declared.reply.Reply.{Reply}
 use Rattle.state_core.specs.declared.reply.Reply.TheVariants.{Value, Absent, Saved, SomeRefused, Deleted, Mismatch, Rows, TooLong, Committed, Failed, Full, Spent, NoMemory}
 use Rattle.policy_run.specs.declared.outcome.Refusal.{Refusal}
 use Rattle.policy_run.specs.declared.outcome.Refusal.TheVariants.{Opened, TooMany}
+use Rattle.state_api.specs.declared.what.What.{What}
+use Rattle.state_api.specs.declared.what.What.TheVariants as wrong
 use Rattle.state_api.specs.declared.running.Ran.{Ran}
 use Rattle.state_api.specs.declared.running.Ran.TheVariants.{Replied, Refused}
 
@@ -106,3 +108,18 @@ response_of cmd (Refused refusal) = error_response 500 (code_of cmd) (refusal_te
 abbrev pub IsCut : Cmd → Type 0
 IsCut (Bulk keys skip now) = All (λ key. IsCharBoundary key skip) keys
 IsCut other = Unit {0}
+
+-- ---- a malformed request
+
+-- what is wrong with a request, as a message
+abbrev pub what_text : What → List ℕ
+what_text (wrong.Json at) = codes "json at " ++ decimal at
+what_text wrong.Shape = codes "shape"
+what_text wrong.Key = codes "key"
+what_text wrong.Concurrency = codes "concurrency"
+what_text wrong.Operation = codes "operation"
+what_text wrong.TooMany = codes "too many"
+what_text wrong.Ttl = codes "ttl"
+
+abbrev pub malformed : What → Response
+malformed what = error_response 400 code.MalformedRequest (what_text what)

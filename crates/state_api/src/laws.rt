@@ -5,7 +5,13 @@ ghost use Rattle.api_routes.specs.declared.route.Route.{Route};
 ghost use Rattle.state_core.specs.declared.command.Prefix.{Prefix};
 ghost use Rattle.state_core.specs.declared.command.Cmd.{Cmd};
 ghost use Rattle.state_api.specs.declared.what.What.{What};
+ghost use Rattle.state_core.specs.declared.command.Item.{Item};
+ghost use Rattle.state_api.specs.declared.running.Ran.{Ran};
+ghost use Rattle.state_api.specs.Moment.{IsSame};
+ghost use Rattle.state_api.specs.Ran.{IsAnswer};
+ghost use Rattle.state_api.specs.Response.{IsCut, response_of};
 ghost use Rattle.state_api.specs.Asked.{Asks};
+ghost use Rattle.state_api.specs.Laws.{AreKeyed, AsksSave, IsFaultySave, IsOfWords, RefusesSave};
 
 use json_text::laws::a_text_has_one_tree;
 
@@ -16,3 +22,22 @@ pub fn a_request_means_one_answer()
 {
     a_text_has_one_tree();
 }
+
+/// The response does not depend on the moment at which a command is given, nor does what it may be answered.
+pub fn the_moment_changes_no_response()
+    ensures response { (cmd after : Cmd) (ran : Ran) → IsSame cmd after → response_of after ran ≡ response_of cmd ran }
+    ensures answer { (cmd after : Cmd) (ran : Ran) → IsSame cmd after → IsAnswer cmd ran → IsAnswer after ran }
+    ensures cut { (cmd after : Cmd) → IsSame cmd after → IsCut cmd → IsCut after }
+{}
+
+/// A save that a request means has at most 1,024 items, and each has a key of 1 to 1,024 bytes without `||`, behind what the prefix puts
+/// before it.
+pub fn a_save_has_few_keyed_items()
+    ensures { (prefix : Prefix) (request : Request) (store : List ℕ) (items : List Item) → AsksSave prefix request store items → AreKeyed prefix items }
+{}
+
+/// A save that is malformed in an item's words, and in nothing that is tested before, has at most 1,024 items, and is refused for
+/// the first that has a fault: for its key, or else its concurrency, or else its time to live.
+pub fn a_save_is_refused_for_its_first_faulty_item()
+    ensures { (prefix : Prefix) (request : Request) (store : List ℕ) (what : What) → IsOfWords what → RefusesSave prefix request store what → IsFaultySave request what }
+{}

@@ -7,6 +7,7 @@ mod commanding;
 pub mod laws;
 mod part;
 mod raw;
+mod refusing;
 mod responding;
 mod running;
 mod values;
@@ -15,6 +16,10 @@ mod words;
 
 pub use call::{StateAnswer, StoreCall};
 pub use commanding::command;
+pub use refusing::malformed_response;
 pub use responding::response;
 pub use running::{Ran, run};
 pub use what::{StateErr, What};
+
+#[cfg(test)]
+mod tests;

@@ -1,6 +1,5 @@
-use Rattle.std.proofs.Common.{◌≡◌, rules, arith, ◌∙◌, ◌++◌, ◌∷◌, [], take, take_all, map, ap, sym, refl, ◌==◌, append_assoc, append-nil}
+use Rattle.std.proofs.Common.{rules, arith, ◌∙◌, ◌++◌, ◌∷◌, [], take, ap, sym, refl, ◌==◌, append_assoc, append-nil}
 use Rattle.std.proofs.lemmas.List.{take_more}
-use Rattle.meta_api.specs.Body.{joined, comma}
 use Rattle.meta_api.proofs.Joined.{appended_next}
 use Rattle.meta_api.proofs.response.push_all.Goals as goal
 
