@@ -1,0 +1,132 @@
+-- Words spell at most one list of pairs, and mean at most one thing.
+use Rattle.std.proofs.Common.{◌≡◌, ◌∙◌, ◌⊎◌, inl, inr, ℕ, true≢false, refl, sym, ap, ap₂, subst, List, [], ◌∷◌, ◌++◌, Option, Some, None, Contains, is_some}
+use Rattle.clap.specs.Lexer.{long_of}
+use Rattle.sidecar_words.specs.Spelling.{Pair, IsOnce, Spells, Writes, options, flags}
+use Rattle.sidecar_words.specs.Value.{IsNumberOr}
+use Rattle.sidecar_words.specs.Meaning.{GivesOf, Means, mode_of}
+use Rattle.sidecar_words.specs.Found.{GivesValues, HoldsOf}
+use Rattle.sidecar_words.specs.declared.given.Words.{Words}
+use Rattle.sidecar_words.specs.declared.checking.Values.{Values}
+use Rattle.sidecar_words.proofs.Lexing.{Text}
+use Rattle.sidecar_words.proofs.Rules.{is_named}
+use Rattle.sidecar_words.proofs.Passing.{fit_alone, fit_with}
+use Rattle.sidecar_words.proofs.Parsing.{option_fit, flag_fit, disjoint}
+
+-- ---- one list of pairs
+
+-- the first pair of words, and the words after it, by what the first word is
+abbrev Cut : Type 0
+Cut = Option (Pair × List Text)
+
+abbrev with_next : Text → List Text → Cut
+with_next name [] = None
+with_next name (value ∷ rest) = Some ((name, Some value), rest)
+
+abbrev named_cut : (name : Text) → List Text → Contains flags name ⊎ (Contains flags name → ⊥) → Cut
+named_cut name behind (inl is) = Some ((name, None), behind)
+named_cut name behind (inr no_flag) = with_next name behind
+
+abbrev long_cut : Option (Text × Option Text) → List Text → Cut
+long_cut None behind = None
+long_cut (Some (name, Some value)) behind = Some ((name, Some value), behind)
+long_cut (Some (name, None)) behind = named_cut name behind (is_named flags name)
+
+abbrev first_cut : List Text → Cut
+first_cut [] = None
+first_cut (word ∷ behind) = long_cut (long_of word) behind
+
+flag_cut : (name : Text) (behind : List Text) (found : Contains flags name ⊎ (Contains flags name → ⊥)) → Contains flags name → named_cut name behind found ≡ Some ((name, None), behind)
+flag_cut name behind (inl found) is = refl
+flag_cut name behind (inr no_flag) is = absurd (no_flag is)
+
+next_cut : (name value : Text) (rest : List Text) (found : Contains flags name ⊎ (Contains flags name → ⊥)) → Contains options name
+    → named_cut name (value ∷ rest) found ≡ Some ((name, Some value), rest)
+next_cut name value rest (inl found) is = absurd (disjoint name is found)
+next_cut name value rest (inr no_flag) is = refl
+
+cut_is : (name : Text) (value : Option Text) (words first rest : List Text) → words ≡ first ++ rest → Writes options flags first name value → first_cut words ≡ Some ((name, value), rest)
+cut_is name None words first rest is_words (is, is_first) =
+    ap first_cut (is_words ∙ ap (λ ws. ws ++ rest) is_first) ∙ ap (λ o. long_cut o rest) (fit_alone name (flag_fit name is)).0 ∙ flag_cut name rest (is_named flags name) is
+cut_is name (Some value) words first rest is_words (is, inl is_first) =
+    ap first_cut (is_words ∙ ap (λ ws. ws ++ rest) is_first) ∙ ap (λ o. long_cut o rest) (fit_with name value (option_fit name is)).0
+cut_is name (Some value) words first rest is_words (is, inr (is_first, none)) =
+    ap first_cut (is_words ∙ ap (λ ws. ws ++ rest) is_first) ∙ ap (λ o. long_cut o (value ∷ rest)) (fit_alone name (option_fit name is)).0
+    ∙ next_cut name value rest (is_named flags name) is
+
+no_cut : (words : List Text) (cut : Pair × List Text) → words ≡ [] → first_cut words ≡ Some cut → ⊥
+no_cut words cut none is = true≢false (sym (ap (λ o. is_some o) is) ∙ ap (λ ws. is_some (first_cut ws)) none)
+
+abbrev pair_in : Pair × List Text → Cut → Pair
+pair_in cut None = cut.0
+pair_in cut (Some other) = other.0
+
+abbrev rest_in : Pair × List Text → Cut → List Text
+rest_in cut None = cut.1
+rest_in cut (Some other) = other.1
+
+pub one_spelling : (pairs others : List Pair) (words : List Text) → Spells options flags words pairs → Spells options flags words others → pairs ≡ others
+one_spelling [] [] words spelled other = refl
+one_spelling [] (pair ∷ others) words spelled (first, rest, is_words, writes, later) = absurd (no_cut words (pair, rest) spelled (cut_is pair.0 pair.1 words first rest is_words writes))
+one_spelling (pair ∷ pairs) [] words (first, rest, is_words, writes, later) other = absurd (no_cut words (pair, rest) other (cut_is pair.0 pair.1 words first rest is_words writes))
+one_spelling (pair ∷ pairs) (twin ∷ others) words (first, rest, is_words, writes, later) (front, behind, are_words, write, further) =
+    let same : ◌≡◌ {A = Cut} (Some (pair, rest)) (Some (twin, behind)) = sym (cut_is pair.0 pair.1 words first rest is_words writes) ∙ cut_is twin.0 twin.1 words front behind are_words write in
+    let same_rest : rest ≡ behind = ap (rest_in (pair, rest)) same in
+    ap₂ (λ (p : Pair) (ps : List Pair). p ∷ ps) (ap (pair_in (pair, rest)) same)
+    (one_spelling pairs others behind (subst (λ (ws : List Text). Spells options flags ws pairs) same_rest later) further)
+
+-- ---- one meaning
+
+one_number : (most usual : ℕ) (value : Option Text) (one other : ℕ) → IsNumberOr most usual value one → IsNumberOr most usual value other → one ≡ other
+one_number most usual None one other a b = a ∙ sym b
+one_number most usual (Some text) one other a b = a.value ∙ sym b.value
+
+abbrev some_in : {X : Type 0} → X → Option X → X
+some_in x None = x
+some_in x (Some y) = y
+
+one_given : (pairs : List Pair) (one other : Words) → GivesOf pairs one → GivesOf pairs other → one ≡ other
+one_given pairs one other a b =
+    let app : one.app ≡ other.app = ap (some_in one.app) (sym a.app_is ∙ b.app_is) in
+    let resources : one.resources ≡ other.resources = sym a.resources_are ∙ b.resources_are in
+    let port : one.port ≡ other.port = one_number 65535 3500 _ one.port other.port a.port_is b.port_is in
+    let workers : one.workers ≡ other.workers = one_number 64 4 _ one.workers other.workers a.workers_are b.workers_are in
+    let mode : one.mode ≡ other.mode = ap (some_in one.mode) (sym a.mode_is ∙ b.mode_is) in
+    λ i. record { app = app i; resources = resources i; port = port i; workers = workers i; mode = mode i }
+
+pub one_meaning : (words : List Text) (one other : Words) → Means words one → Means words other → one ≡ other
+one_meaning words one other (pairs, spelled, once, gives) (others, respelled, again, regives) =
+    one_given pairs one other gives (subst (λ ps. GivesOf ps other) (sym (one_spelling pairs others words spelled respelled)) regives)
+
+-- ---- what words mean, by their pairs
+
+pub means_values : (words : List Text) (pairs : List Pair) (values : Values) (given : Words) → Spells options flags words pairs → HoldsOf pairs values → Means words given → GivesValues values given
+means_values words pairs values given spelled holds (others, respelled, once, gives) =
+    let same = one_spelling others pairs words respelled spelled in
+    let of_pairs : GivesOf pairs given = subst (λ ps. GivesOf ps given) same gives in
+    record {
+      app_is = holds.app ∙ of_pairs.app_is;
+      app_form = of_pairs.app_form;
+      resources_are = holds.resources ∙ of_pairs.resources_are;
+      resources_filled = of_pairs.resources_filled;
+      port_is = subst (λ (v : Option Text). IsNumberOr 65535 3500 v given.port) (sym holds.port) of_pairs.port_is;
+      workers_are = subst (λ (v : Option Text). IsNumberOr 64 4 v given.workers) (sym holds.workers) of_pairs.workers_are;
+      mode_is = ap₂ mode_of holds.stdio holds.check ∙ of_pairs.mode_is;
+      folder = of_pairs.folder;
+    }
+
+pub values_mean : (words : List Text) (pairs : List Pair) (values : Values) (given : Words) → Spells options flags words pairs → IsOnce pairs → HoldsOf pairs values → GivesValues values given → Means words given
+values_mean words pairs values given spelled once holds gives = (
+  pairs,
+  spelled,
+  once,
+  record {
+    app_is = sym holds.app ∙ gives.app_is;
+    app_form = gives.app_form;
+    resources_are = sym holds.resources ∙ gives.resources_are;
+    resources_filled = gives.resources_filled;
+    port_is = subst (λ (v : Option Text). IsNumberOr 65535 3500 v given.port) holds.port gives.port_is;
+    workers_are = subst (λ (v : Option Text). IsNumberOr 64 4 v given.workers) holds.workers gives.workers_are;
+    mode_is = ap₂ mode_of (sym holds.stdio) (sym holds.check) ∙ gives.mode_is;
+    folder = gives.folder;
+  },
+)

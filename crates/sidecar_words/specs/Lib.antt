@@ -1,0 +1,5 @@
+pub mod Spelling
+pub mod Value
+pub mod Meaning
+pub mod Command
+pub mod Found

@@ -1,0 +1,128 @@
+ghost use Rattle.std.specs.Prelude.{◌≡◌, ◌↔◌, ℕ, IfOk, IfSome, IfNone, IsTrue, IsErrOf, List, is_some, true};
+ghost use Rattle.sidecar_words.specs.Value.{IsAppId, IsNumber, IsNumberOr, IsFilled, is_app_id_byte, text_of};
+ghost use Rattle.sidecar_words.specs.Meaning.{mode_of};
+ghost use Rattle.sidecar_words.specs.Found.{GivesValues};
+ghost use Rattle.sidecar_words.specs.declared.given.Words.{Words};
+
+use crate::{Mode, Words, WordsErr};
+use side_base::{NoMemory, Text};
+use std::alloc::Global;
+
+const APP_ID_LIMIT: usize = 64;
+
+const PORT_LIMIT: u16 = 65_535;
+
+const WORKERS_LIMIT: u16 = 64;
+
+const USUAL_PORT: u16 = 3_500;
+
+const USUAL_WORKERS: u16 = 4;
+
+/// The values of the options, and whether the flags stand.
+#[derive(Clone, Copy)]
+pub(crate) struct Values<'a> {
+    pub(crate) app: Option<&'a str>,
+    pub(crate) resources: Option<&'a str>,
+    pub(crate) port: Option<&'a str>,
+    pub(crate) workers: Option<&'a str>,
+    pub(crate) stdio: bool,
+    pub(crate) check: bool,
+}
+
+/// What the values come to.
+pub(crate) fn words_of(alloc: Global, values: &Values<'_>) -> Result<Words, WordsErr>
+    ensures ok { IfOk result (GivesValues values.now) }
+    ensures usage { IsErrOf result WordsErr.Usage → (given : Words) → ¬ GivesValues values.now given }
+{
+    let app = app_id(values.app).ok_or(WordsErr::Usage)?;
+    let port = number_or(USUAL_PORT, values.port, PORT_LIMIT).ok_or(WordsErr::Usage)?;
+    let workers = number_or(USUAL_WORKERS, values.workers, WORKERS_LIMIT).ok_or(WordsErr::Usage)?;
+    let mode = mode_of(values.stdio, values.check).ok_or(WordsErr::Usage)?;
+    if !fits(values.resources, mode) {
+        return Err(WordsErr::Usage);
+    }
+    Ok(Words {
+        app: Text::from_str(alloc, app)?,
+        resources: copy(alloc, values.resources)?,
+        port,
+        workers: u32::from(workers),
+        mode,
+    })
+}
+
+fn app_id(app: Option<&str>) -> Option<&str>
+    ensures some { IfSome result (λ id. (text_of app.entry ≡ Some id.now) × IsAppId id.now) }
+    ensures none { IfNone result ((id : List ℕ) → text_of app.entry ≡ Some id → ¬ IsAppId id) }
+{
+    match app {
+        Some(id) if is_app_id(id.as_bytes()) => Some(id),
+        _ => None,
+    }
+}
+
+fn is_app_id(text: &[u8]) -> bool
+    ensures { IsTrue result ↔ IsAppId text.now }
+{
+    !text.is_empty() && text.len() <= APP_ID_LIMIT && text.iter().all(|byte| is_app_id_byte(*byte))
+}
+
+fn is_app_id_byte(byte: u8) -> bool
+    ensures { result ≡ is_app_id_byte byte }
+{
+    byte.is_ascii_alphanumeric() || byte == b'-' || byte == b'_'
+}
+
+fn mode_of(stdio: bool, check: bool) -> Option<Mode>
+    ensures { result ≡ mode_of stdio check }
+{
+    match (stdio, check) {
+        (true, true) => None,
+        (true, false) => Some(Mode::Stdio),
+        (false, true) => Some(Mode::Check),
+        (false, false) => Some(Mode::Serve),
+    }
+}
+
+/// Whether the folder isn't empty, and is there where the mode needs it.
+fn fits(resources: Option<&str>, mode: Mode) -> bool
+    ensures { IsTrue result ↔ (IsFilled (text_of resources.entry) × (mode ≡ Mode.Check → is_some resources.entry ≡ true)) }
+{
+    match resources {
+        Some(folder) => !folder.is_empty(),
+        None => !matches!(mode, Mode::Check),
+    }
+}
+
+/// The number that a value writes, or the usual one where there is no value; `None` where it writes none up to `limit`.
+fn number_or(usual: u16, value: Option<&str>, limit: u16) -> Option<u16>
+    ensures some { IfSome result (IsNumberOr limit usual (text_of value.entry)) }
+    ensures none { IfNone result ((number : ℕ) → ¬ IsNumberOr limit usual (text_of value.entry) number) }
+{
+    match value {
+        Some(text) => number(text, limit),
+        None => Some(usual),
+    }
+}
+
+fn number(text: &str, limit: u16) -> Option<u16>
+    ensures some { IfSome result (IsNumber limit text.now) }
+    ensures none { IfNone result ((number : ℕ) → ¬ IsNumber limit text.now number) }
+{
+    let bytes = text.as_bytes();
+    if bytes.is_empty() || bytes[0] == b'0' || bytes[0] == b'+' {
+        return None;
+    }
+    match text.parse::<u16>() {
+        Ok(number) if number >= 1 && number <= limit => Some(number),
+        _ => None,
+    }
+}
+
+fn copy(alloc: Global, text: Option<&str>) -> Result<Option<Text>, NoMemory>
+    ensures { IfOk result (λ copy. copy ≡ text_of text.entry) }
+{
+    match text {
+        Some(text) => Ok(Some(Text::from_str(alloc, text)?)),
+        None => Ok(None),
+    }
+}

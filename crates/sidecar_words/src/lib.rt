@@ -1,0 +1,25 @@
+//! The words of the command line, and what they mean.
+//!
+//! An option is `--name`, and its value is the next word, which then begins with no `-`, or follows `=` in the same word. Each
+//! name stands at most once, in any order.
+//!
+//! | option | value | without it |
+//! |---|---|---|
+//! | `--app-id` | 1 to 64 ASCII letters, digits, `-` or `_` | refused |
+//! | `--resources-path` | a folder, not empty | none; `--check` needs it |
+//! | `--dapr-http-port` | 1 to 65535, in decimal digits without a leading zero | 3500 |
+//! | `--workers` | 1 to 64, likewise | 4 |
+//! | `--stdio` or `--check` | none, and at most one of them stands | serving |
+#![tactic(auto)]
+
+mod checking;
+mod command;
+mod given;
+pub mod laws;
+mod reading;
+
+pub use given::{Mode, Words, WordsErr};
+pub use reading::read_words;
+
+#[cfg(test)]
+mod tests;
