@@ -1,18 +1,16 @@
 -- Events of a call, as those of the objects; and what events did, part after part.
-use Rattle.std.proofs.Common.{◌≡◌, ℕ, ◌==◌, Bool, true, false, List, [], ◌∷◌, ◌++◌, map, set, Option, Some, Result, refl, sym, ap, subst, if◌then◌else◌, flat_map, arith}
+use Rattle.std.proofs.Common.{◌≡◌, ℕ, ◌==◌, Bool, true, false, List, [], ◌∷◌, ◌++◌, map, set, Option, Some, Result, refl, sym, ap, subst, if◌then◌else◌, flat_map}
 use Rattle.std.specs.List.{sum_by}
 use Rattle.std.specs.Prelude.{Decides}
 use Rattle.std.proofs.lemmas.Bool.Decides.{Decides-eqb}
-use Rattle.std.proofs.lemmas.Grind.{flat_map-append}
-use Rattle.std.proofs.lemmas.List.Sums.{sum_by-append}
 use mathlib.Core.Option.{some}
 use lib.ListN.{get_elem?}
 use Rattle.side_world.specs.declared.link.LinkCall.{LinkCall}
 use Rattle.side_world.specs.Moments.{Between, Rises}
 use Rattle.side_world.specs.Told.{Tells}
-use Rattle.side_world.proofs.Composed.{between_on, rises_on, rises_nothing, tells_on, tells_nothing}
+use Rattle.side_world.proofs.Composed.{tells_nothing}
 use Rattle.turn_cell.specs.Growth.{Grew}
-use Rattle.turn_cell.proofs.Growing.{grew_none, grew_more, each_none, each_one, each_on, each_same}
+use Rattle.turn_cell.proofs.Growing.{grew_none, each_none, each_one}
 use Rattle.side_world.specs.declared.clock.Tick.TheVariants as tick
 use Rattle.turn_cell.specs.Growth.{EachGrew}
 use Rattle.turn_cell.specs.Sitting.{Begun, Sitting}
@@ -26,7 +24,7 @@ use Rattle.breaker_core.specs.Course.{Step as BreakerStep}
 use Rattle.policy_run.specs.Event.{Event, own, guarded, word, moment, pause, own_of, step_of, word_of, pause_of, tick_of}
 use Rattle.policy_run.specs.Event.{moment_in as moment_of_call}
 use Rattle.policy_run.specs.Effects.{Clocked, Effects}
-use Rattle.sidecar_core.specs.Doing.{Doing, one_at, placed, stored_at, entered_at, broke_at, noted_in, asked_in, word_in, moment_in, pause_in, tick_in}
+use Rattle.sidecar_core.specs.Doing.{one_at, placed, stored_at, entered_at, broke_at, noted_in, asked_in, word_in, moment_in, pause_in, tick_in}
 use Rattle.std.specs.Prelude.{unwrap_or, ◌<◌}
 use Rattle.std.specs.Option.{ForSome}
 use Rattle.turn_cell.specs.declared.error.ApiErr.{ApiErr}
@@ -40,38 +38,6 @@ use Rattle.state_api.specs.Ran.{ran_of}
 use Rattle.sidecar_core.specs.Ran.{StoreRan}
 use Rattle.sidecar_core.specs.Did.{Kinds, CellsAt, SeatsAt, Did}
 
--- one part after another
-pub did_on : {O : Type 0} (kinds : Kinds O) (cells : CellsAt O) (seats : SeatsAt O) (first : List Doing) (between : SeatsAt O) (second : List Doing) (seats' : SeatsAt O) (clock middle clock' : Clocked) (calls told calls' : Option (List LinkCall)) (drawn drawn-then drawn-all : List ℕ → Type 0)
-    → ((xs ys : List ℕ) → drawn xs → drawn-then ys → drawn-all (xs ++ ys))
-    → Did kinds cells seats first between clock middle calls told drawn → Did kinds cells between second seats' middle clock' told calls' drawn-then → Did kinds cells seats (first ++ second) seats' clock clock' calls calls' drawn-all
-did_on kinds cells seats first between second seats' clock middle clock' calls told calls' drawn drawn-then drawn-all drawn-on d e = record {
-  stores = each_same kinds.store cells.stores seats.stores _ (λ k. flat_map (stored_at k) (first ++ second)) seats'.stores (λ k. sym (flat_map-append (stored_at k) first second)) (each_on kinds.store cells.stores seats.stores (λ k. flat_map (stored_at k) first) between.stores (λ k. flat_map (stored_at k) second) seats'.stores d.stores e.stores);
-  ledgers = each_same kinds.ledger cells.ledgers seats.ledgers _ (λ k. flat_map (entered_at k) (first ++ second)) seats'.ledgers (λ k. sym (flat_map-append (entered_at k) first second)) (each_on kinds.ledger cells.ledgers seats.ledgers (λ k. flat_map (entered_at k) first) between.ledgers (λ k. flat_map (entered_at k) second) seats'.ledgers d.ledgers e.ledgers);
-  breakers = each_same kinds.breaker cells.breakers seats.breakers _ (λ k. flat_map (broke_at k) (first ++ second)) seats'.breakers (λ k. sym (flat_map-append (broke_at k) first second)) (each_on kinds.breaker cells.breakers seats.breakers (λ k. flat_map (broke_at k) first) between.breakers (λ k. flat_map (broke_at k) second) seats'.breakers d.breakers e.breakers);
-  notes = subst (λ l. Grew kinds.notes cells.notes.first seats.notes l seats'.notes) (sym (flat_map-append noted_in first second)) (grew_more kinds.notes cells.notes.first seats.notes (flat_map noted_in first) between.notes (flat_map noted_in second) seats'.notes d.notes e.notes);
-  times = subst (λ ms. Between clock.last ms clock'.last) (sym (flat_map-append moment_in first second)) (between_on clock.last (flat_map moment_in first) middle.last (flat_map moment_in second) clock'.last d.times e.times);
-  pauses = subst (λ ms. Rises clock.paused (sum_by (λ (n : ℕ). n) ms) clock'.paused) (sym (flat_map-append pause_in first second))
-      (subst (λ n. Rises clock.paused n clock'.paused) (sym (sum_by-append (λ (n : ℕ). n) (flat_map pause_in first) (flat_map pause_in second)))
-      (rises_on clock.paused (sum_by (λ (n : ℕ). n) (flat_map pause_in first)) middle.paused (sum_by (λ (n : ℕ). n) (flat_map pause_in second)) clock'.paused d.pauses e.pauses));
-  ticks = subst (λ ts. Tells clock.ticks clock'.ticks ts) (sym (flat_map-append tick_in first second)) (tells_on clock.ticks middle.ticks clock'.ticks (flat_map tick_in first) (flat_map tick_in second) d.ticks e.ticks);
-  asked = subst (λ cs. Tells calls calls' cs) (sym (flat_map-append asked_in first second)) (tells_on calls told calls' (flat_map asked_in first) (flat_map asked_in second) d.asked e.asked);
-  words = subst drawn-all (sym (flat_map-append word_in first second)) (drawn-on _ _ d.words e.words);
-}
-
--- nothing was done
-pub did_none : {O : Type 0} (kinds : Kinds O) (cells : CellsAt O) (seats : SeatsAt O) (clock : Clocked) (calls : Option (List LinkCall)) (drawn : List ℕ → Type 0) → drawn [] → Did kinds cells seats [] seats clock clock calls calls drawn
-did_none kinds cells seats clock calls drawn none-drawn = record {
-  stores = each_none kinds.store cells.stores seats.stores (λ k. []) (λ k. refl);
-  ledgers = each_none kinds.ledger cells.ledgers seats.ledgers (λ k. []) (λ k. refl);
-  breakers = each_none kinds.breaker cells.breakers seats.breakers (λ k. []) (λ k. refl);
-  notes = grew_none kinds.notes cells.notes.first seats.notes;
-  times = omega arith;
-  pauses = rises_nothing clock.paused;
-  ticks = tells_nothing clock.ticks;
-  asked = tells_nothing calls;
-  words = none-drawn;
-}
-
 -- ---- events of a call under a policy, at their places
 
 nat_eq-same : (i k : ℕ) → i ≡ k → (i == k) ≡ true
@@ -84,7 +50,7 @@ nat_eq-far i k far = by (i == k) (Decides-eqb i k) where
   by false test = refl
 
 module _ (i j : ℕ) where
-  at_place : {X : Type 0} (k : ℕ) (x : X) → (k ≡ i → one_at k i x ≡ x ∷ []) × ((k ≡ i → ⊥) → one_at k i x ≡ [])
+  pub at_place : {X : Type 0} (k : ℕ) (x : X) → (k ≡ i → one_at k i x ≡ x ∷ []) × ((k ≡ i → ⊥) → one_at k i x ≡ [])
   at_place k x = (λ same. ap (λ b. if b then x ∷ [] else []) (nat_eq-same i k (sym same)), λ far. ap (λ b. if b then x ∷ [] else []) (nat_eq-far i k (λ e. far (sym e))))
 
   -- each is one of that kind, at its place

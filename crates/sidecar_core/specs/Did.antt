@@ -1,11 +1,15 @@
 -- What events did: to the seats of a pass, to the clock, the link and the random words.
-use Rattle.std.specs.Prelude.{ℕ, List, Option}
+use Rattle.std.specs.Prelude.{◌≡◌, ℕ, List, Option, Some}
 use Rattle.std.specs.List.{sum_by, flat_map}
+use mathlib.Core.Option.{some}
+use lib.ListN.{get_elem?}
+use Rattle.rand_core.specs.Stream.{Stream, next_u64}
 use Rattle.side_world.specs.declared.link.LinkCall.{LinkCall}
-use Rattle.side_world.specs.Moments.{Between, Rises}
+use Rattle.side_world.specs.Moments.{Between, Rises, Drawn}
 use Rattle.side_world.specs.Told.{Tells}
 use Rattle.turn_cell.specs.declared.object.Object.{Ghosts}
-use Rattle.turn_cell.specs.Sitting.{Begun, Sitting}
+use Rattle.turn_cell.specs.Sitting.{Begun, Sitting, IsSeatOf}
+use Rattle.turn_cell.specs.Passes.{EachSeated}
 use Rattle.turn_cell.specs.Growth.{Grew, EachGrew}
 use Rattle.state_core.specs.declared.command.Cmd.{Cmd}
 use Rattle.state_core.specs.declared.reply.Reply.{Reply}
@@ -19,7 +23,8 @@ use Rattle.meta_api.specs.declared.notes.Notes.{Notes}
 use Rattle.meta_api.specs.declared.command.NotesCmd.{NotesCmd}
 use Rattle.meta_api.specs.declared.command.NotesReply.{NotesReply}
 use Rattle.policy_run.specs.Effects.{Clocked}
-use Rattle.sidecar_core.specs.Doing.{Doing, stored_at, entered_at, broke_at, noted_in, asked_in, word_in, moment_in, pause_in, tick_in}
+use Rattle.sidecar_core.specs.declared.doing.Doing.{Doing}
+use Rattle.sidecar_core.specs.Doing.{stored_at, entered_at, broke_at, noted_in, asked_in, word_in, moment_in, pause_in, tick_in}
 
 -- what the objects of each kind are, by their traits
 pub record Kinds (O : Type 0) : Type 1 where
@@ -54,3 +59,41 @@ pub record Did {O : Type 0} (kinds : Kinds O) (cells : CellsAt O) (seats : Seats
   pub ticks : Tells clock.ticks clock'.ticks (flat_map tick_in events)
   pub asked : Tells calls calls' (flat_map asked_in events)
   pub words : drawn (flat_map word_in events)
+
+-- a pass of these cells: a seat of each, at the same place
+pub record IsPassOf {O : Type 0} (cells : CellsAt O) (seats : SeatsAt O) : Type 0 where
+  pub stores : EachSeated cells.stores seats.stores
+  pub ledgers : EachSeated cells.ledgers seats.ledgers
+  pub breakers : EachSeated cells.breakers seats.breakers
+  pub notes : IsSeatOf cells.notes seats.notes
+
+-- ---- what a pass and all that it works with show
+
+-- the seats, the clock, the calls of the link where it tells them, and the random words to come
+pub record Standing (O : Type 0) : Type 0 where
+  pub seats : SeatsAt O
+  pub clock : Clocked
+  pub calls : Option (List LinkCall)
+  pub words : Stream
+
+abbrev pub Went : {O : Type 0} → Kinds O → CellsAt O → Standing O → List Doing → Standing O → Type 0
+Went kinds cells at events after = Did kinds cells at.seats events after.seats at.clock after.clock at.calls after.calls (λ ws. Drawn next_u64 at.words ws after.words)
+
+-- something was done of which this holds
+pub record Does {O : Type 0} (kinds : Kinds O) (cells : CellsAt O) (at after : Standing O) (holds : List Doing → Type 0) : Type 0 where
+  pub events : List Doing
+  pub held : holds events
+  pub went : Went kinds cells at events after
+
+-- ---- exhausted cells
+
+-- the seat at this place shows this count of an exhausted cell
+abbrev pub ShowsAt : {O C R : Type 0} → ℕ → ℕ → List (Sitting O C R) → Type 0
+ShowsAt {O} {C} {R} k count seats = (seat : Sitting O C R) × (get_elem? seats k ≡ some seat) × (seat.count ≡ Some count)
+
+-- a seat of the pass shows it
+pub data Shows {O : Type 0} (seats : SeatsAt O) (count : ℕ) : Type 0 where
+  store : (k : ℕ) → ShowsAt k count seats.stores → Shows seats count
+  ledger : (k : ℕ) → ShowsAt k count seats.ledgers → Shows seats count
+  breaker : (k : ℕ) → ShowsAt k count seats.breakers → Shows seats count
+  notes : seats.notes.count ≡ Some count → Shows seats count

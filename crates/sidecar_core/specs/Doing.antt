@@ -1,4 +1,4 @@
--- What is done for a request, as a list of events in their order; the objects are known by their places.
+-- What is done for a request, as a list of events in their order: what each is of each kind.
 use Rattle.std.specs.Prelude.{ℕ, ◌==◌, List, [], ◌∷◌, if◌then◌else◌}
 use Rattle.side_world.specs.declared.clock.Tick.{Tick}
 use Rattle.side_world.specs.declared.clock.Tick.TheVariants as tick
@@ -9,18 +9,8 @@ use Rattle.breaker_core.specs.Course.{Step as BreakerStep}
 use Rattle.meta_api.specs.History.{Step as NotesStep}
 use Rattle.policy_run.specs.Event.{Event}
 use Rattle.policy_run.specs.Event as event
-
--- An event: a step of the store, of the ledger or of the breaker at a place, or of the book of metadata; a call of the link with its answer; a random word that was drawn; a moment that was
--- read, in milliseconds since 1970; and a pause of so many milliseconds
-pub data Doing : Type 0 where
-  stored : ℕ → StoreStep → Doing
-  entered : ℕ → LedgerStep → Doing
-  broke : ℕ → BreakerStep → Doing
-  noted : NotesStep → Doing
-  asked : LinkCall → Doing
-  drew : ℕ → Doing
-  timed : ℕ → Doing
-  waited : ℕ → Doing
+use Rattle.sidecar_core.specs.declared.doing.Doing.{Doing}
+use Rattle.sidecar_core.specs.declared.doing.Doing.TheVariants.{Stored, Entered, Broke, Noted, Asked, Drew, Timed, Waited}
 
 -- one thing, where it is at the place k
 abbrev pub one_at : {X : Type 0} → ℕ → ℕ → X → List X
@@ -29,99 +19,99 @@ one_at k i x = if i == k then x ∷ [] else []
 -- ---- an event as what it is of each kind: the one thing, or nothing
 
 abbrev pub stored_at : ℕ → Doing → List StoreStep
-stored_at k (stored i step) = one_at k i step
-stored_at k (entered i step) = []
-stored_at k (broke i step) = []
-stored_at k (noted step) = []
-stored_at k (asked call) = []
-stored_at k (drew w) = []
-stored_at k (timed m) = []
-stored_at k (waited ms) = []
+stored_at k (Stored i step) = one_at k i step
+stored_at k (Entered i step) = []
+stored_at k (Broke i step) = []
+stored_at k (Noted step) = []
+stored_at k (Asked call) = []
+stored_at k (Drew w) = []
+stored_at k (Timed m) = []
+stored_at k (Waited ms) = []
 
 abbrev pub entered_at : ℕ → Doing → List LedgerStep
-entered_at k (stored i step) = []
-entered_at k (entered i step) = one_at k i step
-entered_at k (broke i step) = []
-entered_at k (noted step) = []
-entered_at k (asked call) = []
-entered_at k (drew w) = []
-entered_at k (timed m) = []
-entered_at k (waited ms) = []
+entered_at k (Stored i step) = []
+entered_at k (Entered i step) = one_at k i step
+entered_at k (Broke i step) = []
+entered_at k (Noted step) = []
+entered_at k (Asked call) = []
+entered_at k (Drew w) = []
+entered_at k (Timed m) = []
+entered_at k (Waited ms) = []
 
 abbrev pub broke_at : ℕ → Doing → List BreakerStep
-broke_at k (stored i step) = []
-broke_at k (entered i step) = []
-broke_at k (broke i step) = one_at k i step
-broke_at k (noted step) = []
-broke_at k (asked call) = []
-broke_at k (drew w) = []
-broke_at k (timed m) = []
-broke_at k (waited ms) = []
+broke_at k (Stored i step) = []
+broke_at k (Entered i step) = []
+broke_at k (Broke i step) = one_at k i step
+broke_at k (Noted step) = []
+broke_at k (Asked call) = []
+broke_at k (Drew w) = []
+broke_at k (Timed m) = []
+broke_at k (Waited ms) = []
 
 abbrev pub noted_in : Doing → List NotesStep
-noted_in (stored i step) = []
-noted_in (entered i step) = []
-noted_in (broke i step) = []
-noted_in (noted step) = step ∷ []
-noted_in (asked call) = []
-noted_in (drew w) = []
-noted_in (timed m) = []
-noted_in (waited ms) = []
+noted_in (Stored i step) = []
+noted_in (Entered i step) = []
+noted_in (Broke i step) = []
+noted_in (Noted step) = step ∷ []
+noted_in (Asked call) = []
+noted_in (Drew w) = []
+noted_in (Timed m) = []
+noted_in (Waited ms) = []
 
 abbrev pub asked_in : Doing → List LinkCall
-asked_in (stored i step) = []
-asked_in (entered i step) = []
-asked_in (broke i step) = []
-asked_in (noted step) = []
-asked_in (asked call) = call ∷ []
-asked_in (drew w) = []
-asked_in (timed m) = []
-asked_in (waited ms) = []
+asked_in (Stored i step) = []
+asked_in (Entered i step) = []
+asked_in (Broke i step) = []
+asked_in (Noted step) = []
+asked_in (Asked call) = call ∷ []
+asked_in (Drew w) = []
+asked_in (Timed m) = []
+asked_in (Waited ms) = []
 
 abbrev pub word_in : Doing → List ℕ
-word_in (stored i step) = []
-word_in (entered i step) = []
-word_in (broke i step) = []
-word_in (noted step) = []
-word_in (asked call) = []
-word_in (drew w) = w ∷ []
-word_in (timed m) = []
-word_in (waited ms) = []
+word_in (Stored i step) = []
+word_in (Entered i step) = []
+word_in (Broke i step) = []
+word_in (Noted step) = []
+word_in (Asked call) = []
+word_in (Drew w) = w ∷ []
+word_in (Timed m) = []
+word_in (Waited ms) = []
 
 abbrev pub moment_in : Doing → List ℕ
-moment_in (stored i step) = []
-moment_in (entered i step) = []
-moment_in (broke i step) = []
-moment_in (noted step) = []
-moment_in (asked call) = []
-moment_in (drew w) = []
-moment_in (timed m) = m ∷ []
-moment_in (waited ms) = []
+moment_in (Stored i step) = []
+moment_in (Entered i step) = []
+moment_in (Broke i step) = []
+moment_in (Noted step) = []
+moment_in (Asked call) = []
+moment_in (Drew w) = []
+moment_in (Timed m) = m ∷ []
+moment_in (Waited ms) = []
 
 abbrev pub pause_in : Doing → List ℕ
-pause_in (stored i step) = []
-pause_in (entered i step) = []
-pause_in (broke i step) = []
-pause_in (noted step) = []
-pause_in (asked call) = []
-pause_in (drew w) = []
-pause_in (timed m) = []
-pause_in (waited ms) = ms ∷ []
+pause_in (Stored i step) = []
+pause_in (Entered i step) = []
+pause_in (Broke i step) = []
+pause_in (Noted step) = []
+pause_in (Asked call) = []
+pause_in (Drew w) = []
+pause_in (Timed m) = []
+pause_in (Waited ms) = ms ∷ []
 
 abbrev pub tick_in : Doing → List Tick
-tick_in (stored i step) = []
-tick_in (entered i step) = []
-tick_in (broke i step) = []
-tick_in (noted step) = []
-tick_in (asked call) = []
-tick_in (drew w) = []
-tick_in (timed m) = tick.Read m ∷ []
-tick_in (waited ms) = tick.Paused ms ∷ []
+tick_in (Stored i step) = []
+tick_in (Entered i step) = []
+tick_in (Broke i step) = []
+tick_in (Noted step) = []
+tick_in (Asked call) = []
+tick_in (Drew w) = []
+tick_in (Timed m) = tick.Read m ∷ []
+tick_in (Waited ms) = tick.Paused ms ∷ []
 
 -- what a call under a policy does, where its attempts are steps of the store at i, and its breaker is the one at j
 abbrev pub placed : ℕ → ℕ → Event StoreStep → Doing
-placed i j (event.own step) = stored i step
-placed i j (event.guarded step) = broke j step
-placed i j (event.word w) = drew w
-placed i j (event.moment m) = timed m
-placed i j (event.pause ms) = waited ms
+placed i j (event.own step) = Stored i step
+placed i j (event.guarded step) = Broke j step
+placed i j (event.word w) = Drew w
+placed i j (event.moment m) = Timed m
+placed i j (event.pause ms) = Waited ms

@@ -1,3 +1,12 @@
 pub mod Doing
 pub mod Did
+pub mod Composed
 pub mod Ran
+pub mod Pass
+pub mod Site
+pub mod Sites
+pub mod Responses
+pub mod Exchange
+pub mod Desk
+pub mod Started
+pub mod Delivery

@@ -1,7 +1,5 @@
 -- A state call over the objects: the events of its attempts, at the places of its store and its breaker.
-use Rattle.std.specs.Prelude.{◌≡◌, ◌⊎◌, ℕ, List, map, Option, Some, Result, unwrap_or}
-use mathlib.Core.Option.{some}
-use lib.ListN.{get_elem?}
+use Rattle.std.specs.Prelude.{◌≡◌, ◌⊎◌, ℕ, List, map, Some, Result, unwrap_or}
 use Rattle.turn_cell.specs.Sitting.{Sitting}
 use Rattle.turn_cell.specs.declared.error.ApiErr.{ApiErr}
 use Rattle.retry_core.specs.declared.policy.Bound.{Bound}
@@ -14,7 +12,9 @@ use Rattle.state_api.specs.declared.call.StateAnswer.{StateAnswer}
 use Rattle.state_api.specs.declared.running.Ran.{Ran}
 use Rattle.state_api.specs.Call.{Makes}
 use Rattle.state_api.specs.Ran.{ran_of}
-use Rattle.sidecar_core.specs.Doing.{Doing, placed}
+use Rattle.sidecar_core.specs.declared.doing.Doing.{Doing}
+use Rattle.sidecar_core.specs.Did.{ShowsAt}
+use Rattle.sidecar_core.specs.Doing.{placed}
 
 -- the attempts of a command at the store of this place, under what is bound to it
 pub record StoreRan (place : ℕ) (bound : Bound) (cmd : Cmd) (events : List Doing) (result : Result Ran ApiErr) : Type 0 where
@@ -23,10 +23,6 @@ pub record StoreRan (place : ℕ) (bound : Bound) (cmd : Cmd) (events : List Doi
   pub made : Attempts bound (λ limit. Makes cmd) outcome attempts
   pub ran : result ≡ ran_of outcome
   pub whole : events ≡ map (placed place (unwrap_or bound.breaker 0)) attempts
-
--- the seat at this place shows this count of an exhausted cell
-abbrev pub ShowsAt : {O C R : Type 0} → ℕ → ℕ → List (Sitting O C R) → Type 0
-ShowsAt {O} {C} {R} k count seats = (seat : Sitting O C R) × (get_elem? seats k ≡ some seat) × (seat.count ≡ Some count)
 
 -- the seat of the store at this place shows the count, or that of the breaker that is bound
 abbrev pub IsShown : {O C R O' C' R' : Type 0} → ℕ → Bound → List (Sitting O C R) → List (Sitting O' C' R') → ℕ → Type 0

@@ -1,13 +1,41 @@
 //! All objects of a sidecar, each in a cell of its own, and the one way of all requests over them.
 //!
-//! - `objects` has the cells, and a pass: a seat of each.
-//! - `passing` starts the cells, splits passes off, meets them and ends the cells.
-//! - `storing` makes a state call at its store, under what is bound to it.
+//! - `objects` has the cells, and a pass: a seat of each; `passing` starts the cells, splits passes off, meets them and ends the cells.
+//! - `config` says what a sidecar is configured as, and `shared` what all passes share; `starting` and `closing` are its begin and its end.
+//! - `responding` answers a request by its route: `state_request` at a store, where `storing` makes the call, and `note_request` at the book of
+//!   metadata; `refusing` has the responses that need no object. `delivering` makes deliveries, and counts them.
+//! - `desk` answers the requests of connections, and `connection` serves one.
+//! - `doing` has what is done for a request, as events.
 #![tactic(auto)]
 
+mod closing;
+mod config;
+mod connection;
+mod delivering;
+mod desk;
+mod doing;
+mod given;
+mod kinds;
+mod note_request;
 mod objects;
 mod passing;
+mod refusing;
+mod responding;
+mod shared;
+mod site;
+mod starting;
+mod state_request;
 mod storing;
 
+pub use config::Config;
+pub use connection::serve_connection;
+pub use delivering::{Turn, deliver};
+pub use desk::Desk;
+pub use doing::Doing;
+pub use kinds::ObjectKinds;
 pub use objects::{Objects, Pass};
+pub use responding::respond;
+pub use shared::Shared;
+pub use site::StoreSite;
+pub use starting::count_of_stores;
 pub use storing::run_store;

@@ -17,7 +17,7 @@ ghost use Rattle.state_api.specs.declared.call.StateAnswer.{StateAnswer as Answe
 ghost use Rattle.state_api.specs.Moment.{IsSame};
 ghost use Rattle.state_api.specs.Call.{Makes};
 ghost use Rattle.state_api.specs.Ran.{ran_of, IsAnswer};
-ghost use Rattle.sidecar_core.specs.Doing.{Doing};
+ghost use Rattle.sidecar_core.specs.declared.doing.Doing.{Doing};
 ghost use Rattle.sidecar_core.specs.Did.{Did};
 ghost use Rattle.sidecar_core.specs.Ran.{StoreRan, IsShown};
 

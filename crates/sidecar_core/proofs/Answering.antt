@@ -1,0 +1,101 @@
+-- What is done and answered, carried from one function to the next.
+use Rattle.std.proofs.Common.{◌≡◌, ℕ, List, [], Some, Result, Ok, Err, inl, inr, subst, ap, refl}
+use Rattle.side_base.specs.declared.message.Request.{Request}
+use Rattle.side_base.specs.declared.message.Response.{Response}
+use Rattle.turn_cell.specs.declared.error.ApiErr.{ApiErr}
+use Rattle.turn_cell.specs.declared.error.ApiErr.TheVariants as error
+use Rattle.retry_core.specs.declared.policy.Bound.{Bound}
+use Rattle.api_routes.specs.declared.route.Route.{Route}
+use Rattle.api_routes.specs.declared.route.Route.TheVariants as route
+use Rattle.api_routes.specs.declared.route.RouteErr.{RouteErr}
+use Rattle.api_routes.specs.declared.route.RouteErr.TheVariants as lost
+use Rattle.state_core.specs.declared.command.Cmd.{Cmd}
+use Rattle.state_api.specs.declared.what.StateErr.{StateErr}
+use Rattle.state_api.specs.declared.what.StateErr.TheVariants as fault
+use Rattle.state_api.specs.Given.{Tells}
+use Rattle.state_api.specs.Asked.{Asks, IsState}
+use Rattle.meta_api.specs.declared.command.NotesReply.{NotesReply}
+use Rattle.meta_api.specs.declared.command.NotesReply.TheVariants as told
+use Rattle.meta_api.specs.Body.{IsPutReply, put_response}
+use Rattle.sidecar_core.specs.declared.config.Config.{Config}
+use Rattle.sidecar_core.specs.declared.doing.Doing.{Doing}
+use Rattle.sidecar_core.specs.Site.{Site}
+use Rattle.sidecar_core.specs.Did.{Kinds, CellsAt, SeatsAt, Standing, Does, Shows, store, breaker}
+use Rattle.sidecar_core.specs.Ran.{IsShown}
+use Rattle.sidecar_core.specs.Exchange.{Answered, AtSite, AtStore, FaultGives, IsOr, PutReplies, store_in}
+use Rattle.sidecar_core.specs.Exchange as exchange
+
+-- what was done, said otherwise
+pub does_as : {O : Type 0} (kinds : Kinds O) (cells : CellsAt O) (at after : Standing O) (one other : List Doing → Type 0) → ((events : List Doing) → one events → other events) → Does kinds cells at after one → Does kinds cells at after other
+does_as kinds cells at after one other so d = record { events = d.events; held = so d.events d.held; went = d.went }
+
+-- a response, or the want of memory for it, is no exhausted cell
+pub not_exhausted : {A : Type 0} (response : Response) (reply : Result Response ApiErr) (count : ℕ) → IsOr response reply → reply ≡ Err (error.Exhausted count) → A
+not_exhausted response reply count (inl given) is = absurd (cc)
+not_exhausted response reply count (inr given) is = absurd (cc)
+
+-- what a state call shows, a seat of the pass shows
+pub shown : {O : Type 0} (seats : SeatsAt O) (place : ℕ) (bound : Bound) (count : ℕ) → IsShown place bound seats.stores seats.breakers count → Shows seats count
+shown seats place bound count (inl here) = store place here
+shown seats place bound count (inr there) = breaker there.0 there.2
+
+-- a route with a store is one of the state API
+pub has_store : (asked : Route) (name : List ℕ) → store_in asked ≡ Some name → IsState asked
+has_store (route.Save s) name is = tt
+has_store (route.Get s key) name is = tt
+has_store (route.Delete s key) name is = tt
+has_store (route.Bulk s) name is = tt
+has_store (route.Transact s) name is = tt
+has_store (route.Invoke app rest) name is = absurd (cc)
+has_store (route.Publish pubsub topic) name is = absurd (cc)
+has_store (route.Binding other) name is = absurd (cc)
+has_store route.Health name is = absurd (cc)
+has_store route.Metadata name is = absurd (cc)
+has_store (route.SetMetadata other) name is = absurd (cc)
+has_store route.Shutdown name is = absurd (cc)
+
+module _ (config : Config) (request : Request) (events : List Doing) (reply : Result Response ApiErr) where
+  of_name : (asked : Route) (name s : List ℕ) → Some s ≡ Some name → AtStore config request asked name events reply → AtStore config request asked s events reply
+  of_name asked name s is at = let same : name ≡ s = cc in subst (λ n. AtStore config request asked n events reply) same at
+
+  -- what is done at the store of its name is what is done for the request
+  pub state_answered : (asked : Route) (name : List ℕ) → store_in asked ≡ Some name → AtStore config request asked name events reply → Answered config request (Ok asked) events reply
+  state_answered (route.Save s) name is at = of_name (route.Save s) name s is at
+  state_answered (route.Get s key) name is at = of_name (route.Get s key) name s is at
+  state_answered (route.Delete s key) name is at = of_name (route.Delete s key) name s is at
+  state_answered (route.Bulk s) name is at = of_name (route.Bulk s) name s is at
+  state_answered (route.Transact s) name is at = of_name (route.Transact s) name s is at
+  state_answered (route.Invoke app rest) name is at = absurd (cc)
+  state_answered (route.Publish pubsub topic) name is at = absurd (cc)
+  state_answered (route.Binding other) name is at = absurd (cc)
+  state_answered route.Health name is at = absurd (cc)
+  state_answered route.Metadata name is at = absurd (cc)
+  state_answered (route.SetMetadata other) name is at = absurd (cc)
+  state_answered route.Shutdown name is at = absurd (cc)
+
+-- an error of one call as that of another
+pub same_err : {A B E : Type 0} (e other : E) → ◌≡◌ {A = Result A E} (Err e) (Err other) → ◌≡◌ {A = Result B E} (Err e) (Err other)
+same_err {A} {B} {E} e other is = let same : e ≡ other = cc in ap {A = E} {B = Result B E} (λ (x : E). Err x) same
+
+-- what the book answered to a value, as the response to it
+pub put_says : (answer : NotesReply) (reply : Result Response ApiErr) → IsPutReply answer → IsOr (put_response answer) reply → PutReplies answer reply
+put_says told.Noted reply is given = given
+put_says (told.Full names bytes) reply is given = given
+put_says (told.Listed pairs) reply is given = is
+put_says told.NoMemory reply is given = absurd is
+
+-- a request that gives no command
+pub fault_at : (place : ℕ) (site : Site) (request : Request) (asked : Route) (e : StateErr) (reply : Result Response ApiErr) → Tells {A = Cmd} (Err e) (Asks site.prefix request asked) → FaultGives e reply → AtSite place site request asked [] reply
+fault_at place site request asked (fault.Malformed what) reply asks gives = exchange.refused what asks (refl, gives)
+fault_at place site request asked fault.NoMemory reply asks gives = exchange.lacks (refl, gives)
+
+pub fault_shows_nothing : {A : Type 0} (e : StateErr) (reply : Result Response ApiErr) (count : ℕ) → FaultGives e reply → reply ≡ Err (error.Exhausted count) → A
+fault_shows_nothing (fault.Malformed what) reply count gives is = not_exhausted _ reply count gives is
+fault_shows_nothing fault.NoMemory reply count gives is = absurd (cc)
+
+-- a request without a route meets no cell
+pub refusal_shows_nothing : {A : Type 0} (config : Config) (request : Request) (e : RouteErr) (reply : Result Response ApiErr) (count : ℕ) → Answered config request (Err e) [] reply → reply ≡ Err (error.Exhausted count) → A
+refusal_shows_nothing config request lost.NotFound reply count gives is = not_exhausted _ reply count gives.1 is
+refusal_shows_nothing config request (lost.MethodNotAllowed allow) reply count gives is = not_exhausted _ reply count gives.1 is
+refusal_shows_nothing config request (lost.BadEscape at) reply count gives is = not_exhausted _ reply count gives.1 is
+refusal_shows_nothing config request lost.NoMemory reply count gives is = let other : reply ≡ Err error.NoMemory = gives.1 in absurd (cc)

@@ -1,0 +1,23 @@
+use Rattle.std.proofs.Common.{Ok, Err, subst}
+use Rattle.state_core.specs.declared.command.Cmd.{Cmd}
+use Rattle.state_api.specs.Given.{Tells}
+use Rattle.state_api.specs.Asked.{Asks}
+use Rattle.sidecar_core.specs.Exchange.{Called}
+use Rattle.sidecar_core.specs.Exchange as exchange
+use Rattle.sidecar_core.specs.Composed.{does_nothing}
+use Rattle.sidecar_core.proofs.Answering.{does_as, fault_at, fault_shows_nothing}
+use Rattle.sidecar_core.proofs.state_request.at_site.Goals as goal
+
+pub returns-in-Ok-clause-does : goal.returns-in-Ok-clause-does
+returns-in-Ok-clause-does g c = λ calls. does_as _ _ _ _ _ _
+    (λ events by. exchange.called c.in-Ok.cmd (subst (λ p. Asks p c.args.request.now c.args.route.now (Ok c.in-Ok.cmd)) c.prefix.ensures c.in-Ok.ensures.asks) (subst (λ b. Called c.args.place b c.in-Ok.cmd events c.call.result) c.bound.ensures.value by))
+    (c.call.ensures.does calls)
+
+pub returns-in-Err-clause-does : goal.returns-in-Err-clause-does
+returns-in-Err-clause-does g c = λ calls. does_nothing _ _ _ _
+    (fault_at c.args.place c.args.site.now c.args.request.now c.args.route.now c.in-Err.error c.given_fault.result
+    (subst (λ p. Tells {A = Cmd} (Err c.in-Err.error) (Asks p c.args.request.now c.args.route.now)) c.prefix.ensures (subst (λ r. Tells {A = Cmd} r (Asks c.prefix.result.now c.args.request.now c.args.route.now)) c.in-Err.is c.command.ensures.asks))
+    c.given_fault.ensures)
+
+pub returns-in-Err-clause-shows : goal.returns-in-Err-clause-shows
+returns-in-Err-clause-shows g c = λ count is. fault_shows_nothing c.in-Err.error c.given_fault.result count c.given_fault.ensures is

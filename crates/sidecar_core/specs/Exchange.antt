@@ -1,0 +1,155 @@
+-- An exchange: what is done for a request, and what is answered.
+use Rattle.std.specs.Prelude.{◌≡◌, ◌⊎◌, ℕ, List, [], ◌∷◌, Result, Ok, Err, Option, Some, None, IsUtf8}
+use Rattle.side_base.specs.declared.message.Request.{Request}
+use Rattle.side_base.specs.declared.message.Response.{Response}
+use Rattle.turn_cell.specs.declared.error.ApiErr.{ApiErr}
+use Rattle.turn_cell.specs.declared.error.ApiErr.TheVariants as error
+use Rattle.api_routes.specs.declared.route.Route.{Route}
+use Rattle.api_routes.specs.declared.route.Route.TheVariants as route
+use Rattle.api_routes.specs.declared.route.RouteErr.{RouteErr}
+use Rattle.api_routes.specs.declared.route.RouteErr.TheVariants.{NotFound, MethodNotAllowed, BadEscape, NoMemory}
+use Rattle.api_routes.specs.Route.{Answers}
+use Rattle.retry_core.specs.declared.policy.Bound.{Bound}
+use Rattle.state_core.specs.declared.command.Cmd.{Cmd}
+use Rattle.state_api.specs.declared.running.Ran.{Ran}
+use Rattle.state_api.specs.declared.what.What.{What}
+use Rattle.state_api.specs.declared.what.What.TheVariants.{Shape}
+use Rattle.state_api.specs.declared.what.StateErr.{StateErr}
+use Rattle.state_api.specs.declared.what.StateErr.TheVariants as fault
+use Rattle.state_api.specs.Asked.{Asks}
+use Rattle.state_api.specs.Response.{response_of, malformed, done}
+use Rattle.meta_api.specs.declared.command.NotesCmd.{NotesCmd}
+use Rattle.meta_api.specs.declared.command.NotesCmd.TheVariants.{Put}
+use Rattle.meta_api.specs.declared.command.NotesCmd.TheVariants as ask
+use Rattle.meta_api.specs.declared.command.NotesReply.{NotesReply}
+use Rattle.meta_api.specs.declared.command.NotesReply.TheVariants as told
+use Rattle.meta_api.specs.History.{Step}
+use Rattle.meta_api.specs.Body.{metadata_response, put_response}
+use Rattle.sidecar_core.specs.declared.config.Config.{Config}
+use Rattle.sidecar_core.specs.Site.{Site}
+use Rattle.sidecar_core.specs.declared.doing.Doing.{Doing}
+use Rattle.sidecar_core.specs.declared.doing.Doing.TheVariants.{Noted}
+use Rattle.sidecar_core.specs.Ran.{StoreRan}
+use Rattle.sidecar_core.specs.Responses.{no_route, not_allowed, bad_escape, not_yet, no_store}
+use Rattle.sidecar_core.specs.Sites.{sites_of, place_named, IsSite, notes_of}
+
+-- this response, or there is no memory for it
+abbrev pub IsOr : Response → Result Response ApiErr → Type 0
+IsOr response reply = (reply ≡ Ok response) ⊎ (reply ≡ Err error.NoMemory)
+
+-- nothing is done, and there is no memory
+abbrev pub Lacks : List Doing → Result Response ApiErr → Type 0
+Lacks events reply = (events ≡ []) × (reply ≡ Err error.NoMemory)
+
+-- nothing is done, and this is answered
+abbrev pub Gives : Response → List Doing → Result Response ApiErr → Type 0
+Gives response events reply = (events ≡ []) × IsOr response reply
+
+-- ---- state
+
+-- the name of the store of a request of the state API
+abbrev pub store_in : Route → Option (List ℕ)
+store_in (route.Save store) = Some store
+store_in (route.Get store key) = Some store
+store_in (route.Delete store key) = Some store
+store_in (route.Bulk store) = Some store
+store_in (route.Transact store) = Some store
+store_in (route.Invoke app rest) = None
+store_in (route.Publish pubsub topic) = None
+store_in (route.Binding name) = None
+store_in route.Health = None
+store_in route.Metadata = None
+store_in (route.SetMetadata name) = None
+store_in route.Shutdown = None
+
+-- the response to what a state call came to; a call that ended early has none
+abbrev pub Replies : Cmd → Result Ran ApiErr → Result Response ApiErr → Type 0
+Replies cmd (Ok ran) reply = IsOr (response_of cmd ran) reply
+Replies cmd (Err e) reply = reply ≡ Err e
+
+-- what is answered to a request that gives no command
+abbrev pub FaultGives : StateErr → Result Response ApiErr → Type 0
+FaultGives (fault.Malformed what) reply = IsOr (malformed what) reply
+FaultGives fault.NoMemory reply = reply ≡ Err error.NoMemory
+
+-- a command was given to the store at this place, under what is bound to it
+pub record Called (place : ℕ) (bound : Bound) (cmd : Cmd) (events : List Doing) (reply : Result Response ApiErr) : Type 0 where
+  pub ran : Result Ran ApiErr
+  pub steps : StoreRan place bound cmd events ran
+  pub replies : Replies cmd ran reply
+
+-- A request of the state API at a store: its body is judged first, and then the command is given to the store. There may be no memory before anything is done
+pub data AtSite (place : ℕ) (site : Site) (request : Request) (asked : Route) (events : List Doing) (reply : Result Response ApiErr) : Type 0 where
+  lacks : Lacks events reply → AtSite place site request asked events reply
+  refused : (what : What) → Asks site.prefix request asked (Err what) → Gives (malformed what) events reply → AtSite place site request asked events reply
+  called : (cmd : Cmd) → Asks site.prefix request asked (Ok cmd) → Called place site.bound cmd events reply → AtSite place site request asked events reply
+
+-- a request of the state API: the store of its name is looked for first
+pub data AtStore (config : Config) (request : Request) (asked : Route) (name : List ℕ) (events : List Doing) (reply : Result Response ApiErr) : Type 0 where
+  unknown : place_named name (sites_of config) ≡ None → Gives (no_store name) events reply → AtStore config request asked name events reply
+  found : (place : ℕ) (site : Site) → IsSite config name place site → AtSite place site request asked events reply → AtStore config request asked name events reply
+
+-- ---- metadata
+
+-- one step of the book with this command, and its reply; or the book's cell is exhausted, and there is no step
+pub data NotesRan (cmd : NotesCmd) (events : List Doing) (result : Result NotesReply ApiErr) : Type 0 where
+  stepped : (step : Step) → step.cmd ≡ cmd → events ≡ Noted step ∷ [] → result ≡ Ok step.reply → NotesRan cmd events result
+  exhausted : (count : ℕ) → events ≡ [] → result ≡ Err (error.Exhausted count) → NotesRan cmd events result
+
+-- the response to a value that was to be noted
+abbrev pub PutReplies : NotesReply → Result Response ApiErr → Type 0
+PutReplies told.Noted reply = IsOr (put_response told.Noted) reply
+PutReplies (told.Full names bytes) reply = IsOr (put_response (told.Full names bytes)) reply
+PutReplies (told.Listed pairs) reply = ⊥
+PutReplies told.NoMemory reply = reply ≡ Err error.NoMemory
+
+-- the response to metadata that was asked for
+abbrev pub ListReplies : Config → NotesReply → Result Response ApiErr → Type 0
+ListReplies config told.Noted reply = ⊥
+ListReplies config (told.Full names bytes) reply = ⊥
+ListReplies config (told.Listed pairs) reply = IsOr (metadata_response config.app (notes_of config) [] pairs) reply
+ListReplies config told.NoMemory reply = reply ≡ Err error.NoMemory
+
+-- what is answered where the book was asked; a call that ended early has no response
+abbrev pub NotesReplies : (NotesReply → Result Response ApiErr → Type 0) → Result NotesReply ApiErr → Result Response ApiErr → Type 0
+NotesReplies replies (Ok answer) reply = replies answer reply
+NotesReplies replies (Err e) reply = reply ≡ Err e
+
+-- the book was asked, and its reply is answered so
+pub record AtNotes (cmd : NotesCmd) (replies : NotesReply → Result Response ApiErr → Type 0) (events : List Doing) (reply : Result Response ApiErr) : Type 0 where
+  pub ran : Result NotesReply ApiErr
+  pub steps : NotesRan cmd events ran
+  pub says : NotesReplies replies ran reply
+
+-- A value is noted for a name if it is UTF-8; there may be no memory before anything is done
+pub data SetsNote (name value : List ℕ) (events : List Doing) (reply : Result Response ApiErr) : Type 0 where
+  lacks : Lacks events reply → SetsNote name value events reply
+  refused : ¬ IsUtf8 value → Gives (malformed Shape) events reply → SetsNote name value events reply
+  noted : IsUtf8 value → AtNotes (Put name value) PutReplies events reply → SetsNote name value events reply
+
+-- ---- all routes
+
+-- what a route's request is answered
+abbrev pub Answered : Config → Request → Result Route RouteErr → List Doing → Result Response ApiErr → Type 0
+Answered config request (Ok (route.Save store)) events reply = AtStore config request (route.Save store) store events reply
+Answered config request (Ok (route.Get store key)) events reply = AtStore config request (route.Get store key) store events reply
+Answered config request (Ok (route.Delete store key)) events reply = AtStore config request (route.Delete store key) store events reply
+Answered config request (Ok (route.Bulk store)) events reply = AtStore config request (route.Bulk store) store events reply
+Answered config request (Ok (route.Transact store)) events reply = AtStore config request (route.Transact store) store events reply
+Answered config request (Ok (route.Invoke app rest)) events reply = Gives not_yet events reply
+Answered config request (Ok (route.Publish pubsub topic)) events reply = Gives not_yet events reply
+Answered config request (Ok (route.Binding name)) events reply = Gives not_yet events reply
+Answered config request (Ok route.Health) events reply = Gives done events reply
+Answered config request (Ok route.Metadata) events reply = AtNotes ask.List (ListReplies config) events reply
+Answered config request (Ok (route.SetMetadata name)) events reply = SetsNote name request.body events reply
+Answered config request (Ok route.Shutdown) events reply = Gives done events reply
+Answered config request (Err NotFound) events reply = Gives no_route events reply
+Answered config request (Err (MethodNotAllowed allow)) events reply = Gives (not_allowed allow) events reply
+Answered config request (Err (BadEscape at)) events reply = Gives (bad_escape at) events reply
+Answered config request (Err NoMemory) events reply = Lacks events reply
+
+-- the method and the target say the route, and the route says what is done and answered
+pub record Exchange (config : Config) (request : Request) (events : List Doing) (reply : Result Response ApiErr) : Type 0 where
+  pub routed : Result Route RouteErr
+  pub routes : Answers request.method request.target routed
+  pub answered : Answered config request routed events reply

@@ -1,0 +1,13 @@
+-- The cells and the passes of the program's own types, as lists.
+use Rattle.keeper_core.specs.declared.keeper.Keeper.{Ghosts}
+use Rattle.state_core.specs.declared.store.Store.{Store}
+use Rattle.sidecar_core.specs.declared.objects.Objects.{Objects}
+use Rattle.sidecar_core.specs.declared.objects.Pass.{Pass}
+use Rattle.sidecar_core.specs.Did.{CellsAt, SeatsAt}
+
+module _ {K : Type 0} {keeper : Ghosts K} where
+  abbrev pub cells_of : Objects K keeper → CellsAt (Store K keeper)
+  cells_of objects = record { stores = objects.stores.items; ledgers = objects.ledgers.items; breakers = objects.breakers.items; notes = objects.notes }
+
+  abbrev pub seats_of : Pass K keeper → SeatsAt (Store K keeper)
+  seats_of pass = record { stores = pass.stores.items; ledgers = pass.ledgers.items; breakers = pass.breakers.items; notes = pass.notes }

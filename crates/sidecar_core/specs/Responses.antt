@@ -1,0 +1,27 @@
+-- Responses that the sidecar gives by itself, before anything is done.
+use Rattle.std.specs.Prelude.{ℕ, List, [], ◌∷◌, ◌++◌, codes, decimal}
+use Rattle.side_base.specs.declared.message.Response.{Response}
+use Rattle.api_error.specs.declared.code.Code.TheVariants as code
+use Rattle.api_error.specs.Body.{error_response, error_body, json_type}
+use Rattle.api_routes.specs.declared.methods.Methods.{Methods}
+use Rattle.api_routes.specs.Methods.{allow_text}
+
+abbrev pub no_route : Response
+no_route = error_response 404 code.NotFound (codes "no route")
+
+-- the methods that have a route for the path (RFC 9110, section 15.5.6)
+abbrev pub not_allowed : Methods → Response
+not_allowed allow = record {
+  status = 405;
+  fields = json_type ∷ record { name = codes "Allow"; value = allow_text allow } ∷ [];
+  body = error_body code.MethodNotAllowed (codes "method");
+}
+
+abbrev pub bad_escape : ℕ → Response
+bad_escape at = error_response 400 code.MalformedRequest (codes "escape at " ++ decimal at)
+
+abbrev pub not_yet : Response
+not_yet = error_response 400 code.NotYet (codes "not yet")
+
+abbrev pub no_store : List ℕ → Response
+no_store name = error_response 400 code.StateStoreNotFound (codes "state store " ++ name ++ codes " is not found")

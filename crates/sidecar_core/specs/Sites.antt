@@ -1,0 +1,54 @@
+-- The stores of a configuration, and what metadata tells of its components.
+use Rattle.std.specs.Prelude.{◌≡◌, ℕ, Bool, true, false, List, map, filter, bytes_eq, position, Option, Some}
+use mathlib.Core.Option.{some}
+use lib.ListN.{get_elem?}
+use Rattle.resource_spec.specs.declared.component.ComponentKind.{ComponentKind}
+use Rattle.resource_spec.specs.declared.component.ComponentKind.TheVariants as kinds
+use Rattle.resource_spec.specs.Component.{Loaded, key_prefix_of, kind_name}
+use Rattle.policy_spec.specs.Policies.{bound_by, outbound}
+use Rattle.meta_api.specs.declared.response.ComponentNote.{ComponentNote}
+use Rattle.sidecar_core.specs.declared.config.Config.{Config}
+use Rattle.sidecar_core.specs.Site.{Site}
+
+abbrev pub is_store : ComponentKind → Bool
+is_store kinds.StateMemory = true
+is_store kinds.StateJournal = true
+is_store kinds.PubsubMemory = false
+is_store kinds.BindingHttp = false
+
+abbrev pub is_pubsub : ComponentKind → Bool
+is_pubsub kinds.StateMemory = false
+is_pubsub kinds.StateJournal = false
+is_pubsub kinds.PubsubMemory = true
+is_pubsub kinds.BindingHttp = false
+
+-- the state components, in order
+abbrev pub stores_of : List Loaded → List Loaded
+stores_of components = filter (λ (c : Loaded). is_store c.kind) components
+
+-- the pub/sub components, in order
+abbrev pub pubsubs_of : List Loaded → List Loaded
+pubsubs_of components = filter (λ (c : Loaded). is_pubsub c.kind) components
+
+-- what stands before a store's keys, and what is bound to the calls that are sent to it
+abbrev pub site_of : Config → Loaded → Site
+site_of config c = record { name = c.name; prefix = record { text = key_prefix_of config.app c }; bound = bound_by config.policies (outbound c.name) }
+
+abbrev pub sites_of : Config → List Site
+sites_of config = map (site_of config) (stores_of config.components)
+
+-- the place of the first store of this name
+abbrev pub place_named : List ℕ → List Site → Option ℕ
+place_named name sites = position (λ (site : Site). bytes_eq site.name name) sites
+
+-- this is the store of this name, and it stands at this place
+pub record IsSite (config : Config) (name : List ℕ) (place : ℕ) (site : Site) : Type 0 where
+  pub named : place_named name (sites_of config) ≡ Some place
+  pub there : get_elem? (sites_of config) place ≡ some site
+
+-- what metadata tells of a component: its name, its type and its version
+abbrev pub note_of : Loaded → ComponentNote
+note_of c = record { name = c.name; kind = kind_name c.kind; version = c.version }
+
+abbrev pub notes_of : Config → List ComponentNote
+notes_of config = map note_of config.components

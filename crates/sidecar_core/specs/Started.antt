@@ -1,0 +1,27 @@
+-- What the objects of a configuration begin with.
+use Rattle.std.specs.Prelude.{◌≡◌, List, [], length, map}
+use Rattle.std.specs.List.{All}
+use Rattle.keeper_core.specs.declared.keeper.Keeper.{Ghosts}
+use Rattle.turn_cell.specs.Sitting.{root_of}
+use Rattle.state_core.specs.Store.{keeper_of}
+use Rattle.ledger_core.specs.Ledger.{plans_of}
+use Rattle.breaker_core.specs.Breaker.{policy_of}
+use Rattle.meta_api.specs.Notes.{pairs_of}
+use Rattle.sidecar_core.specs.declared.config.Config.{Config}
+use Rattle.sidecar_core.specs.declared.objects.Objects.{Objects}
+use Rattle.sidecar_core.specs.declared.objects.Pass.{Pass}
+use Rattle.sidecar_core.specs.Sites.{pubsubs_of}
+
+-- the stores have the keepers, in order; each broker has a ledger without subscriptions; the breakers have their policies, in order; the book is empty; and the
+-- pass is that of the root seats
+pub record IsStarted {K : Type 0} {keeper : Ghosts K} (config : Config) (keepers : List K) (config' : Config) (objects : Objects K keeper) (pass : Pass K keeper) : Type 0 where
+  pub same : config' ≡ config
+  pub stores : map (λ cell. keeper_of cell.first) objects.stores.items ≡ keepers
+  pub ledgers : length objects.ledgers.items ≡ length (pubsubs_of config.components)
+  pub plans : All (λ cell. plans_of cell.first ≡ []) objects.ledgers.items
+  pub breakers : map (λ cell. policy_of cell.first) objects.breakers.items ≡ config.policies.breakers
+  pub notes : pairs_of objects.notes.first ≡ []
+  pub store_roots : pass.stores.items ≡ map root_of objects.stores.items
+  pub ledger_roots : pass.ledgers.items ≡ map root_of objects.ledgers.items
+  pub breaker_roots : pass.breakers.items ≡ map root_of objects.breakers.items
+  pub notes_root : pass.notes ≡ root_of objects.notes

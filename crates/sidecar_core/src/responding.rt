@@ -1,0 +1,134 @@
+ghost use Rattle.std.specs.Prelude.{◌≡◌, ℕ, List, [], Option, None, Ok, Err, IfOk, option_map};
+ghost use Rattle.rand_core.specs.Stream.{Stream};
+ghost use Rattle.http.specs.StatusCode.{IsStatusCode};
+ghost use Rattle.side_base.specs.declared.message.Request.{Request as RequestRecord};
+ghost use Rattle.side_world.specs.declared.link.LinkCall.{LinkCall};
+ghost use Rattle.turn_cell.specs.declared.error.ApiErr.TheVariants as error;
+ghost use Rattle.policy_run.specs.Effects.{Clocked, clocked};
+ghost use Rattle.sidecar_core.specs.Did.{IsPassOf, Does, Shows};
+ghost use Rattle.sidecar_core.specs.declared.config.Config.{Config as ConfigRecord};
+ghost use Rattle.sidecar_core.specs.Pass.{cells_of, seats_of};
+ghost use Rattle.sidecar_core.specs.Exchange.{Answered, Exchange, store_in};
+
+use crate::given::given;
+use crate::kinds::ObjectKinds;
+use crate::note_request::{list, put};
+use crate::refusing::{bad_escape, no_route, not_allowed, not_yet};
+use crate::state_request::at_store;
+use crate::{Pass, Shared};
+use api_routes::{Route, RouteErr};
+use keeper_core::Keeper;
+use meta_api::health;
+use rand_core::Rng;
+use side_base::{Request, Response, Text};
+use side_world::{Clock, Link};
+use state_core::Store;
+use std::alloc::Global;
+use std::sync::Wait;
+use turn_cell::ApiErr;
+
+/// Answers a request: its route is looked for first, then the name of its component, then its body is judged, and then its steps are made.
+///
+/// Where there is no memory, or a cell is exhausted, the request has ended early: what was done until then stays done. The status of the
+/// response is from 100 to 999.
+pub fn respond<K: Keeper, L: Link, C: Clock, R: Rng, W: Wait>(
+    rt: &W,
+    shared: &Shared<K>,
+    pass: &mut Pass<K>,
+    request: &Request,
+    link: &mut L,
+    clock: &mut C,
+    rng: &mut R,
+) -> Result<Response, ApiErr>
+    requires pass { IsPassOf (cells_of shared.now.objects) (seats_of pass.old) }
+    ensures exchange { Does ⟦<Store<K> as ObjectKinds>⟧.kinds (cells_of shared.now.objects) (record { seats = seats_of pass.old; clock = clocked C.Clock clock.old; calls = L.calls link.old; words = R.stream rng.old }) (record { seats = seats_of pass.new; clock = clocked C.Clock clock.new; calls = L.calls link.new; words = R.stream rng.new }) (λ events. Exchange shared.now.config request.now events result) }
+    ensures pass { IsPassOf (cells_of shared.now.objects) (seats_of pass.new) }
+    ensures shows { (count : ℕ) → result ≡ Err (error.Exhausted count) → Shows (seats_of pass.new) count }
+    ensures status { IfOk result (λ response. IsStatusCode response.status) }
+{
+    match shared.route(request) {
+        Ok(route) => answer(rt, shared, pass, request, &route, clock, rng),
+        Err(error) => given_refusal(shared.alloc, error),
+    }
+}
+
+/// Answers a request of this route.
+fn answer<K: Keeper, C: Clock, R: Rng, W: Wait>(
+    rt: &W,
+    shared: &Shared<K>,
+    pass: &mut Pass<K>,
+    request: &Request,
+    route: &Route,
+    clock: &mut C,
+    rng: &mut R,
+) -> Result<Response, ApiErr>
+    requires pass { IsPassOf (cells_of shared.now.objects) (seats_of pass.old) }
+    ensures does { (calls : Option (List LinkCall)) → Does ⟦<Store<K> as ObjectKinds>⟧.kinds (cells_of shared.now.objects) (record { seats = seats_of pass.old; clock = clocked C.Clock clock.old; calls = calls; words = R.stream rng.old }) (record { seats = seats_of pass.new; clock = clocked C.Clock clock.new; calls = calls; words = R.stream rng.new }) (λ events. Answered shared.now.config request.now (Ok route.now) events result) }
+    ensures shows { (count : ℕ) → result ≡ Err (error.Exhausted count) → Shows (seats_of pass.new) count }
+{
+    match store_in(route) {
+        Some(name) => at_store(rt, shared, pass, request, route, name, clock, rng),
+        None => answer_plainly(rt, shared, pass, request, route),
+    }
+}
+
+/// The name of the store of a request of the state API.
+fn store_in(route: &Route) -> Option<&Text>
+    ensures { option_map (λ name. name.now) result ≡ store_in route.now }
+{
+    match route {
+        Route::Save { store }
+        | Route::Get { store, .. }
+        | Route::Delete { store, .. }
+        | Route::Bulk { store }
+        | Route::Transact { store } => Some(store),
+        Route::Invoke { .. }
+        | Route::Publish { .. }
+        | Route::Binding { .. }
+        | Route::Health
+        | Route::Metadata
+        | Route::SetMetadata { .. }
+        | Route::Shutdown => None,
+    }
+}
+
+/// Answers a request of a route that is none of the state API.
+fn answer_plainly<K: Keeper, W: Wait>(
+    rt: &W,
+    shared: &Shared<K>,
+    pass: &mut Pass<K>,
+    request: &Request,
+    route: &Route,
+) -> Result<Response, ApiErr>
+    requires pass { IsPassOf (cells_of shared.now.objects) (seats_of pass.old) }
+    requires route { store_in route.now ≡ None }
+    ensures does { (clock : Clocked) (calls : Option (List LinkCall)) (words : Stream) → Does ⟦<Store<K> as ObjectKinds>⟧.kinds (cells_of shared.now.objects) (record { seats = seats_of pass.old; clock = clock; calls = calls; words = words }) (record { seats = seats_of pass.new; clock = clock; calls = calls; words = words }) (λ events. Answered shared.now.config request.now (Ok route.now) events result) }
+    ensures shows { (count : ℕ) → result ≡ Err (error.Exhausted count) → Shows (seats_of pass.new) count }
+{
+    match route {
+        Route::Health => Ok(health(shared.alloc)),
+        Route::Shutdown => Ok(health(shared.alloc)),
+        Route::Metadata => list(rt, shared, pass),
+        Route::SetMetadata { name } => put(rt, shared, pass, name, request.body.bytes()),
+        Route::Invoke { .. } => given(not_yet(shared.alloc)),
+        Route::Publish { .. } => given(not_yet(shared.alloc)),
+        Route::Binding { .. } => given(not_yet(shared.alloc)),
+        Route::Save { .. }
+        | Route::Get { .. }
+        | Route::Delete { .. }
+        | Route::Bulk { .. }
+        | Route::Transact { .. } => unreachable!(),
+    }
+}
+
+/// Answers a request that has no route.
+fn given_refusal(alloc: Global, error: RouteErr) -> Result<Response, ApiErr>
+    ensures { (config : ConfigRecord) (request : RequestRecord) → Answered config request (Err error) [] result }
+{
+    match error {
+        RouteErr::NotFound => given(no_route(alloc)),
+        RouteErr::MethodNotAllowed { allow } => given(not_allowed(alloc, allow)),
+        RouteErr::BadEscape { at } => given(bad_escape(alloc, at)),
+        RouteErr::NoMemory => Err(ApiErr::NoMemory),
+    }
+}

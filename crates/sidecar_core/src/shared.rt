@@ -1,0 +1,62 @@
+ghost use Rattle.std.specs.Prelude.{◌≡◌, ◌≤◌, ◌<◌, ℕ, [], length};
+ghost use Rattle.std.specs.Option.{ForSome};
+ghost use Rattle.std.specs.Vec.{vec_capacity};
+ghost use mathlib.Core.Option.{some};
+ghost use lib.ListN.{get_elem?};
+ghost use Rattle.sidecar_core.specs.Site.{Site};
+ghost use Rattle.sidecar_core.specs.Sites.{sites_of, notes_of, pubsubs_of};
+
+use crate::{Config, Objects, StoreSite};
+use api_routes::{Route, RouteErr, Routers};
+use keeper_core::Keeper;
+use meta_api::ComponentNotes;
+use side_base::{Request, Text};
+use state_core::Store;
+use std::alloc::Global;
+
+/// What all passes share: the configuration, and a cell for each store, each ledger, each breaker and for the book of metadata.
+#[derive(Drop)]
+pub struct Shared<K: Keeper> {
+    pub config: Config,
+    pub objects: Objects<K>,
+    pub(crate) alloc: Global,
+    pub(crate) routers: Routers,
+    /// The stores, at the places of their cells.
+    pub(crate) sites: Vec<StoreSite>,
+    /// The components, as metadata tells them.
+    pub(crate) notes: ComponentNotes,
+    /// Room for the stores and their keepers where the cells are closed.
+    pub(crate) closed: Vec<Store<K>>,
+    pub(crate) kept: Vec<K>,
+    ghost has_sites: { sites.items ≡ sites_of config },
+    ghost has_notes: { notes ≡ notes_of config },
+    ghost stores: { length objects.stores.items ≡ length sites.items },
+    ghost ledgers: { length objects.ledgers.items ≡ length (pubsubs_of config.components) },
+    ghost breakers: { length objects.breakers.items ≡ length config.policies.breakers },
+    ghost bounds: { (k : ℕ) (site : Site) → get_elem? sites.items k ≡ some site → ForSome site.bound.breaker (λ place. place < length config.policies.breakers) },
+    ghost closed_room: { (closed.items ≡ []) × (length objects.stores.items ≤ vec_capacity closed) },
+    ghost kept_room: { (kept.items ≡ []) × (length objects.stores.items ≤ vec_capacity kept) },
+}
+
+impl<K: Keeper> Shared<K> {
+    ghost use Rattle.std.specs.Prelude.{◌≡◌};
+    ghost use Rattle.api_routes.specs.Route.{Answers};
+    ghost use Rattle.sidecar_core.specs.Sites.{place_named, sites_of};
+
+    /// The route of a request.
+    pub(crate) fn route(&self, request: &Request) -> Result<Route, RouteErr>
+        ensures { Answers request.now.method request.now.target result }
+    {
+        self.routers
+            .route(self.alloc, request.method, request.target.bytes())
+    }
+
+    /// The place of the store of this name.
+    pub(crate) fn place_of(&self, name: &Text) -> Option<usize>
+        ensures { result ≡ place_named name.now (sites_of self.now.config) }
+    {
+        self.sites
+            .iter()
+            .position(|site| site.name().bytes() == name.bytes())
+    }
+}

@@ -1,0 +1,226 @@
+ghost use Rattle.std.specs.Prelude.{◌≡◌, ◌<◌, ◌≤◌, ◌+◌, ◌++◌, ◌∷◌, [], length, map, All, IfOk, OnOk, option_map};
+ghost use Rattle.std.specs.Option.{ForSome};
+ghost use Rattle.retry_core.specs.BreakerPolicy.{IsWithinLimit};
+ghost use Rattle.turn_cell.specs.Sitting.{root_of};
+ghost use Rattle.state_core.specs.Store.{keeper_of};
+ghost use Rattle.ledger_core.specs.Ledger.{plans_of};
+ghost use Rattle.breaker_core.specs.Breaker.{policy_of};
+ghost use Rattle.meta_api.specs.Notes.{pairs_of};
+ghost use Rattle.sidecar_core.specs.Sites.{is_store, is_pubsub, notes_of, note_of, pubsubs_of, site_of, sites_of, stores_of};
+ghost use Rattle.sidecar_core.specs.Started.{IsStarted};
+
+use crate::{Config, Objects, Pass, Shared, StoreSite};
+use api_routes::Routers;
+use breaker_core::Breaker;
+use keeper_core::Keeper;
+use ledger_core::{Ledger, Plans};
+use meta_api::{ComponentNote, ComponentNotes, Notes};
+use policy_spec::{BreakerPolicies, Target, bind, breakers};
+use resource_spec::{Component, ComponentKind, Components};
+use side_base::{NoMemory, Text};
+use state_core::{Prefix, Store};
+use std::alloc::Global;
+use turn_cell::Object;
+
+impl<K: Keeper> Shared<K> {
+    /// Starts all objects of a configuration, with one keeper for each state component, in their order: a ledger for each pub/sub component, a
+    /// breaker for each target that names one, and an empty book of metadata. The pass is that of the root seats.
+    ///
+    /// Without memory the keepers are dropped.
+    pub fn start(
+        alloc: Global,
+        config: Config,
+        keepers: Vec<K>,
+    ) -> Result<(Shared<K>, Pass<K>), NoMemory>
+        requires { length keepers.items ≡ length (stores_of config.components) }
+        ensures { IfOk result (λ made. IsStarted config keepers.items made.0.config made.0.objects made.1) }
+    {
+        let sites = sites_for(alloc, &config)?;
+        let notes = notes_for(alloc, &config.components)?;
+        let ledgers = ledgers_for(alloc, &config.components)?;
+        let breakers = breakers_for(alloc, breakers(&config.policies))?;
+        let closed = Vec::with_capacity(alloc, keepers.len())?;
+        let kept = Vec::with_capacity(alloc, keepers.len())?;
+        let routers = Routers::new(alloc)?;
+        let stores = stores_for(alloc, keepers)?;
+        let (objects, pass) = Objects::start(alloc, stores, ledgers, breakers, Notes::new(alloc))?;
+        let shared = Shared {
+            config,
+            objects,
+            alloc,
+            routers,
+            sites,
+            notes,
+            closed,
+            kept,
+        };
+        Ok((shared, pass))
+    }
+}
+
+/// How many state components there are: as many keepers as `Shared::start` takes. Takes no memory.
+pub fn count_of_stores(components: &Components) -> usize
+    ensures { result ≡ length (stores_of components.now) }
+{
+    let mut count = 0;
+    for place in 0..components.len() {
+        count += count_of(components.at(place));
+    }
+    count
+}
+
+/// 1 for a store, and 0 for another component.
+fn count_of(component: &Component) -> usize
+    ensures exact { result ≡ length (stores_of (component.now ∷ [])) }
+    ensures within { result ≤ 1 }
+{
+    if is_store(component.kind()) { 1 } else { 0 }
+}
+
+/// The stores of a configuration, as requests find them.
+fn sites_for(alloc: Global, config: &Config) -> Result<Vec<StoreSite>, NoMemory>
+    ensures exact { IfOk result (λ sites. sites.items ≡ sites_of config.now) }
+    ensures bounds { IfOk result (λ sites. All (λ site. ForSome site.bound.breaker (λ place. place < length config.now.policies.breakers)) sites.items) }
+{
+    let mut sites = Vec::new(alloc);
+    for place in 0..config.components.len() {
+        add_site(config, config.components.at(place), &mut sites)?;
+    }
+    Ok(sites)
+}
+
+/// Adds a component to the stores, if it is one.
+fn add_site(
+    config: &Config,
+    component: &Component,
+    sites: &mut Vec<StoreSite>,
+) -> Result<(), NoMemory>
+    ensures added { OnOk result (sites.new.items ≡ sites.old.items ++ map (site_of config.now) (stores_of (component.now ∷ []))) }
+    ensures bounds { OnOk result (All (λ site. ForSome site.bound.breaker (λ place. place < length config.now.policies.breakers)) sites.old.items → All (λ site. ForSome site.bound.breaker (λ place. place < length config.now.policies.breakers)) sites.new.items) }
+{
+    if !is_store(component.kind()) {
+        return Ok(());
+    }
+    sites.push(site_for(config, component)?)?;
+    Ok(())
+}
+
+/// A store, as requests find it.
+fn site_for(config: &Config, component: &Component) -> Result<StoreSite, NoMemory>
+    ensures exact { IfOk result (λ site. site ≡ site_of config.now component.now) }
+    ensures bound { IfOk result (λ site. ForSome site.bound.breaker (λ place. place < length config.now.policies.breakers)) }
+{
+    let name = component.name();
+    let text = copied(component.key_prefix(&config.app))?;
+    let bound = bind(&config.policies, &Target::Outbound { name });
+    Ok(StoreSite::new(name.copy()?, Prefix { text }, bound))
+}
+
+/// A copy of a text, if there is one.
+fn copied(text: Option<&Text>) -> Result<Option<Text>, NoMemory>
+    ensures { IfOk result (λ copy. copy ≡ option_map (λ t. t.now) text.entry) }
+{
+    match text {
+        Some(text) => Ok(Some(text.copy()?)),
+        None => Ok(None),
+    }
+}
+
+/// Whether it is a store.
+fn is_store(kind: ComponentKind) -> bool
+    ensures { result ≡ is_store kind }
+{
+    match kind {
+        ComponentKind::StateMemory | ComponentKind::StateJournal => true,
+        ComponentKind::PubsubMemory | ComponentKind::BindingHttp => false,
+    }
+}
+
+/// Whether it is a broker.
+fn is_pubsub(kind: ComponentKind) -> bool
+    ensures { result ≡ is_pubsub kind }
+{
+    match kind {
+        ComponentKind::PubsubMemory => true,
+        ComponentKind::StateMemory | ComponentKind::StateJournal | ComponentKind::BindingHttp => {
+            false
+        }
+    }
+}
+
+/// What metadata tells of the components.
+fn notes_for(alloc: Global, components: &Components) -> Result<ComponentNotes, NoMemory>
+    ensures { IfOk result (λ notes. notes ≡ map note_of components.now) }
+{
+    let mut notes = ComponentNotes::new(alloc);
+    for place in 0..components.len() {
+        notes.push(note_for(alloc, components.at(place))?)?;
+    }
+    Ok(notes)
+}
+
+/// What metadata tells of a component.
+fn note_for(alloc: Global, component: &Component) -> Result<ComponentNote, NoMemory>
+    ensures { IfOk result (λ note. note ≡ note_of component.now) }
+{
+    Ok(ComponentNote {
+        name: component.name().copy()?,
+        kind: Text::from_static(alloc, component.kind().name()),
+        version: component.version().copy()?,
+    })
+}
+
+/// A store over each keeper.
+fn stores_for<K: Keeper>(alloc: Global, keepers: Vec<K>) -> Result<Vec<Store<K>>, NoMemory>
+    ensures keepers { IfOk result (λ stores. map keeper_of stores.items ≡ keepers.items) }
+    ensures unused { IfOk result (λ stores. All (λ store. ⟦<Store<K> as Object>⟧.used store ≡ 0) stores.items) }
+{
+    let mut stores = Vec::with_capacity(alloc, keepers.len())?;
+    for keeper in keepers {
+        stores.push_reserved(Store::new(alloc, keeper));
+    }
+    Ok(stores)
+}
+
+/// A ledger without subscriptions for each broker.
+fn ledgers_for(alloc: Global, components: &Components) -> Result<Vec<Ledger>, NoMemory>
+    ensures wide { IfOk result (λ ledgers. length ledgers.items ≡ length (pubsubs_of components.now)) }
+    ensures bare { IfOk result (λ ledgers. All (λ ledger. plans_of ledger ≡ []) ledgers.items) }
+    ensures unused { IfOk result (λ ledgers. All (λ ledger. ⟦<Ledger as Object>⟧.used ledger ≡ 0) ledgers.items) }
+{
+    let mut ledgers = Vec::new(alloc);
+    for place in 0..components.len() {
+        add_ledger(alloc, components.at(place), &mut ledgers)?;
+    }
+    Ok(ledgers)
+}
+
+/// Adds a ledger without subscriptions for a component, if it is a broker.
+fn add_ledger(
+    alloc: Global,
+    component: &Component,
+    ledgers: &mut Vec<Ledger>,
+) -> Result<(), NoMemory>
+    ensures wide { OnOk result (length ledgers.new.items ≡ length ledgers.old.items + length (pubsubs_of (component.now ∷ []))) }
+    ensures bare { OnOk result (All (λ ledger. plans_of ledger ≡ []) ledgers.old.items → All (λ ledger. plans_of ledger ≡ []) ledgers.new.items) }
+    ensures unused { OnOk result (All (λ ledger. ⟦<Ledger as Object>⟧.used ledger ≡ 0) ledgers.old.items → All (λ ledger. ⟦<Ledger as Object>⟧.used ledger ≡ 0) ledgers.new.items) }
+{
+    if !is_pubsub(component.kind()) {
+        return Ok(());
+    }
+    ledgers.push(Ledger::new(alloc, Plans::new(alloc)))?;
+    Ok(())
+}
+
+/// A closed breaker of each policy.
+fn breakers_for(alloc: Global, policies: &BreakerPolicies) -> Result<Vec<Breaker>, NoMemory>
+    requires { All IsWithinLimit policies.now }
+    ensures policies { IfOk result (λ breakers. map policy_of breakers.items ≡ policies.now) }
+    ensures unused { IfOk result (λ breakers. All (λ breaker. ⟦<Breaker as Object>⟧.used breaker ≡ 0) breakers.items) }
+{
+    let mut breakers = Vec::with_capacity(alloc, policies.len())?;
+    for place in 0..policies.len() {
+        breakers.push_reserved(Breaker::new(policies.at(place)));
+    }
+    Ok(breakers)
+}

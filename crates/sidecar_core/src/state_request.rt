@@ -1,0 +1,126 @@
+//! Requests of the state API, at the store of their name.
+ghost use Rattle.std.specs.Prelude.{◌≡◌, ◌<◌, ℕ, List, length, Option, Some, Err};
+ghost use Rattle.std.specs.Option.{ForSome};
+ghost use Rattle.side_world.specs.declared.link.LinkCall.{LinkCall};
+ghost use Rattle.turn_cell.specs.declared.error.ApiErr.TheVariants as error;
+ghost use Rattle.state_core.specs.Taken.{IsTaken};
+ghost use Rattle.state_api.specs.Asked.{IsState};
+ghost use Rattle.state_api.specs.Response.{IsCut};
+ghost use Rattle.policy_run.specs.Effects.{clocked};
+ghost use Rattle.retry_core.specs.Bound.{IsWithinLimit};
+ghost use Rattle.sidecar_core.specs.Did.{IsPassOf, Does, Shows};
+ghost use Rattle.sidecar_core.specs.Pass.{cells_of, seats_of};
+ghost use Rattle.sidecar_core.specs.Exchange.{AtSite, AtStore, Called, FaultGives, store_in};
+
+use crate::given::given;
+use crate::kinds::ObjectKinds;
+use crate::refusing::no_store;
+use crate::storing::run_store;
+use crate::{Pass, Shared, StoreSite};
+use api_routes::Route;
+use keeper_core::Keeper;
+use rand_core::Rng;
+use retry_core::Bound;
+use side_base::{Request, Response, Text};
+use side_world::Clock;
+use state_api::laws::the_moment_changes_no_response;
+use state_api::{StateErr, command, malformed_response, response};
+use state_core::{Cmd, Store};
+use std::alloc::Global;
+use std::sync::Wait;
+use turn_cell::ApiErr;
+
+/// Answers a request of the state API: the store of its name is looked for first.
+pub(crate) fn at_store<K: Keeper, C: Clock, R: Rng, W: Wait>(
+    rt: &W,
+    shared: &Shared<K>,
+    pass: &mut Pass<K>,
+    request: &Request,
+    route: &Route,
+    name: &Text,
+    clock: &mut C,
+    rng: &mut R,
+) -> Result<Response, ApiErr>
+    requires pass { IsPassOf (cells_of shared.now.objects) (seats_of pass.old) }
+    requires store { store_in route.now ≡ Some name.now }
+    ensures does { (calls : Option (List LinkCall)) → Does ⟦<Store<K> as ObjectKinds>⟧.kinds (cells_of shared.now.objects) (record { seats = seats_of pass.old; clock = clocked C.Clock clock.old; calls = calls; words = R.stream rng.old }) (record { seats = seats_of pass.new; clock = clocked C.Clock clock.new; calls = calls; words = R.stream rng.new }) (λ events. AtStore shared.now.config request.now route.now name.now events result) }
+    ensures shows { (count : ℕ) → result ≡ Err (error.Exhausted count) → Shows (seats_of pass.new) count }
+{
+    match shared.place_of(name) {
+        None => given(no_store(shared.alloc, name)),
+        Some(place) => at_site(
+            rt,
+            shared,
+            pass,
+            place,
+            &shared.sites[place],
+            request,
+            route,
+            clock,
+            rng,
+        ),
+    }
+}
+
+/// Answers a request of the state API at the store of this place.
+fn at_site<K: Keeper, C: Clock, R: Rng, W: Wait>(
+    rt: &W,
+    shared: &Shared<K>,
+    pass: &mut Pass<K>,
+    place: usize,
+    site: &StoreSite,
+    request: &Request,
+    route: &Route,
+    clock: &mut C,
+    rng: &mut R,
+) -> Result<Response, ApiErr>
+    requires pass { IsPassOf (cells_of shared.now.objects) (seats_of pass.old) }
+    requires place { place < length shared.now.objects.stores.items }
+    requires breaker { ForSome site.now.bound.breaker (λ k. k < length shared.now.objects.breakers.items) }
+    requires state { IsState route.now }
+    ensures does { (calls : Option (List LinkCall)) → Does ⟦<Store<K> as ObjectKinds>⟧.kinds (cells_of shared.now.objects) (record { seats = seats_of pass.old; clock = clocked C.Clock clock.old; calls = calls; words = R.stream rng.old }) (record { seats = seats_of pass.new; clock = clocked C.Clock clock.new; calls = calls; words = R.stream rng.new }) (λ events. AtSite place site.now request.now route.now events result) }
+    ensures shows { (count : ℕ) → result ≡ Err (error.Exhausted count) → Shows (seats_of pass.new) count }
+{
+    match command(shared.alloc, route, request, site.prefix()) {
+        Ok(mut cmd) => call(rt, shared, pass, place, site.bound(), &mut cmd, clock, rng),
+        Err(error) => given_fault(shared.alloc, error),
+    }
+}
+
+/// Gives a command to the store of this place, under what is bound to it, and answers what it came to. The command is left at the moment of the
+/// last attempt.
+fn call<K: Keeper, C: Clock, R: Rng, W: Wait>(
+    rt: &W,
+    shared: &Shared<K>,
+    pass: &mut Pass<K>,
+    place: usize,
+    bound: &Bound,
+    cmd: &mut Cmd,
+    clock: &mut C,
+    rng: &mut R,
+) -> Result<Response, ApiErr>
+    requires pass { IsPassOf (cells_of shared.now.objects) (seats_of pass.old) }
+    requires place { place < length shared.now.objects.stores.items }
+    requires limits { IsWithinLimit bound.now }
+    requires breaker { ForSome bound.now.breaker (λ k. k < length shared.now.objects.breakers.items) }
+    requires taken { IsTaken cmd.old }
+    requires cut { IsCut cmd.old }
+    ensures does { (calls : Option (List LinkCall)) → Does ⟦<Store<K> as ObjectKinds>⟧.kinds (cells_of shared.now.objects) (record { seats = seats_of pass.old; clock = clocked C.Clock clock.old; calls = calls; words = R.stream rng.old }) (record { seats = seats_of pass.new; clock = clocked C.Clock clock.new; calls = calls; words = R.stream rng.new }) (λ events. Called place bound.now cmd.old events result) }
+    ensures shows { (count : ℕ) → result ≡ Err (error.Exhausted count) → Shows (seats_of pass.new) count }
+{
+    the_moment_changes_no_response();
+    match run_store(rt, &shared.objects, pass, place, bound, cmd, clock, rng) {
+        Ok(ran) => given(response(shared.alloc, cmd, ran)),
+        Err(error) => Err(error),
+    }
+}
+
+/// Answers a request that gives no command.
+fn given_fault(alloc: Global, error: StateErr) -> Result<Response, ApiErr>
+    ensures { FaultGives error result }
+{
+    match error {
+        StateErr::Malformed { what } => given(malformed_response(alloc, what)),
+        StateErr::NoMemory => Err(ApiErr::NoMemory),
+    }
+}
