@@ -7,7 +7,7 @@ use Rattle.http_frames.specs.ChunkSteps.{ReadsData, HasNoData, IsDataRead}
 use Rattle.http_frames.specs.declared.chunks.DataRead.{DataRead}
 use Rattle.http_frames.specs.declared.chunks.DataRead.TheVariants.{Whole, Partial, Invalid}
 use Rattle.http_frames.proofs.SplitLemmas.{split_append, append_same}
-use Rattle.http_frames.proofs.PlainLemmas.{after_front-again, after_front-takes}
+use Rattle.http_frames.proofs.FrontLemmas.{after_front-again, after_front-takes}
 use Rattle.http_frames.proofs.RowLemmas.{none_is_some}
 
 -- a line end stands there

@@ -4,6 +4,7 @@ mod ContentLemmas
 mod DataLemmas
 mod EndLemmas
 mod FramerLemmas
+mod FrontLemmas
 mod HeadLemmas
 mod HeadStepLemmas
 mod InChunksLemmas
@@ -12,7 +13,6 @@ mod LineLemmas
 mod MidLemmas
 mod OpenLemmas
 mod PlaceLemmas
-mod PlainLemmas
 mod PrintedLemmas
 mod ProgressLemmas
 mod RequestLemmas

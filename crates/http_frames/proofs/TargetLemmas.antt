@@ -8,7 +8,7 @@ use Rattle.httparse.specs.Grammar.{AllPass, LineEnd, crlf, lf, print_blank, is_t
 use Rattle.httparse.specs.Pieces.{Stops, is_newline}
 use Rattle.httparse.proofs.PieceLemmas.{Stops_token, space_ends_token}
 use Rattle.http_frames.specs.InTarget.{after_blank, is_target_open, token_len, ends_in_target}
-use Rattle.http_frames.proofs.PlainLemmas.{prefix_len-again, run_passes}
+use Rattle.http_frames.proofs.FrontLemmas.{prefix_len-again, run_passes}
 
 after_lf : (rest : List ℕ) → after_blank (10 ∷ rest) ≡ after_blank rest
 unfolding after_blank

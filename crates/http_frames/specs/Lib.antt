@@ -10,8 +10,6 @@ pub mod HeadReading
 pub mod HeadRules
 pub mod InTarget
 pub mod Lines
-pub mod Plain
-pub mod PlainReading
 pub mod Printed
 pub mod Progress
 pub mod Refusals

@@ -1,18 +1,11 @@
 //! What holds of all bytes and all requests, as functions whose contract is the law.
 ghost use Rattle.std.specs.Prelude.{◌≡◌, ◌⊎◌, ◌↔◌, ◌++◌, ◌∷◌, ℕ, [], List, false, Option, None, Result};
 ghost use Rattle.http_frames.specs.Framing.{State, waiting, fed, IsNext, IsNeedStep};
-ghost use Rattle.http_frames.specs.Plain.{IsPlain};
 ghost use Rattle.http_frames.specs.Printed.{printed, printed_request, MayBePrinted, IsOneWhole, AreWhole};
 ghost use Rattle.http_frames.specs.Streams.{Whole, IsStream, Gives, Run, HasEnded, IsFront, IsAnswerAfter, Midway, HasGiven, GoesOn};
 ghost use Rattle.side_base.specs.declared.message.Request.{Request};
-ghost use Rattle.http_frames.specs.declared.plain.PlainRequest.{PlainRequest};
 ghost use Rattle.http_frames.specs.declared.refusal.FrameErr.{FrameErr};
 ghost use Rattle.http_frames.specs.declared.step.Step.{Step};
-
-/// Bytes are at most one list of plain requests.
-pub fn plain_requests_are_unique()
-    ensures { (bytes : List ℕ) (one other : List PlainRequest) → IsPlain bytes one → IsPlain bytes other → one ≡ other }
-{}
 
 /// Bytes are whole requests and a rest, of which no prefix is a whole request, in one way: there is no second one, and
 /// no bytes are without.

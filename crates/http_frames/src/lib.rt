@@ -8,7 +8,6 @@
 //!     one, `chunk_line` its line, and `trailers` what follows the last.
 //! - `connection` tells whether the connection ends after a request.
 //! - `response` writes a response.
-//! - `plain` reads requests of two plain forms, as the first path takes them.
 //! - `laws` has what holds of all bytes: that they are one stream in one way, that the answers of a framer are that stream however the bytes were cut, that what
 //!   it has given begins the bytes at each moment, and that a request that is written is one whole request.
 #![tactic(auto)]
@@ -22,7 +21,6 @@ mod front;
 mod head;
 pub mod laws;
 mod lines;
-mod plain;
 mod progress;
 mod refusal;
 mod response;
@@ -36,7 +34,6 @@ mod turn;
 
 pub use connection::closes;
 pub use framer::Framer;
-pub use plain::{PlainErr, PlainRequest, PlainRequests, plain_requests};
 pub use refusal::FrameErr;
 pub use response::{continue_bytes, push_response};
 pub use step::Step;

@@ -5,6 +5,5 @@ mod heads;
 mod limits;
 mod midway;
 mod pairs;
-mod plain;
 mod response;
 mod told;

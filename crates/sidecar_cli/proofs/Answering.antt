@@ -2,8 +2,8 @@
 use Rattle.std.proofs.Common.{◌≡◌, ◌+◌, ◌++◌, ◌∷◌, [], ℕ, zero, suc, Bool, true, false, List, length, Option, Some, None, refl, ap, sym, subst, ◌∙◌, inl, inr, append_assoc, arith, if◌then◌else◌}
 use Rattle.std.specs.Prelude.{nat_lt}
 use Rattle.std.proofs.lemmas.List.{append-nil}
-use Rattle.http_frames.specs.declared.plain.PlainRequest.{PlainRequest}
-use Rattle.http_frames.specs.declared.plain.PlainRequest.TheVariants as plain
+use Rattle.sidecar_cli.specs.declared.plain.PlainRequest.{PlainRequest}
+use Rattle.sidecar_cli.specs.declared.plain.PlainRequest.TheVariants as plain
 use Rattle.http_frames.specs.Written.{written}
 use Rattle.side_base.specs.declared.message.Response.{Response}
 use Rattle.keeper_core.specs.Rows.{Row}

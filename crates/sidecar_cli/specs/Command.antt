@@ -1,7 +1,7 @@
 -- What the store is asked for a request.
 use Rattle.std.specs.Prelude.{ℕ, List, [], ◌∷◌, ◌++◌, None, codes}
-use Rattle.http_frames.specs.declared.plain.PlainRequest.{PlainRequest}
-use Rattle.http_frames.specs.declared.plain.PlainRequest.TheVariants as plain
+use Rattle.sidecar_cli.specs.declared.plain.PlainRequest.{PlainRequest}
+use Rattle.sidecar_cli.specs.declared.plain.PlainRequest.TheVariants as plain
 use Rattle.state_core.specs.declared.command.Cmd.{Cmd}
 use Rattle.state_core.specs.declared.command.Cmd.TheVariants.{Get, Save}
 use Rattle.state_core.specs.declared.command.Mode.TheVariants.{Unsaid}

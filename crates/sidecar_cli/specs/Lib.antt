@@ -1,6 +1,9 @@
 pub mod Command
+pub mod Front
 pub mod Note
 pub mod Output
+pub mod Plain
+pub mod PlainReading
 pub mod Response
 pub mod Run
 pub mod Status

@@ -1,8 +1,8 @@
 -- What goes out for a list of requests.
 use Rattle.std.specs.Prelude.{◌≡◌, ℕ, Bool, true, false, List, [], ◌∷◌, ◌++◌, Some}
 use Rattle.std.specs.FinMap.{empty}
-use Rattle.http_frames.specs.declared.plain.PlainRequest.{PlainRequest}
-use Rattle.http_frames.specs.declared.plain.PlainRequest.TheVariants as plain
+use Rattle.sidecar_cli.specs.declared.plain.PlainRequest.{PlainRequest}
+use Rattle.sidecar_cli.specs.declared.plain.PlainRequest.TheVariants as plain
 use Rattle.http_frames.specs.Written.{written}
 use Rattle.side_base.specs.declared.message.Response.{Response}
 use Rattle.keeper_core.specs.Rows.{bytes_in}

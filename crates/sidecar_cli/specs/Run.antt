@@ -1,7 +1,7 @@
 -- A run on standard input: what was read, and what goes out for it.
 use Rattle.std.specs.Prelude.{◌≡◌, ◌⊎◌, ◌<◌, ◌≤◌, ℕ, Bool, true, List, length, Option}
-use Rattle.http_frames.specs.Plain.{IsPlain, HasNoPlain}
-use Rattle.http_frames.specs.declared.plain.PlainRequest.{PlainRequest}
+use Rattle.sidecar_cli.specs.Plain.{IsPlain, HasNoPlain}
+use Rattle.sidecar_cli.specs.declared.plain.PlainRequest.{PlainRequest}
 use Rattle.side_world.specs.Told.{Took, IsDrained}
 use Rattle.sidecar_cli.specs.declared.run.TheConstants.{INPUT_LIMIT}
 use Rattle.sidecar_cli.specs.Output.{IsOutputOf}

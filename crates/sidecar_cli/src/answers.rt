@@ -2,8 +2,9 @@ ghost use Rattle.std.specs.Prelude.{◌≡◌, ◌<◌, ◌^◌, length, IfOk};
 ghost use Rattle.sidecar_cli.specs.Output.{IsOutputOf, closes};
 
 use crate::command::command;
+use crate::plain::{PlainRequest, PlainRequests};
 use crate::response::response;
-use http_frames::{PlainRequest, PlainRequests, push_response};
+use http_frames::push_response;
 use keeper_core::MemoryKeeper;
 use side_base::{Blob, NoMemory, Places, Text};
 use state_core::Store;

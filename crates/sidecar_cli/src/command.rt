@@ -1,7 +1,7 @@
 ghost use Rattle.std.specs.Prelude.{◌≡◌, IfOk};
 ghost use Rattle.sidecar_cli.specs.Command.{stored_key, command_of};
 
-use http_frames::PlainRequest;
+use crate::plain::PlainRequest;
 use side_base::{Moment, NoMemory, Text};
 use state_core::{Cmd, Item, Items, Mode};
 use std::alloc::Global;

@@ -3,6 +3,8 @@
 
 mod answers;
 mod command;
+mod front;
+mod plain;
 mod response;
 mod run;
 mod status;

@@ -7,10 +7,10 @@ ghost use Rattle.sidecar_cli.specs.Note.{Noted};
 ghost use Rattle.sidecar_cli.specs.Run.{IsInput, IsOutput, IsAnswer, IsBadInput};
 
 use crate::answers::answers;
+use crate::plain::{PlainErr, plain_requests};
 use crate::status::{Device, Status};
 use crate::words::app_id;
 use crate::world::World;
-use http_frames::{PlainErr, plain_requests};
 use side_base::Text;
 use side_world::{Failed, GatherErr, Sink, Source, gather, send};
 use std::alloc::Global;

@@ -1,7 +1,7 @@
 use Rattle.std.proofs.Common.{◌≡◌, ◌++◌, length}
 use Rattle.std.specs.List.{All, flat_map}
-use Rattle.http_frames.specs.Plain.{bytes_of, IsPlainRequest}
-use Rattle.http_frames.proofs.plain.plain_requests.Given as goal
+use Rattle.sidecar_cli.specs.Plain.{bytes_of, IsPlainRequest}
+use Rattle.sidecar_cli.proofs.plain.plain_requests.Given as goal
 
 abbrev pub invariant-loop-rest : goal.invariant-loop-rest
 invariant-loop-rest l = record {

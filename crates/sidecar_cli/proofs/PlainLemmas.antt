@@ -15,13 +15,13 @@ use Rattle.std.specs.List.{All, prefix_len, flat_map}
 use Rattle.std.specs.Char.{is_ascii_digit}
 use Rattle.httparse.specs.Grammar.{AllPass}
 use Rattle.httparse.specs.Pieces.{Stops}
-use Rattle.http_frames.specs.Plain.{is_key_byte, is_text_byte, IsKey, IsText, quote, quoted, save_front, head_end, item_front, item_middle, item_end, get_front, get_end, item_of, bytes_of, IsPlainRequest, IsPlain, HasNoPlain}
-use Rattle.http_frames.specs.Front.{after_front}
-use Rattle.http_frames.specs.PlainReading.{◌>>=◌, is_in, split_run, key_at, text_at, item_at, save_at, get_end_at, get_at, first_at}
-use Rattle.http_frames.specs.declared.plain.PlainRequest.{PlainRequest}
-use Rattle.http_frames.specs.declared.plain.PlainRequest.TheVariants.{Save, Get}
-use Rattle.http_frames.specs.declared.plain.Class.{Class}
-use Rattle.http_frames.specs.declared.plain.Class.TheVariants.{Digit, Key, Text}
+use Rattle.sidecar_cli.specs.Plain.{is_key_byte, is_text_byte, IsKey, IsText, quote, quoted, save_front, head_end, item_front, item_middle, item_end, get_front, get_end, item_of, bytes_of, IsPlainRequest, IsPlain, HasNoPlain}
+use Rattle.sidecar_cli.specs.Front.{after_front}
+use Rattle.sidecar_cli.specs.PlainReading.{◌>>=◌, is_in, split_run, key_at, text_at, item_at, save_at, get_end_at, get_at, first_at}
+use Rattle.sidecar_cli.specs.declared.plain.PlainRequest.{PlainRequest}
+use Rattle.sidecar_cli.specs.declared.plain.PlainRequest.TheVariants.{Save, Get}
+use Rattle.sidecar_cli.specs.declared.plain.Class.{Class}
+use Rattle.sidecar_cli.specs.declared.plain.Class.TheVariants.{Digit, Key, Text}
 
 pub after_front-again : (front rest : List ℕ) → after_front front (front ++ rest) ≡ Some rest
 unfolding after_front

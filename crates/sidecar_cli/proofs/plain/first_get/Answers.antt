@@ -1,6 +1,6 @@
 use Rattle.std.proofs.Common.{sym}
-use Rattle.http_frames.proofs.PlainLemmas.{first_at-get, first_at-none, first_at-shorter, get_at-key}
-use Rattle.http_frames.proofs.plain.first_get.Goals as goal
+use Rattle.sidecar_cli.proofs.PlainLemmas.{first_at-get, first_at-none, first_at-shorter, get_at-key}
+use Rattle.sidecar_cli.proofs.plain.first_get.Goals as goal
 
 pub text_of-requires : goal.text_of-requires
 text_of-requires c = get_at-key c.args.bytes.now _ _ _ (sym c.in-Some.ensures)

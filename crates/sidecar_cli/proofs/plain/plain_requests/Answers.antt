@@ -1,10 +1,10 @@
 use Rattle.std.proofs.Common.{◌≡◌, ◌<◌, ◌++◌, List, length, ap, ◌∙◌, sym, subst, arith, rules}
 use Rattle.std.proofs.lemmas.Bool.Decides.{nat_tests}
 use Rattle.std.specs.List.{All, flat_map}
-use Rattle.http_frames.specs.Plain.{bytes_of, IsPlainRequest}
-use Rattle.http_frames.specs.declared.plain.PlainRequest.{PlainRequest}
-use Rattle.http_frames.proofs.PlainLemmas.{plain_more, only_plain, not_plain}
-use Rattle.http_frames.proofs.plain.plain_requests.Goals as goal
+use Rattle.sidecar_cli.specs.Plain.{bytes_of, IsPlainRequest}
+use Rattle.sidecar_cli.specs.declared.plain.PlainRequest.{PlainRequest}
+use Rattle.sidecar_cli.proofs.PlainLemmas.{plain_more, only_plain, not_plain}
+use Rattle.sidecar_cli.proofs.plain.plain_requests.Goals as goal
 
 pub loop-rest-preserved : goal.loop-rest-preserved
 loop-rest-preserved c =

@@ -1,7 +1,7 @@
 use Rattle.std.proofs.Common.{◌≡◌, ◌+◌, drop}
 use Rattle.std.specs.List.{prefix_len}
-use Rattle.http_frames.specs.PlainReading.{is_in}
-use Rattle.http_frames.proofs.plain.run_len.Given as goal
+use Rattle.sidecar_cli.specs.PlainReading.{is_in}
+use Rattle.sidecar_cli.proofs.plain.run_len.Given as goal
 
 abbrev pub invariant-loop-byte : goal.invariant-loop-byte
 invariant-loop-byte l =

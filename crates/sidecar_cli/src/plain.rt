@@ -1,10 +1,10 @@
 ghost use Rattle.std.specs.Prelude.{◌≡◌, ℕ, ◌<◌, ◌≤◌, List, ◌++◌, length, take, drop, Some, None, option_map, IfOk, IsErrOf, IfSome};
 ghost use Rattle.std.specs.List.{prefix_len};
 ghost use Rattle.httparse.specs.Grammar.{AllPass};
-ghost use Rattle.http_frames.specs.Plain.{IsPlain, HasNoPlain, is_key_byte, quoted};
-ghost use Rattle.http_frames.specs.declared.plain.PlainErr.TheVariants.{NoMemory};
-ghost use Rattle.http_frames.specs.declared.plain.PlainRequest.{PlainRequest};
-ghost use Rattle.http_frames.specs.PlainReading.{is_in, split_run, key_at, text_at, item_at, save_at, get_end_at, get_at, first_at};
+ghost use Rattle.sidecar_cli.specs.Plain.{IsPlain, HasNoPlain, is_key_byte, quoted};
+ghost use Rattle.sidecar_cli.specs.declared.plain.PlainErr.TheVariants.{NoMemory};
+ghost use Rattle.sidecar_cli.specs.declared.plain.PlainRequest.{PlainRequest};
+ghost use Rattle.sidecar_cli.specs.PlainReading.{is_in, split_run, key_at, text_at, item_at, save_at, get_end_at, get_at, first_at};
 
 use crate::front::after_front;
 use itoa::Buffer;

@@ -4,8 +4,8 @@ use Rattle.std.specs.Prelude.{◌≡◌, ℕ, ◌<◌, ◌≤◌, List, ◌++◌
 use Rattle.std.specs.List.{flat_map}
 use Rattle.std.specs.Char.{is_ascii_alphanumeric}
 use Rattle.httparse.specs.Grammar.{AllPass}
-use Rattle.http_frames.specs.declared.plain.PlainRequest.{PlainRequest}
-use Rattle.http_frames.specs.declared.plain.PlainRequest.TheVariants.{Save, Get}
+use Rattle.sidecar_cli.specs.declared.plain.PlainRequest.{PlainRequest}
+use Rattle.sidecar_cli.specs.declared.plain.PlainRequest.TheVariants.{Save, Get}
 
 -- a byte of a key: an ASCII letter or digit
 abbrev pub is_key_byte : ℕ → Bool

@@ -5,12 +5,12 @@ use Rattle.std.specs.Option.{option_or}
 use Rattle.std.specs.List.{prefix_len}
 use Rattle.std.specs.Str.{bytes_eq}
 use Rattle.std.specs.Char.{is_ascii_digit}
-use Rattle.http_frames.specs.Front.{after_front}
-use Rattle.http_frames.specs.Plain.{is_key_byte, is_text_byte, quote, quoted, save_front, head_end, item_front, item_middle, item_end, get_front, get_end}
-use Rattle.http_frames.specs.declared.plain.Class.{Class}
-use Rattle.http_frames.specs.declared.plain.Class.TheVariants.{Digit, Key, Text}
-use Rattle.http_frames.specs.declared.plain.PlainRequest.{PlainRequest}
-use Rattle.http_frames.specs.declared.plain.PlainRequest.TheVariants.{Save, Get}
+use Rattle.sidecar_cli.specs.Front.{after_front}
+use Rattle.sidecar_cli.specs.Plain.{is_key_byte, is_text_byte, quote, quoted, save_front, head_end, item_front, item_middle, item_end, get_front, get_end}
+use Rattle.sidecar_cli.specs.declared.plain.Class.{Class}
+use Rattle.sidecar_cli.specs.declared.plain.Class.TheVariants.{Digit, Key, Text}
+use Rattle.sidecar_cli.specs.declared.plain.PlainRequest.{PlainRequest}
+use Rattle.sidecar_cli.specs.declared.plain.PlainRequest.TheVariants.{Save, Get}
 
 infixl 10 ◌>>=◌
 abbrev pub ◌>>=◌ : {A B : Type 0} → Option A → (A → Option B) → Option B
