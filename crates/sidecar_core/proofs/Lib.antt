@@ -1,8 +1,10 @@
-mod Doings
-mod Statuses
-mod Routed
 mod Answering
-mod Booked
-mod Gathered
-mod Closed
 mod Beginning
+mod Booked
+mod Closed
+mod Doings
+mod Gathered
+mod Moved
+mod Rooted
+mod Routed
+mod Statuses

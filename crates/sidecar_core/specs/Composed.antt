@@ -1,7 +1,7 @@
 -- What was done, part after part.
 use Rattle.std.specs.Prelude.{ℕ, List, [], ◌++◌, Option, refl}
 use Rattle.std.specs.List.{sum_by, flat_map}
-use Rattle.std.proofs.Common.{sym, subst, le_refl}
+use Rattle.std.proofs.Common.{◌∙◌, ap, sym, subst, le_refl}
 use Rattle.std.proofs.lemmas.Grind.{flat_map-append}
 use Rattle.std.proofs.lemmas.List.Sums.{sum_by-append}
 use Rattle.rand_core.specs.Stream.{next_u64}
@@ -11,11 +11,11 @@ use Rattle.side_world.specs.Told.{Tells}
 use Rattle.side_world.proofs.Composed.{between_on, rises_on, rises_nothing, tells_on, tells_nothing, drawn_on, drawn_nothing}
 use Rattle.turn_cell.specs.Growth.{Grew}
 use Rattle.turn_cell.proofs.Growing.{grew_none, grew_more, each_none, each_on, each_same, still_of}
-use Rattle.turn_cell.proofs.Passes.{still_seated}
+use Rattle.turn_cell.proofs.Passes.{still_seated, still_roots, still_sound}
 use Rattle.policy_run.specs.Effects.{Clocked}
 use Rattle.sidecar_core.specs.declared.doing.Doing.{Doing}
 use Rattle.sidecar_core.specs.Doing.{stored_at, entered_at, broke_at, noted_in, asked_in, word_in, moment_in, pause_in, tick_in}
-use Rattle.sidecar_core.specs.Did.{Kinds, CellsAt, SeatsAt, Did, IsPassOf, Standing, Went, Does}
+use Rattle.sidecar_core.specs.Did.{Kinds, CellsAt, SeatsAt, Did, IsPassOf, IsLone, IsSoundPass, Standing, Went, Does}
 
 -- one part after another
 pub did_on : {O : Type 0} (kinds : Kinds O) (cells : CellsAt O) (seats : SeatsAt O) (first : List Doing) (between : SeatsAt O) (second : List Doing) (seats' : SeatsAt O) (clock middle clock' : Clocked) (calls told calls' : Option (List LinkCall)) (drawn drawn-then drawn-all : List ℕ → Type 0)
@@ -69,4 +69,22 @@ module _ {O : Type 0} (kinds : Kinds O) (cells : CellsAt O) where
     ledgers = still_seated kinds.ledger cells.ledgers at.seats.ledgers (λ k. flat_map (entered_at k) events) after.seats.ledgers went.ledgers of.ledgers;
     breakers = still_seated kinds.breaker cells.breakers at.seats.breakers (λ k. flat_map (broke_at k) events) after.seats.breakers went.breakers of.breakers;
     notes = still_of kinds.notes cells.notes at.seats.notes (flat_map noted_in events) after.seats.notes went.notes of.notes;
+  }
+
+  -- a pass that is alone stays so
+  pub lone_stays : (at : Standing O) (events : List Doing) (after : Standing O) → Went kinds cells at events after → IsLone cells at.seats → IsLone cells after.seats
+  lone_stays at events after went lone = record {
+    stores = still_roots kinds.store cells.stores at.seats.stores (λ k. flat_map (stored_at k) events) after.seats.stores went.stores 0 lone.stores;
+    ledgers = still_roots kinds.ledger cells.ledgers at.seats.ledgers (λ k. flat_map (entered_at k) events) after.seats.ledgers went.ledgers 0 lone.ledgers;
+    breakers = still_roots kinds.breaker cells.breakers at.seats.breakers (λ k. flat_map (broke_at k) events) after.seats.breakers went.breakers 0 lone.breakers;
+    notes = (still_of kinds.notes cells.notes at.seats.notes (flat_map noted_in events) after.seats.notes went.notes lone.notes.0, ap (λ s. s.is_root) went.notes.stays ∙ lone.notes.1, ap (λ s. s.out) went.notes.stays ∙ lone.notes.2);
+  }
+
+  -- what holds of every seat goes on to hold
+  pub sound_stays : (at : Standing O) (events : List Doing) (after : Standing O) → Went kinds cells at events after → IsSoundPass kinds cells at.seats → IsSoundPass kinds cells after.seats
+  sound_stays at events after went sound = record {
+    stores = still_sound kinds.store cells.stores at.seats.stores (λ k. flat_map (stored_at k) events) after.seats.stores went.stores sound.stores;
+    ledgers = still_sound kinds.ledger cells.ledgers at.seats.ledgers (λ k. flat_map (entered_at k) events) after.seats.ledgers went.ledgers sound.ledgers;
+    breakers = still_sound kinds.breaker cells.breakers at.seats.breakers (λ k. flat_map (broke_at k) events) after.seats.breakers went.breakers sound.breakers;
+    notes = went.notes.sound sound.notes;
   }

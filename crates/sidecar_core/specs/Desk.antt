@@ -21,24 +21,39 @@ use Rattle.sidecar_core.specs.Did.{Kinds, CellsAt, Standing, Went, IsPassOf}
 use Rattle.sidecar_core.specs.Composed.{went_nowhere, went_on, pass_stays}
 use Rattle.sidecar_core.specs.Exchange.{Answered, AtNotes, AtSite, AtStore, Exchange, Gives, ListReplies, NotesReplies, PutReplies, Replies, SetsNote, lacks, refused, called, unknown, found, noted}
 
--- the desk has the same shared objects, and these events were done by it
-pub record Goes {S O : Type 0} (kinds : Kinds O) (cells_at : S → CellsAt O) (shared : S) (at : Standing O) (events : List Doing) (shared' : S) (after : Standing O) : Type 0 where
+-- which borrows a desk holds
+pub record Borrowed : Type 0 where
+  pub pass : ℕ
+  pub link : ℕ
+  pub clock : ℕ
+  pub rng : ℕ
+
+-- the desk has the same shared objects and holds the same borrows, and these events were done by it
+pub record Goes {S O : Type 0} (kinds : Kinds O) (cells_at : S → CellsAt O) (shared : S) (held : Borrowed) (at : Standing O) (events : List Doing) (shared' : S) (held' : Borrowed) (after : Standing O) : Type 0 where
   pub same : shared' ≡ shared
+  pub same_pass : held'.pass ≡ held.pass
+  pub same_link : held'.link ≡ held.link
+  pub same_clock : held'.clock ≡ held.clock
+  pub same_rng : held'.rng ≡ held.rng
   pub went : Went kinds (cells_at shared) at events after
 
 module _ {S O : Type 0} (kinds : Kinds O) (cells_at : S → CellsAt O) where
-  pub goes_nowhere : (shared : S) (at : Standing O) → Goes kinds cells_at shared at [] shared at
-  goes_nowhere shared at = record { same = refl; went = went_nowhere kinds (cells_at shared) at }
+  pub goes_nowhere : (shared : S) (held : Borrowed) (at : Standing O) → Goes kinds cells_at shared held at [] shared held at
+  goes_nowhere shared held at = record { same = refl; same_pass = refl; same_link = refl; same_clock = refl; same_rng = refl; went = went_nowhere kinds (cells_at shared) at }
 
-  pub goes_on : (shared : S) (at : Standing O) (first : List Doing) (shared' : S) (between : Standing O) (second : List Doing) (shared'' : S) (after : Standing O)
-      → Goes kinds cells_at shared at first shared' between → Goes kinds cells_at shared' between second shared'' after → Goes kinds cells_at shared at (first ++ second) shared'' after
-  goes_on shared at first shared' between second shared'' after one two = record {
+  pub goes_on : (shared : S) (held : Borrowed) (at : Standing O) (first : List Doing) (shared' : S) (held' : Borrowed) (between : Standing O) (second : List Doing) (shared'' : S) (held'' : Borrowed) (after : Standing O)
+      → Goes kinds cells_at shared held at first shared' held' between → Goes kinds cells_at shared' held' between second shared'' held'' after → Goes kinds cells_at shared held at (first ++ second) shared'' held'' after
+  goes_on shared held at first shared' held' between second shared'' held'' after one two = record {
     same = two.same ∙ one.same;
+    same_pass = two.same_pass ∙ one.same_pass;
+    same_link = two.same_link ∙ one.same_link;
+    same_clock = two.same_clock ∙ one.same_clock;
+    same_rng = two.same_rng ∙ one.same_rng;
     went = went_on kinds (cells_at shared) at first between second after one.went (subst (λ s. Went kinds (cells_at s) between second after) one.same two.went);
   }
 
-  pub stays_there : (shared : S) (at : Standing O) (events : List Doing) (shared' : S) (after : Standing O) → IsPassOf (cells_at shared) at.seats → Goes kinds cells_at shared at events shared' after → IsPassOf (cells_at shared') after.seats
-  stays_there shared at events shared' after of goes = subst (λ s. IsPassOf (cells_at s) after.seats) (sym goes.same) (pass_stays kinds (cells_at shared) at events after goes.went of)
+  pub stays_there : (shared : S) (held : Borrowed) (at : Standing O) (events : List Doing) (shared' : S) (held' : Borrowed) (after : Standing O) → IsPassOf (cells_at shared) at.seats → Goes kinds cells_at shared held at events shared' held' after → IsPassOf (cells_at shared') after.seats
+  stays_there shared held at events shared' held' after of goes = subst (λ s. IsPassOf (cells_at s) after.seats) (sym goes.same) (pass_stays kinds (cells_at shared) at events after goes.went of)
 
 -- ---- no room for the response
 

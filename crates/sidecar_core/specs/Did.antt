@@ -8,8 +8,8 @@ use Rattle.side_world.specs.declared.link.LinkCall.{LinkCall}
 use Rattle.side_world.specs.Moments.{Between, Rises, Drawn}
 use Rattle.side_world.specs.Told.{Tells}
 use Rattle.turn_cell.specs.declared.object.Object.{Ghosts}
-use Rattle.turn_cell.specs.Sitting.{Begun, Sitting, IsSeatOf}
-use Rattle.turn_cell.specs.Passes.{EachSeated}
+use Rattle.turn_cell.specs.Sitting.{Begun, Sitting, IsSeatOf, IsSound}
+use Rattle.turn_cell.specs.Passes.{IsRootOf, EachSeated, EachAlone, EachSound}
 use Rattle.turn_cell.specs.Growth.{Grew, EachGrew}
 use Rattle.state_core.specs.declared.command.Cmd.{Cmd}
 use Rattle.state_core.specs.declared.reply.Reply.{Reply}
@@ -66,6 +66,20 @@ pub record IsPassOf {O : Type 0} (cells : CellsAt O) (seats : SeatsAt O) : Type 
   pub ledgers : EachSeated cells.ledgers seats.ledgers
   pub breakers : EachSeated cells.breakers seats.breakers
   pub notes : IsSeatOf cells.notes seats.notes
+
+-- the pass of the root seats, with every other pass met: the cells may be closed
+pub record IsLone {O : Type 0} (cells : CellsAt O) (seats : SeatsAt O) : Type 0 where
+  pub stores : EachAlone cells.stores seats.stores
+  pub ledgers : EachAlone cells.ledgers seats.ledgers
+  pub breakers : EachAlone cells.breakers seats.breakers
+  pub notes : IsRootOf 0 cells.notes seats.notes
+
+-- what holds of every seat, of each: its history is legal, and its own entries are in it
+pub record IsSoundPass {O : Type 0} (kinds : Kinds O) (cells : CellsAt O) (seats : SeatsAt O) : Type 0 where
+  pub stores : EachSound kinds.store cells.stores seats.stores
+  pub ledgers : EachSound kinds.ledger cells.ledgers seats.ledgers
+  pub breakers : EachSound kinds.breaker cells.breakers seats.breakers
+  pub notes : IsSound kinds.notes cells.notes.first seats.notes
 
 -- ---- what a pass and all that it works with show
 

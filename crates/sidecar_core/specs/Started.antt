@@ -1,6 +1,7 @@
--- What the objects of a configuration begin with.
-use Rattle.std.specs.Prelude.{◌≡◌, List, [], length, map}
+-- What the objects of a configuration begin with, and the room for their end.
+use Rattle.std.specs.Prelude.{◌≡◌, ◌≤◌, ℕ, List, [], length, map}
 use Rattle.std.specs.List.{All}
+use Rattle.std.specs.Vec.{vec_capacity}
 use Rattle.keeper_core.specs.declared.keeper.Keeper.{Ghosts}
 use Rattle.turn_cell.specs.Sitting.{root_of}
 use Rattle.state_core.specs.Store.{keeper_of}
@@ -10,6 +11,7 @@ use Rattle.meta_api.specs.Notes.{pairs_of}
 use Rattle.sidecar_core.specs.declared.config.Config.{Config}
 use Rattle.sidecar_core.specs.declared.objects.Objects.{Objects}
 use Rattle.sidecar_core.specs.declared.objects.Pass.{Pass}
+use Rattle.sidecar_core.specs.declared.room.Room.{Room}
 use Rattle.sidecar_core.specs.Sites.{pubsubs_of}
 
 -- the stores have the keepers, in order; each broker has a ledger without subscriptions; the breakers have their policies, in order; the book is empty; and the
@@ -25,3 +27,10 @@ pub record IsStarted {K : Type 0} {keeper : Ghosts K} (config : Config) (keepers
   pub ledger_roots : pass.ledgers.items ≡ map root_of objects.ledgers.items
   pub breaker_roots : pass.breakers.items ≡ map root_of objects.breakers.items
   pub notes_root : pass.notes ≡ root_of objects.notes
+
+-- room for so many stores and their keepers
+pub record IsRoomFor {K : Type 0} {keeper : Ghosts K} (stores : ℕ) (room : Room K keeper) : Type 0 where
+  pub no_store : room.closed.items ≡ []
+  pub no_keeper : room.kept.items ≡ []
+  pub for_stores : stores ≤ vec_capacity room.closed
+  pub for_keepers : stores ≤ vec_capacity room.kept

@@ -4,31 +4,36 @@ ghost use Rattle.turn_cell.specs.Passes.{EachAlone};
 ghost use Rattle.turn_pass.specs.Pass.{AreClosed};
 ghost use Rattle.state_core.specs.declared.store.Store.{Store as StoreRecord};
 ghost use Rattle.state_core.specs.Store.{keeper_of};
+ghost use Rattle.sidecar_core.specs.Started.{IsRoomFor};
 
-use crate::{Pass, Shared};
+use crate::{Config, Pass, Room, Shared};
 use keeper_core::Keeper;
 use state_core::Store;
 use turn_cell::Object;
 
 impl<K: Keeper> Shared<K> {
-    /// Ends all cells by a pass that is alone, and gives the keepers of the stores back, in order. Takes no memory.
-    pub fn close(self, pass: Pass<K>) -> Vec<K>
-        requires { EachAlone self.objects.stores.items pass.stores.items }
-        ensures { (stores : List (StoreRecord K K.Keeper)) × AreClosed ⟦<Store<K> as Object>⟧.stands self.objects.stores.items pass.stores.items stores × (result.items ≡ map keeper_of stores) }
+    /// Ends all cells by a pass that is alone, and gives the configuration back, and the keepers of the stores, in order. Takes no memory.
+    pub fn close(self, pass: Pass<K>, room: Room<K>) -> (Config, Vec<K>)
+        requires room { IsRoomFor (length self.objects.stores.items) room }
+        requires alone { EachAlone self.objects.stores.items pass.stores.items }
+        ensures config { result.0 ≡ self.config }
+        ensures keepers { (stores : List (StoreRecord K K.Keeper)) × AreClosed ⟦<Store<K> as Object>⟧.stands self.objects.stores.items pass.stores.items stores × (result.1.items ≡ map keeper_of stores) }
     {
         let Shared {
-            config: _,
+            config,
             objects,
             alloc: _,
             routers: _,
             sites: _,
             notes: _,
+        } = self;
+        let Room {
             mut closed,
             mut kept,
-        } = self;
+        } = room;
         objects.close(pass, &mut closed);
         give_back(closed, &mut kept);
-        kept
+        (config, kept)
     }
 }
 

@@ -1,14 +1,12 @@
-ghost use Rattle.std.specs.Prelude.{◌≡◌};
 ghost use Rattle.conn_serve.specs.Ends.{sink_at, source_at};
 ghost use Rattle.conn_serve.specs.Served.{Served};
-ghost use Rattle.policy_run.specs.Effects.{clocked};
-ghost use Rattle.sidecar_core.specs.Did.{IsPassOf, Shows};
-ghost use Rattle.sidecar_core.specs.Pass.{cells_of, seats_of};
+ghost use Rattle.sidecar_core.specs.Did.{IsPassOf, Shows, Went};
+ghost use Rattle.sidecar_core.specs.Pass.{cells_of, seats_of, standing};
 ghost use Rattle.sidecar_core.specs.Exchange.{Exchange};
-ghost use Rattle.sidecar_core.specs.Desk.{Goes};
 
-use crate::Desk;
+use crate::desk::Desk;
 use crate::kinds::ObjectKinds;
+use crate::{Pass, Shared};
 use conn_serve::{Ended, serve};
 use keeper_core::Keeper;
 use rand_core::Rng;
@@ -20,13 +18,24 @@ use std::sync::Wait;
 /// meanwhile, and the responses are written as a session has them.
 pub fn serve_connection<K: Keeper, S: Source, N: Sink, L: Link, C: Clock, R: Rng, W: Wait>(
     rt: &W,
-    desk: &mut Desk<'_, K, L, C, R>,
+    shared: &Shared<K>,
+    pass: &mut Pass<K>,
     source: &mut S,
     sink: &mut N,
+    link: &mut L,
+    clock: &mut C,
+    rng: &mut R,
 ) -> Ended
-    requires pass { IsPassOf (cells_of desk.old.shared.now.objects) (seats_of desk.old.pass) }
-    ensures served { Served (Exchange desk.old.shared.now.config) (λ events. Goes ⟦<Store<K> as ObjectKinds>⟧.kinds (λ shared. cells_of shared.objects) desk.old.shared.now (record { seats = seats_of desk.old.pass; clock = clocked C.Clock desk.old.clock; calls = L.calls desk.old.link; words = R.stream desk.old.rng }) events desk.new.shared.now (record { seats = seats_of desk.new.pass; clock = clocked C.Clock desk.new.clock; calls = L.calls desk.new.link; words = R.stream desk.new.rng })) (Shows (seats_of desk.new.pass)) (source_at S.Source source.old) (source_at S.Source source.new) (sink_at N.Sink sink.old) (sink_at N.Sink sink.new) result }
-    ensures pass { IsPassOf (cells_of desk.new.shared.now.objects) (seats_of desk.new.pass) }
+    requires pass { IsPassOf (cells_of shared.now.objects) (seats_of pass.old) }
+    ensures served { Served (Exchange shared.now.config) (λ events. Went ⟦<Store<K> as ObjectKinds>⟧.kinds (cells_of shared.now.objects) (standing L.Link C.Clock pass.old link.old clock.old (R.stream rng.old)) events (standing L.Link C.Clock pass.new link.new clock.new (R.stream rng.new))) (Shows (seats_of pass.new)) (source_at S.Source source.old) (source_at S.Source source.new) (sink_at N.Sink sink.old) (sink_at N.Sink sink.new) result }
+    ensures pass { IsPassOf (cells_of shared.now.objects) (seats_of pass.new) }
 {
-    serve(rt, desk.shared.alloc, desk, source, sink)
+    let mut desk = Desk {
+        shared,
+        pass,
+        link,
+        clock,
+        rng,
+    };
+    serve(rt, shared.alloc, &mut desk, source, sink)
 }

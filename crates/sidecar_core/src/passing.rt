@@ -3,7 +3,10 @@ ghost use Rattle.std.specs.Vec.{vec_capacity};
 ghost use Rattle.turn_cell.specs.Sitting.{IsSeatOf, Meets, root_of, parent_of, child_of};
 ghost use Rattle.turn_cell.specs.Passes.{EachAlone, EachSplit, EachSplitOff, EachMet};
 ghost use Rattle.turn_pass.specs.Pass.{MayEachSplit, EachMayMeet, AreClosed};
+ghost use Rattle.sidecar_core.specs.Did.{IsSoundPass};
+ghost use Rattle.sidecar_core.specs.Pass.{cells_of, seats_of};
 
+use crate::kinds::ObjectKinds;
 use crate::{Objects, Pass};
 use breaker_core::Breaker;
 use keeper_core::Keeper;
@@ -34,6 +37,7 @@ impl<K: Keeper> Objects<K> {
         ensures ledgers { IfOk result (λ made. (map (λ cell. cell.first) made.0.ledgers.items ≡ ledgers.items) × (made.1.ledgers.items ≡ map root_of made.0.ledgers.items)) }
         ensures breakers { IfOk result (λ made. (map (λ cell. cell.first) made.0.breakers.items ≡ breakers.items) × (made.1.breakers.items ≡ map root_of made.0.breakers.items)) }
         ensures notes { IfOk result (λ made. (made.0.notes.first ≡ notes) × (made.1.notes ≡ root_of made.0.notes)) }
+        ensures sound { IfOk result (λ made. IsSoundPass ⟦<Store<K> as ObjectKinds>⟧.kinds (cells_of made.0) (seats_of made.1)) }
     {
         let (store_cells, store_seats) = start_each(alloc, stores)?;
         let (ledger_cells, ledger_seats) = start_each(alloc, ledgers)?;

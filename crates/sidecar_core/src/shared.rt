@@ -1,6 +1,5 @@
-ghost use Rattle.std.specs.Prelude.{◌≡◌, ◌≤◌, ◌<◌, ℕ, [], length};
+ghost use Rattle.std.specs.Prelude.{◌≡◌, ◌<◌, ℕ, length};
 ghost use Rattle.std.specs.Option.{ForSome};
-ghost use Rattle.std.specs.Vec.{vec_capacity};
 ghost use mathlib.Core.Option.{some};
 ghost use lib.ListN.{get_elem?};
 ghost use Rattle.sidecar_core.specs.Site.{Site};
@@ -11,7 +10,6 @@ use api_routes::{Route, RouteErr, Routers};
 use keeper_core::Keeper;
 use meta_api::ComponentNotes;
 use side_base::{Request, Text};
-use state_core::Store;
 use std::alloc::Global;
 
 /// What all passes share: the configuration, and a cell for each store, each ledger, each breaker and for the book of metadata.
@@ -25,17 +23,12 @@ pub struct Shared<K: Keeper> {
     pub(crate) sites: Vec<StoreSite>,
     /// The components, as metadata tells them.
     pub(crate) notes: ComponentNotes,
-    /// Room for the stores and their keepers where the cells are closed.
-    pub(crate) closed: Vec<Store<K>>,
-    pub(crate) kept: Vec<K>,
     ghost has_sites: { sites.items ≡ sites_of config },
     ghost has_notes: { notes ≡ notes_of config },
     ghost stores: { length objects.stores.items ≡ length sites.items },
     ghost ledgers: { length objects.ledgers.items ≡ length (pubsubs_of config.components) },
     ghost breakers: { length objects.breakers.items ≡ length config.policies.breakers },
     ghost bounds: { (k : ℕ) (site : Site) → get_elem? sites.items k ≡ some site → ForSome site.bound.breaker (λ place. place < length config.policies.breakers) },
-    ghost closed_room: { (closed.items ≡ []) × (length objects.stores.items ≤ vec_capacity closed) },
-    ghost kept_room: { (kept.items ≡ []) × (length objects.stores.items ≤ vec_capacity kept) },
 }
 
 impl<K: Keeper> Shared<K> {

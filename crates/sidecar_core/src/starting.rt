@@ -7,9 +7,12 @@ ghost use Rattle.ledger_core.specs.Ledger.{plans_of};
 ghost use Rattle.breaker_core.specs.Breaker.{policy_of};
 ghost use Rattle.meta_api.specs.Notes.{pairs_of};
 ghost use Rattle.sidecar_core.specs.Sites.{is_store, is_pubsub, notes_of, note_of, pubsubs_of, site_of, sites_of, stores_of};
-ghost use Rattle.sidecar_core.specs.Started.{IsStarted};
+ghost use Rattle.sidecar_core.specs.Did.{IsPassOf, IsLone, IsSoundPass};
+ghost use Rattle.sidecar_core.specs.Pass.{cells_of, seats_of};
+ghost use Rattle.sidecar_core.specs.Started.{IsStarted, IsRoomFor};
 
-use crate::{Config, Objects, Pass, Shared, StoreSite};
+use crate::kinds::ObjectKinds;
+use crate::{Config, Objects, Pass, Room, Shared, StoreSite};
 use api_routes::Routers;
 use breaker_core::Breaker;
 use keeper_core::Keeper;
@@ -24,23 +27,29 @@ use turn_cell::Object;
 
 impl<K: Keeper> Shared<K> {
     /// Starts all objects of a configuration, with one keeper for each state component, in their order: a ledger for each pub/sub component, a
-    /// breaker for each target that names one, and an empty book of metadata. The pass is that of the root seats.
+    /// breaker for each target that names one, and an empty book of metadata. The pass is that of the root seats, and is alone. The room is for `close`.
     ///
     /// Without memory the keepers are dropped.
     pub fn start(
         alloc: Global,
         config: Config,
         keepers: Vec<K>,
-    ) -> Result<(Shared<K>, Pass<K>), NoMemory>
+    ) -> Result<(Shared<K>, Pass<K>, Room<K>), NoMemory>
         requires { length keepers.items ≡ length (stores_of config.components) }
-        ensures { IfOk result (λ made. IsStarted config keepers.items made.0.config made.0.objects made.1) }
+        ensures started { IfOk result (λ made. IsStarted config keepers.items made.0.config made.0.objects made.1) }
+        ensures pass { IfOk result (λ made. IsPassOf (cells_of made.0.objects) (seats_of made.1)) }
+        ensures lone { IfOk result (λ made. IsLone (cells_of made.0.objects) (seats_of made.1)) }
+        ensures sound { IfOk result (λ made. IsSoundPass ⟦<Store<K> as ObjectKinds>⟧.kinds (cells_of made.0.objects) (seats_of made.1)) }
+        ensures room { IfOk result (λ made. IsRoomFor (length made.0.objects.stores.items) made.2) }
     {
         let sites = sites_for(alloc, &config)?;
         let notes = notes_for(alloc, &config.components)?;
         let ledgers = ledgers_for(alloc, &config.components)?;
         let breakers = breakers_for(alloc, breakers(&config.policies))?;
-        let closed = Vec::with_capacity(alloc, keepers.len())?;
-        let kept = Vec::with_capacity(alloc, keepers.len())?;
+        let room = Room {
+            closed: Vec::with_capacity(alloc, keepers.len())?,
+            kept: Vec::with_capacity(alloc, keepers.len())?,
+        };
         let routers = Routers::new(alloc)?;
         let stores = stores_for(alloc, keepers)?;
         let (objects, pass) = Objects::start(alloc, stores, ledgers, breakers, Notes::new(alloc))?;
@@ -51,10 +60,8 @@ impl<K: Keeper> Shared<K> {
             routers,
             sites,
             notes,
-            closed,
-            kept,
         };
-        Ok((shared, pass))
+        Ok((shared, pass, room))
     }
 }
 

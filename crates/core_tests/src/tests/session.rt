@@ -1,7 +1,6 @@
 //! Sessions, played.
 ghost use Rattle.std.specs.Prelude.{◌≡◌, length};
-ghost use Rattle.turn_cell.specs.Passes.{EachAlone};
-ghost use Rattle.sidecar_core.specs.Did.{IsPassOf};
+ghost use Rattle.sidecar_core.specs.Did.{IsLone, IsPassOf};
 ghost use Rattle.sidecar_core.specs.Pass.{cells_of, seats_of};
 ghost use Rattle.sidecar_core.specs.Sites.{stores_of};
 
@@ -13,7 +12,7 @@ use rand_core::SeedableRng;
 use rand_pcg::Pcg64;
 use side_base::{Blob, Moment, NoMemory, Sequence};
 use side_memory::{MemoryClock, MemoryLink, MemorySink, MemorySource, Sizes, Steps};
-use sidecar_core::{Config, Desk, Pass, Shared, count_of_stores, serve_connection};
+use sidecar_core::{Config, Pass, Shared, count_of_stores, serve_connection};
 use std::alloc::Global;
 use std::process::Abort;
 use std::sync::Wait;
@@ -156,40 +155,31 @@ fn answered<K: Keeper, W: Wait>(
 ) -> Result<(Ended, Vec<K>), NoMemory>
     requires { length keepers.items ≡ length (stores_of config.components) }
 {
-    let (shared, pass) = Shared::start(alloc, config, keepers)?;
-    let (ended, pass) = served(rt, alloc, &shared, pass, steps, source, sink);
-    Ok((ended, shared.close(pass)))
+    let (shared, mut pass, room) = Shared::start(alloc, config, keepers)?;
+    let ended = served(rt, alloc, &shared, &mut pass, steps, source, sink);
+    let (_, keepers) = shared.close(pass, room);
+    Ok((ended, keepers))
 }
 
-/// How a session ended that was answered over these objects, and the pass behind it: it may still be closed.
+/// How a session ended that was answered over these objects; a pass that was alone is alone.
 fn served<K: Keeper, W: Wait>(
     rt: &W,
     alloc: Global,
     shared: &Shared<K>,
-    pass: Pass<K>,
+    pass: &mut Pass<K>,
     steps: Steps,
     source: &mut MemorySource,
     sink: &mut MemorySink,
-) -> (Ended, Pass<K>)
-    requires { IsPassOf (cells_of shared.now.objects) (seats_of pass) }
-    ensures { EachAlone shared.now.objects.stores.items pass.stores.items → EachAlone shared.now.objects.stores.items result.1.stores.items }
+) -> Ended
+    requires { IsPassOf (cells_of shared.now.objects) (seats_of pass.old) }
+    ensures { IsLone (cells_of shared.now.objects) (seats_of pass.old) → IsLone (cells_of shared.now.objects) (seats_of pass.new) }
 {
-    let mut desk = Desk {
-        shared,
-        pass,
-        link: MemoryLink::new(alloc, Sequence::new(alloc), Sequence::new(alloc)),
-        clock: MemoryClock::new(alloc, first_moment(), steps),
-        rng: Pcg64::seed_from_u64(7),
-    };
-    let ended = serve_connection(rt, &mut desk, source, sink);
-    let Desk {
-        shared: _,
-        pass,
-        link: _,
-        clock: _,
-        rng: _,
-    } = desk;
-    (ended, pass)
+    let mut link = MemoryLink::new(alloc, Sequence::new(alloc), Sequence::new(alloc));
+    let mut clock = MemoryClock::new(alloc, first_moment(), steps);
+    let mut rng = Pcg64::seed_from_u64(7);
+    serve_connection(
+        rt, shared, pass, source, sink, &mut link, &mut clock, &mut rng,
+    )
 }
 
 /// The beginning of 1970.

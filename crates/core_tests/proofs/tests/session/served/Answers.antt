@@ -1,5 +1,5 @@
-use Rattle.turn_cell.proofs.Passes.{still_roots}
+use Rattle.sidecar_core.specs.Composed.{lone_stays}
 use Rattle.core_tests.proofs.tests.session.served.Goals as goal
 
 pub returns : goal.returns
-returns g c alone = still_roots _ _ _ _ _ c.serve_connection-ended.ensures.served.acted.went.stores 0 alone
+returns g c lone = lone_stays _ _ _ _ _ c.serve_connection.ensures.served.acted lone

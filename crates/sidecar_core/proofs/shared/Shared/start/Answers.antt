@@ -7,6 +7,7 @@ use Rattle.breaker_core.specs.Breaker.{policy_of}
 use Rattle.meta_api.specs.Notes.{pairs_of}
 use Rattle.sidecar_core.specs.Sites.{site_of, stores_of}
 use Rattle.sidecar_core.proofs.Beginning.{all_at, all_unmap, as_many, made_of}
+use Rattle.sidecar_core.proofs.Rooted.{roots_alone, roots_seated, root_alone}
 use Rattle.sidecar_core.proofs.shared.Shared.start.Goals as goal
 
 pub invariant_of-shared : goal.invariant_of-shared
@@ -19,12 +20,10 @@ invariant_of-shared g c =
       ledgers = as_many (λ cell. cell.first) c.in_ok-objects.objects.ledgers.items c.in_ok-ledgers.ledgers.items o.ledgers.0 ∙ c.in_ok-ledgers.ensures.wide;
       breakers = as_many (λ cell. cell.first) c.in_ok-objects.objects.breakers.items c.in_ok-breakers.breakers.items o.breakers.0 ∙ as_many policy_of c.in_ok-breakers.breakers.items _ c.in_ok-breakers.ensures.policies ∙ ap length c.breakers.ensures.exact;
       bounds = all_at (λ site. ForSome site.bound.breaker (λ place. place < length c.args.config.policies.breakers)) c.in_ok-sites.sites.items c.in_ok-sites.ensures.bounds;
-      closed_room = (c.in_ok-closed.ensures.items, omega (arith, stores, c.in_ok-closed.ensures.capacity, c.len.ensures));
-      kept_room = (c.in_ok-kept.ensures.items, omega (arith, stores, c.in_ok-kept.ensures.capacity, c.len-2.ensures));
     }
 
-pub returns : goal.returns
-returns g c = let o = c.in_ok-objects.ensures in record {
+pub returns-clause-started : goal.returns-clause-started
+returns-clause-started g c = let o = c.in_ok-objects.ensures in record {
   same = refl;
   stores = made_of keeper_of (λ cell. cell.first) c.in_ok-objects.objects.stores.items c.in_ok-stores.stores.items c.args.keepers.items o.stores.0 c.in_ok-stores.ensures.keepers;
   ledgers = as_many (λ cell. cell.first) c.in_ok-objects.objects.ledgers.items c.in_ok-ledgers.ledgers.items o.ledgers.0 ∙ c.in_ok-ledgers.ensures.wide;
@@ -36,3 +35,32 @@ returns g c = let o = c.in_ok-objects.ensures in record {
   breaker_roots = o.breakers.1;
   notes_root = o.notes.1;
 }
+
+pub returns-clause-pass : goal.returns-clause-pass
+returns-clause-pass g c = let o = c.in_ok-objects.ensures in record {
+  stores = roots_seated c.in_ok-objects.objects.stores.items c.in_ok-objects.pass.stores.items o.stores.1;
+  ledgers = roots_seated c.in_ok-objects.objects.ledgers.items c.in_ok-objects.pass.ledgers.items o.ledgers.1;
+  breakers = roots_seated c.in_ok-objects.objects.breakers.items c.in_ok-objects.pass.breakers.items o.breakers.1;
+  notes = (root_alone c.in_ok-objects.objects.notes c.in_ok-objects.pass.notes o.notes.1).0;
+}
+
+pub returns-clause-lone : goal.returns-clause-lone
+returns-clause-lone g c = let o = c.in_ok-objects.ensures in record {
+  stores = roots_alone c.in_ok-objects.objects.stores.items c.in_ok-objects.pass.stores.items o.stores.1;
+  ledgers = roots_alone c.in_ok-objects.objects.ledgers.items c.in_ok-objects.pass.ledgers.items o.ledgers.1;
+  breakers = roots_alone c.in_ok-objects.objects.breakers.items c.in_ok-objects.pass.breakers.items o.breakers.1;
+  notes = root_alone c.in_ok-objects.objects.notes c.in_ok-objects.pass.notes o.notes.1;
+}
+
+pub returns-clause-sound : goal.returns-clause-sound
+returns-clause-sound g c = c.in_ok-objects.ensures.sound
+
+pub returns-clause-room : goal.returns-clause-room
+returns-clause-room g c =
+    let o = c.in_ok-objects.ensures in
+    let stores = as_many (λ cell. cell.first) c.in_ok-objects.objects.stores.items c.in_ok-stores.stores.items o.stores.0 ∙ as_many keeper_of c.in_ok-stores.stores.items c.args.keepers.items c.in_ok-stores.ensures.keepers in record {
+      no_store = c.in_ok-with_capacity.ensures.items;
+      no_keeper = c.in_ok-with_capacity-2.ensures.items;
+      for_stores = omega (arith, stores, c.in_ok-with_capacity.ensures.capacity, c.len.ensures);
+      for_keepers = omega (arith, stores, c.in_ok-with_capacity-2.ensures.capacity, c.len-2.ensures);
+    }
