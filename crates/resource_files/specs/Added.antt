@@ -1,0 +1,75 @@
+-- What a resource file adds to what the files before it say, and why it is refused.
+use Rattle.std.specs.Prelude.{◌≡◌, ◌⊎◌, ◌+◌, ◌<◌, ◌≤◌, ℕ, List, [], length, Result, Ok, Err}
+use Rattle.yaml_subset.specs.Trees.{Trees}
+use Rattle.yaml_subset.specs.File.{IsFile, IsRefusal}
+use Rattle.yaml_subset.specs.Docs.{Shows}
+use Rattle.yaml_subset.specs.declared.error.YamlErr.{YamlErr}
+use Rattle.resource_spec.specs.Component.{Loaded}
+use Rattle.resource_spec.specs.Follow.{follow}
+use Rattle.resource_spec.specs.Load.{loaded, joined}
+use Rattle.resource_spec.specs.declared.spec_err.SpecErr.{SpecErr}
+use Rattle.policy_spec.specs.Policies.{Binding}
+use Rattle.policy_spec.specs.Readers.{Readers, AreReaders}
+use Rattle.policy_spec.specs.Resiliency.{nothing_bound}
+use Rattle.policy_spec.specs.Resiliency.{loaded as policies_loaded}
+use Rattle.policy_spec.specs.Join.{first_repeated, IsRefused, IsBoth}
+use Rattle.policy_spec.specs.declared.policy_err.PolicyErr.{PolicyErr}
+use Rattle.resource_files.specs.declared.resources.Resources.{Resources}
+use Rattle.resource_files.specs.declared.resources.Refusal.{Refusal}
+use Rattle.resource_files.specs.declared.resources.Refusal.TheVariants.{TooLong, Yaml, Components, Policies}
+
+-- what no file says: no component, and nothing is bound
+abbrev pub nothing_said : Resources
+nothing_said = record { components = []; policies = nothing_bound }
+
+-- the components that these documents say for the app, behind those of the files before
+abbrev pub components_with : List ℕ → Trees → List Loaded → Result (List Loaded) SpecErr
+components_with app documents before = follow (loaded app 0 [] documents) (λ more. joined (length before + length more) before more)
+
+-- what these documents bind to targets for the app, whatever reads their durations and trips as they are
+abbrev pub Binds : List ℕ → Trees → Result Binding PolicyErr → Type 0
+Binds app documents said = (readers : Readers) → AreReaders readers → policies_loaded readers app 0 nothing_bound documents ≡ said
+
+-- a file of these bytes is read, and says what stands after it together with what stood before
+pub record Adds (app bytes : List ℕ) (before after : Resources) : Type 0 where
+  pub within : length bytes ≤ 1048576
+  pub documents : Trees
+  pub shows : Shows documents bytes
+  pub components : components_with app documents before.components ≡ Ok after.components
+  pub bound : Binding
+  pub binds : Binds app documents (Ok bound)
+  pub both : IsBoth before.policies bound after.policies
+
+-- the bytes are refused as YAML, so that they say no documents
+pub record IsNoYaml (bytes : List ℕ) (e : YamlErr) : Type 0 where
+  pub within : length bytes ≤ 1048576
+  pub refusal : IsRefusal bytes e
+  pub only : (documents : Trees) → IsFile bytes documents → ⊥
+
+-- the components of a file are refused, or a joining of them to those before
+pub record HasNoComponents (app bytes : List ℕ) (before : Resources) (e : SpecErr) : Type 0 where
+  pub within : length bytes ≤ 1048576
+  pub documents : Trees
+  pub shows : Shows documents bytes
+  pub refused : components_with app documents before.components ≡ Err e
+
+-- the policies of documents are refused, or one of their targets is bound before
+abbrev pub AreRefused : List ℕ → Trees → Binding → PolicyErr → Type 0
+AreRefused app documents before e = Binds app documents (Err e) ⊎ ((bound : Binding) × Binds app documents (Ok bound) × IsRefused e (first_repeated before bound))
+
+-- the policies of a file are refused, and its components are not
+pub record HasNoPolicies (app bytes : List ℕ) (before : Resources) (e : PolicyErr) : Type 0 where
+  pub within : length bytes ≤ 1048576
+  pub documents : Trees
+  pub shows : Shows documents bytes
+  pub components : List Loaded
+  pub joined_are : components_with app documents before.components ≡ Ok components
+  pub refused : AreRefused app documents before.policies e
+
+-- a file of these bytes is refused so behind those that say what stood before: for its length, as YAML, for its components or
+-- for its policies, the first of them that refuses
+abbrev pub IsRefusedBehind : List ℕ → List ℕ → Resources → Refusal → Type 0
+IsRefusedBehind app bytes before (TooLong len) = (length bytes ≡ len) × (1048576 < len)
+IsRefusedBehind app bytes before (Yaml e) = IsNoYaml bytes e
+IsRefusedBehind app bytes before (Components e) = HasNoComponents app bytes before e
+IsRefusedBehind app bytes before (Policies e) = HasNoPolicies app bytes before e

@@ -1,0 +1,5 @@
+pub mod Refusals
+pub mod Added
+pub mod Read
+pub mod Usual
+pub mod Steps

@@ -1,0 +1,63 @@
+// What one file adds to those before it.
+ghost use Rattle.std.specs.Prelude.{◌≤◌, ℕ, List, length};
+ghost use Rattle.yaml_subset.specs.Docs.{Shows};
+ghost use Rattle.resource_files.specs.Steps.{AddsComponents, AddsPolicies, AddsFile};
+
+use crate::resources::{Refusal, Resources};
+use policy_spec::{Policies, PolicyErr, join as join_policies, policies};
+use resource_spec::{Components, SpecErr, components, join as join_components};
+use side_base::Text;
+use std::alloc::Global;
+use yaml_subset::{Docs, read_docs};
+
+fn add_components(
+    alloc: Global,
+    docs: &Docs,
+    app: &Text,
+    all: &mut Components,
+) -> Result<(), SpecErr>
+    ensures { AddsComponents app.now docs.now all.old all.new result }
+{
+    match components(alloc, docs, app) {
+        Ok(more) => join_components(all, more),
+        Err(error) => Err(error),
+    }
+}
+
+fn add_policies(alloc: Global, docs: &Docs, app: &Text, all: &mut Policies) -> Result<(), PolicyErr>
+    ensures { AddsPolicies app.now docs.now all.old all.new result }
+{
+    match policies(alloc, docs, app) {
+        Ok(more) => join_policies(all, more),
+        Err(error) => Err(error),
+    }
+}
+
+// Adds what documents say: their components, and then what they bind.
+fn add_documents(alloc: Global, docs: &Docs, app: &Text, all: &mut Resources) -> Result<(), Refusal>
+    ensures { (bytes : List ℕ) → Shows docs.now bytes → length bytes ≤ 1048576 → AddsFile app.now bytes all.old all.new result }
+{
+    match add_components(alloc, docs, app, &mut all.components) {
+        Ok(()) => match add_policies(alloc, docs, app, &mut all.policies) {
+            Ok(()) => Ok(()),
+            Err(error) => Err(Refusal::Policies(error)),
+        },
+        Err(error) => Err(Refusal::Components(error)),
+    }
+}
+
+/// Adds what a file of these bytes says. On a refusal a part of it may have been added.
+pub(crate) fn add_file(
+    alloc: Global,
+    bytes: &[u8],
+    app: &Text,
+    all: &mut Resources,
+) -> Result<(), Refusal>
+    requires { length bytes.now ≤ 1048576 }
+    ensures { AddsFile app.now bytes.now all.old all.new result }
+{
+    match read_docs(alloc, bytes) {
+        Ok(docs) => add_documents(alloc, &docs, app, all),
+        Err(error) => Err(Refusal::Yaml(error)),
+    }
+}
