@@ -1,0 +1,7 @@
+pub mod Counting
+pub mod Givings
+pub mod Makings
+pub mod OwnPaths
+pub mod Places
+pub mod Refusals
+pub mod Runs

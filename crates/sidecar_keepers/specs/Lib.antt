@@ -1,0 +1,6 @@
+pub mod Given
+pub mod Kinds
+pub mod Made
+pub mod Refused
+pub mod Runs
+pub mod Stores
