@@ -1,5 +1,5 @@
-ghost use Rattle.std.specs.Prelude.{◌≡◌, ◌≤◌, IfOk, OnOk, OnErr, IsErr, Ok};
-ghost use Rattle.side_world.specs.Faults.{Rose};
+ghost use Rattle.std.specs.Prelude.{◌≡◌, ◌≤◌, ◌==◌, IfOk, OnOk, OnErr, IsErr, Ok};
+ghost use Rattle.side_world.specs.Faults.{Rose, RoseWith};
 
 use side_world::Failed;
 use std::marker::Model;
@@ -26,6 +26,13 @@ impl FaultCount {
         FaultCount { count: 0 }
     }
 
+    /// Whether there was none.
+    pub(crate) fn is_none(&self) -> bool
+        ensures { result ≡ (self.now == 0) }
+    {
+        self.count == 0
+    }
+
     /// Counts one.
     pub(crate) fn fail(&mut self) -> Failed
         ensures rose { Rose self.old self.new }
@@ -33,6 +40,16 @@ impl FaultCount {
     {
         self.count = self.count.saturating_add(1);
         Failed
+    }
+
+    /// Counts one where what came back has failed.
+    pub(crate) fn count_back(&mut self, back: &FaultCount)
+        ensures rose { RoseWith back.now self.old self.new }
+        ensures no_fewer { self.old ≤ self.new }
+    {
+        if !back.is_none() {
+            let Failed = self.fail();
+        }
     }
 
     /// What a call of the host answered, whose error is counted.

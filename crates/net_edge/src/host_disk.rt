@@ -31,6 +31,13 @@ impl HostDisk {
             faults: FaultCount::none(),
         })
     }
+
+    /// How often it has failed.
+    pub(crate) fn faults(&self) -> &FaultCount
+        ensures { result.now ≡ ⟦<HostDisk as Disk>⟧.faults self.now }
+    {
+        &self.faults
+    }
 }
 
 impl Disk for HostDisk {

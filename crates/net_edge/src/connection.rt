@@ -1,0 +1,119 @@
+ghost use Rattle.std.specs.Prelude.{◌≡◌, ◌≤◌, length, IfOk, IfSome};
+
+use crate::door::Door;
+use crate::waiting::{now_ms, wait_for_bytes, wait_for_room};
+use std::io::{self, ErrorKind, Read, Write};
+use std::net::{Shutdown, TcpStream};
+use std::os::fd::AsRawFd;
+
+/// How often a peer is looked for within one read or write.
+const LOOKS: u32 = 100_000;
+
+/// How many pieces of unread input are read before a connection is closed, so that the peer gets the last response and no reset.
+const PIECES_DROPPED: u32 = 16;
+
+/// Reads what is there; `None` where nothing is yet. No bytes are the end of the input.
+pub(crate) fn read_now(stream: &TcpStream, into: &mut [u8]) -> io::Result<Option<usize>>
+    ensures { IfOk result (λ found. IfSome found (λ n. n ≤ length into.new)) }
+{
+    let mut stream = stream;
+    match stream.read(into) {
+        Ok(n) => Ok(Some(n)),
+        Err(error) if is_not_yet(&error) => Ok(None),
+        Err(error) => Err(error),
+    }
+}
+
+/// Reads what comes in time from a peer that was to send something from this moment on; nothing where it doesn't.
+pub(crate) fn read_in_time(
+    door: &Door,
+    stream: &TcpStream,
+    since: u64,
+    into: &mut [u8],
+) -> io::Result<usize>
+    ensures { IfOk result (λ n. n ≤ length into.new) }
+{
+    if let Some(n) = read_now(stream, into)? {
+        return Ok(n);
+    }
+    door.begin_wait();
+    let outcome = await_bytes(door, stream, since, into);
+    door.end_wait();
+    outcome
+}
+
+fn await_bytes(door: &Door, stream: &TcpStream, since: u64, into: &mut [u8]) -> io::Result<usize>
+    ensures { IfOk result (λ n. n ≤ length into.new) }
+{
+    for _ in 0..LOOKS {
+        let ms = door.patience(since);
+        if ms == 0 {
+            return Ok(0);
+        }
+        wait_for_bytes(stream.as_raw_fd(), ms);
+        if let Some(n) = read_now(stream, into)? {
+            return Ok(n);
+        }
+    }
+    Ok(0)
+}
+
+/// Writes what there is room for; `None` where there is none yet.
+fn write_now(stream: &TcpStream, piece: &[u8]) -> io::Result<Option<usize>>
+    ensures { IfOk result (λ taken. IfSome taken (λ n. n ≤ length piece.now)) }
+{
+    let mut stream = stream;
+    match stream.write(piece) {
+        Ok(n) => Ok(Some(n)),
+        Err(error) if is_not_yet(&error) => Ok(None),
+        Err(error) => Err(error),
+    }
+}
+
+/// Writes what the peer takes in time; nothing where it doesn't take any.
+pub(crate) fn write_in_time(door: &Door, stream: &TcpStream, piece: &[u8]) -> io::Result<usize>
+    ensures { IfOk result (λ n. n ≤ length piece.now) }
+{
+    if let Some(n) = write_now(stream, piece)? {
+        return Ok(n);
+    }
+    door.begin_wait();
+    let outcome = await_room(door, stream, piece);
+    door.end_wait();
+    outcome
+}
+
+fn await_room(door: &Door, stream: &TcpStream, piece: &[u8]) -> io::Result<usize>
+    ensures { IfOk result (λ n. n ≤ length piece.now) }
+{
+    let since = now_ms();
+    for _ in 0..LOOKS {
+        let ms = door.patience(since);
+        if ms == 0 {
+            return Ok(0);
+        }
+        wait_for_room(stream.as_raw_fd(), ms);
+        if let Some(n) = write_now(stream, piece)? {
+            return Ok(n);
+        }
+    }
+    Ok(0)
+}
+
+/// Ends what is sent, and drops some of what the peer still sends.
+pub(crate) fn part_with(stream: &TcpStream) {
+    if stream.shutdown(Shutdown::Write).is_err() {
+        return;
+    }
+    let mut piece = [0u8; 4096];
+    for _ in 0..PIECES_DROPPED {
+        match read_now(stream, &mut piece) {
+            Ok(Some(n)) if n > 0 => {}
+            _ => return,
+        }
+    }
+}
+
+fn is_not_yet(error: &io::Error) -> bool {
+    matches!(error.kind(), ErrorKind::WouldBlock | ErrorKind::Interrupted)
+}

@@ -1,0 +1,272 @@
+use crate::door_limits::DoorLimits;
+use crate::places::{Coming, Places};
+use crate::ready_set::{Bell, ReadySet};
+use crate::waiting::now_ms;
+use std::io::{self, ErrorKind};
+use std::net::{Ipv4Addr, Net, SocketAddrV4, TcpListener, TcpStream};
+use std::os::fd::AsRawFd;
+use std::sync::atomic::{AtomicBool, AtomicU64, Ordering};
+use std::sync::{Arc, Wait};
+
+/// What the set reports the listener and the bell by: no number of a connection.
+const LISTENER: u64 = u64::MAX;
+
+const BELL: u64 = u64::MAX - 1;
+
+/// How many connections may wait to be accepted.
+const BACKLOG: i32 = 4_096;
+
+/// How many are accepted before others have their turn.
+const ADMITTED_AT_ONCE: u32 = 64;
+
+/// For how long none is accepted where there was no room for one, in milliseconds.
+const PAUSE_MS: u64 = 100;
+
+/// How often some places are swept, in milliseconds.
+const SWEEP_MS: u64 = 50;
+
+/// The longest that a worker waits before it looks again at what others changed, in milliseconds.
+pub(crate) const LOOK_MS: i32 = 50;
+
+/// What all workers share of a door: the set of what they wait for, and the connections that none of them serves.
+#[derive(Drop)]
+pub(crate) struct Door {
+    set: ReadySet,
+    bell: Bell,
+    listener: TcpListener,
+    places: Places,
+    limits: DoorLimits,
+    /// How many acceptors there are, and how many of their workers wait for a slow peer.
+    workers: AtomicU64,
+    waiting: AtomicU64,
+    /// The moment at which accepting begins again; 0 where it goes on.
+    resumes_at: AtomicU64,
+    /// The moment of the last sweep, and how many there were.
+    swept_at: AtomicU64,
+    sweeps: AtomicU64,
+    has_other_work: AtomicBool,
+    is_shut: AtomicBool,
+}
+
+/// What one look at a door gave.
+#[derive(Drop)]
+pub(crate) enum Look {
+    /// A connection on which there is something to read.
+    Conn(Arc<TcpStream>),
+    /// The bell was rung.
+    Rung,
+    /// Something else was done.
+    Went,
+    /// There was nothing for as long as was waited.
+    Quiet,
+}
+
+/// What became of a connection that was to be accepted.
+#[derive(Clone, Copy)]
+enum Admission {
+    /// It is awaited, or had gone.
+    Went,
+    /// There is none.
+    Nobody,
+    /// There is no room for it.
+    NoRoom,
+}
+
+impl Door {
+    /// A door at this port of 127.0.0.1.
+    pub(crate) fn open<R: Net<Listener = TcpListener, Stream = TcpStream> + AllocGlobal>(
+        rt: &R,
+        port: u16,
+        limits: DoorLimits,
+    ) -> io::Result<Self> {
+        let listener = TcpListener::bind(rt, SocketAddrV4::new(Ipv4Addr::LOCALHOST, port))?;
+        listener.set_nonblocking(true)?;
+        libc::net::listen(listener.as_raw_fd(), BACKLOG);
+        let set = ReadySet::new()?;
+        let bell = Bell::new()?;
+        set.add(listener.as_raw_fd(), LISTENER)?;
+        set.add(bell.fd(), BELL)?;
+        Ok(Door {
+            set,
+            bell,
+            listener,
+            places: Places::new(rt.alloc(), limits.places)?,
+            limits,
+            workers: AtomicU64::new(0),
+            waiting: AtomicU64::new(0),
+            resumes_at: AtomicU64::new(0),
+            swept_at: AtomicU64::new(0),
+            sweeps: AtomicU64::new(0),
+            has_other_work: AtomicBool::new(false),
+            is_shut: AtomicBool::new(false),
+        })
+    }
+
+    /// The port at which it listens.
+    pub(crate) fn port(&self) -> io::Result<u16> {
+        Ok(self.listener.local_addr()?.port())
+    }
+
+    /// One worker more waits at the door.
+    pub(crate) fn add_worker(&self) {
+        self.workers.fetch_add(1, Ordering::SeqCst);
+    }
+
+    /// No connection comes from now on.
+    pub(crate) fn shut(&self) {
+        self.is_shut.store(true, Ordering::SeqCst);
+        self.bell.ring();
+    }
+
+    /// Whether it is shut.
+    pub(crate) fn is_shut(&self) -> bool {
+        self.is_shut.load(Ordering::SeqCst)
+    }
+
+    /// Says that there is other work, and has one of those that wait look for it.
+    pub(crate) fn wake(&self) {
+        self.has_other_work.store(true, Ordering::SeqCst);
+        self.bell.ring();
+    }
+
+    /// Whether there is other work, which the caller then does.
+    pub(crate) fn take_other_work(&self) -> bool {
+        self.has_other_work.load(Ordering::SeqCst)
+            && self.has_other_work.swap(false, Ordering::SeqCst)
+    }
+
+    /// Waits at most so many milliseconds for one thing, and does what is to be done for it.
+    pub(crate) fn look<R: Wait + AllocGlobal>(&self, rt: &R, ms: i32) -> io::Result<Look> {
+        self.resume()?;
+        match self.set.wait(ms)? {
+            None => Ok(Look::Quiet),
+            Some(LISTENER) => {
+                self.admit(rt)?;
+                Ok(Look::Went)
+            }
+            Some(BELL) => {
+                self.hear()?;
+                Ok(Look::Rung)
+            }
+            Some(number) => match self.places.take(rt, number) {
+                Some(stream) => Ok(Look::Conn(stream)),
+                None => Ok(Look::Went),
+            },
+        }
+    }
+
+    /// Lets a connection rest until something comes on it; one that can't is closed.
+    pub(crate) fn let_rest<R: Wait>(&self, rt: &R, stream: Arc<TcpStream>) {
+        self.places
+            .park(rt, &self.set, stream, Coming::Again, now_ms());
+    }
+
+    /// Has the bell awaited again. That of a shut door goes on ringing, so that all hear it.
+    fn hear(&self) -> io::Result<()> {
+        if !self.is_shut() {
+            self.bell.hush();
+        }
+        self.set.arm(self.bell.fd(), BELL)
+    }
+
+    /// Accepts those that wait.
+    fn admit<R: Wait + AllocGlobal>(&self, rt: &R) -> io::Result<()> {
+        for _ in 0..ADMITTED_AT_ONCE {
+            match self.admit_one(rt) {
+                Admission::Went => {}
+                Admission::Nobody => break,
+                Admission::NoRoom => {
+                    self.pause();
+                    return Ok(());
+                }
+            }
+        }
+        self.await_peers()
+    }
+
+    fn admit_one<R: Wait + AllocGlobal>(&self, rt: &R) -> Admission {
+        match self.listener.accept() {
+            Ok((stream, _)) => self.welcome(rt, stream),
+            Err(error) => match error.kind() {
+                ErrorKind::WouldBlock => Admission::Nobody,
+                ErrorKind::ConnectionAborted | ErrorKind::Interrupted => Admission::Went,
+                _ => Admission::NoRoom,
+            },
+        }
+    }
+
+    fn welcome<R: Wait + AllocGlobal>(&self, rt: &R, stream: TcpStream) -> Admission {
+        if stream.set_nonblocking(true).is_err() || stream.set_nodelay(true).is_err() {
+            return Admission::Went;
+        }
+        let Ok(stream) = Arc::new(rt.alloc(), stream) else {
+            return Admission::NoRoom;
+        };
+        if self
+            .places
+            .park(rt, &self.set, stream, Coming::New, now_ms())
+        {
+            Admission::Went
+        } else {
+            Admission::NoRoom
+        }
+    }
+
+    fn await_peers(&self) -> io::Result<()> {
+        self.set.arm(self.listener.as_raw_fd(), LISTENER)
+    }
+
+    /// Accepts none for a while, and closes what has idled for long.
+    fn pause(&self) {
+        let now = now_ms();
+        let before = now.saturating_sub(self.limits.pressed_ms);
+        self.places.sweep(before);
+        self.resumes_at
+            .store(now.saturating_add(PAUSE_MS), Ordering::SeqCst);
+    }
+
+    /// Accepts again where a pause is over.
+    fn resume(&self) -> io::Result<()> {
+        let at = self.resumes_at.load(Ordering::SeqCst);
+        if at != 0 && at <= now_ms() && self.resumes_at.swap(0, Ordering::SeqCst) != 0 {
+            return self.await_peers();
+        }
+        Ok(())
+    }
+
+    /// Closes some of what has idled for too long, where it is time.
+    pub(crate) fn sweep(&self) {
+        let now = now_ms();
+        let last = self.swept_at.load(Ordering::SeqCst);
+        if now.saturating_sub(last) < SWEEP_MS {
+            return;
+        }
+        self.swept_at.store(now, Ordering::SeqCst);
+        let piece = self.sweeps.fetch_add(1, Ordering::SeqCst);
+        let before = now.saturating_sub(self.limits.idle_ms);
+        self.places.sweep_piece(piece, before);
+    }
+
+    /// A worker begins to wait for a slow peer.
+    pub(crate) fn begin_wait(&self) {
+        self.waiting.fetch_add(1, Ordering::SeqCst);
+    }
+
+    /// It no longer waits.
+    pub(crate) fn end_wait(&self) {
+        self.waiting.fetch_sub(1, Ordering::SeqCst);
+    }
+
+    /// For how many milliseconds a peer that was to do something from this moment on may be waited for before another look; 0
+    /// where its time is over.
+    pub(crate) fn patience(&self, since: u64) -> i32 {
+        let is_pressed = self.waiting.load(Ordering::SeqCst) >= self.workers.load(Ordering::SeqCst);
+        let limit = if is_pressed {
+            self.limits.pressed_ms
+        } else {
+            self.limits.patience_ms
+        };
+        let gone = now_ms().saturating_sub(since);
+        limit.saturating_sub(gone).min(LOOK_MS as u64) as i32
+    }
+}

@@ -1,0 +1,46 @@
+use libc::types::rlimit;
+use libc::{RLIMIT_NOFILE, getrlimit};
+
+/// The most places of a door.
+const MOST_PLACES: u64 = 16_384;
+
+/// How many descriptors are left to what else the process opens.
+const OTHER_DESCRIPTORS: u64 = 64;
+
+/// How long a door waits, in milliseconds, and how many connections it may have.
+#[derive(Clone, Copy)]
+pub(crate) struct DoorLimits {
+    /// One past the greatest descriptor of a connection.
+    pub(crate) places: usize,
+    /// A connection on which nothing comes for so long between two requests is closed.
+    pub(crate) idle_ms: u64,
+    /// A peer may take so long for a whole request, and so long to read any of a response.
+    pub(crate) patience_ms: u64,
+    /// The same where all workers wait for slow peers, and for an idle connection where there is no room for a new one.
+    pub(crate) pressed_ms: u64,
+}
+
+impl DoorLimits {
+    /// The limits of the program.
+    pub(crate) fn standard() -> Self {
+        DoorLimits {
+            places: places(),
+            idle_ms: 60_000,
+            patience_ms: 30_000,
+            pressed_ms: 1_000,
+        }
+    }
+}
+
+/// As many places as the process may have descriptors, but for some.
+fn places() -> usize {
+    let mut limit = rlimit {
+        rlim_cur: 0,
+        rlim_max: 0,
+    };
+    if getrlimit(RLIMIT_NOFILE, &mut limit) < 0 {
+        return MOST_PLACES as usize;
+    }
+    let room = limit.rlim_cur.saturating_sub(OTHER_DESCRIPTORS);
+    room.min(MOST_PLACES) as usize
+}

@@ -1,0 +1,161 @@
+ghost use Rattle.std.specs.Prelude.{◌≡◌, ◌↔◌, None, IsOk, true};
+
+use crate::connection::part_with;
+use crate::door::{Door, LOOK_MS, Look};
+use crate::fault_count::FaultCount;
+use crate::tcp_sink::TcpSink;
+use crate::tcp_source::TcpSource;
+use side_world::{Accepted, Acceptor, Failed, Sink, Source};
+use std::io;
+use std::net::TcpStream;
+use std::sync::{Arc, Wait};
+
+/// How many things are looked at in one call.
+const LOOKS: u32 = 1_000;
+
+/// A worker's place at a door: it gives a connection on which something is there to read, whichever worker served it last. It
+/// tells no answers.
+///
+/// A connection whose stretch ended between two requests goes back to the door, and any other is closed. Only a door that can't
+/// be waited at any more is a fault.
+#[derive(Drop)]
+pub struct TcpAcceptor<R> {
+    rt: R,
+    door: Arc<Door>,
+    /// The last answer was `Idle`.
+    was_idle: bool,
+    faults: FaultCount,
+}
+
+/// What comes next for a worker: a connection, other work, or nothing any more.
+#[derive(Drop)]
+enum Next {
+    Conn {
+        stream: Arc<TcpStream>,
+        door: Arc<Door>,
+        other_stream: Arc<TcpStream>,
+        other_door: Arc<Door>,
+    },
+    Idle,
+    Closed,
+}
+
+impl<R: Wait + AllocGlobal> TcpAcceptor<R> {
+    ghost use Rattle.std.specs.Prelude.{◌≡◌};
+
+    /// One more worker of this door.
+    pub(crate) fn new(rt: R, door: Arc<Door>) -> Self
+        ensures { ⟦<TcpAcceptor<R> as Acceptor>⟧.faults result ≡ 0 }
+    {
+        door.add_worker();
+        TcpAcceptor {
+            rt,
+            door,
+            was_idle: false,
+            faults: FaultCount::none(),
+        }
+    }
+
+    /// How often it has failed.
+    pub(crate) fn faults(&self) -> &FaultCount
+        ensures { result.now ≡ ⟦<TcpAcceptor<R> as Acceptor>⟧.faults self.now }
+    {
+        &self.faults
+    }
+
+    /// Waits for what comes next. Other work comes first, but not twice in a row.
+    fn await_next(&self) -> io::Result<Next> {
+        if self.door.is_shut() {
+            return Ok(Next::Closed);
+        }
+        if !self.was_idle && self.door.take_other_work() {
+            return Ok(Next::Idle);
+        }
+        self.door.sweep();
+        let mut ms = LOOK_MS;
+        for _ in 0..LOOKS {
+            match self.door.look(&self.rt, ms)? {
+                Look::Conn(stream) => return self.shared(stream),
+                Look::Went => {}
+                Look::Rung if self.door.is_shut() => return Ok(Next::Closed),
+                // A connection that is ready comes before other work that follows other work.
+                Look::Rung if self.was_idle => ms = 0,
+                Look::Rung if self.door.take_other_work() => return Ok(Next::Idle),
+                Look::Rung => {}
+                Look::Quiet => {
+                    self.door.take_other_work();
+                    return Ok(Next::Idle);
+                }
+            }
+        }
+        Ok(Next::Idle)
+    }
+
+    /// A connection, for its source and its sink.
+    fn shared(&self, stream: Arc<TcpStream>) -> io::Result<Next> {
+        Ok(Next::Conn {
+            other_stream: Arc::try_clone(&stream)?,
+            stream,
+            door: Arc::try_clone(&self.door)?,
+            other_door: Arc::try_clone(&self.door)?,
+        })
+    }
+}
+
+impl<R: Wait + AllocGlobal> Acceptor for TcpAcceptor<R> {
+    type From = TcpSource;
+
+    type Into = TcpSink;
+
+    ghost told = { λ _. None };
+
+    ghost faults = { λ a. a.faults };
+
+    fn accept(&mut self) -> Accepted<TcpSource, TcpSink> {
+        let next = self.await_next();
+        self.was_idle = false;
+        match self.faults.counted(next) {
+            Ok(
+                Next::Conn {
+                    stream,
+                    door,
+                    other_stream,
+                    other_door,
+                },
+            ) => Accepted::Conn {
+                source: TcpSource::new(door, stream),
+                sink: TcpSink::new(other_door, other_stream),
+            },
+            Ok(Next::Idle) => {
+                self.was_idle = true;
+                Accepted::Idle
+            }
+            Ok(Next::Closed) => Accepted::Closed,
+            Err(Failed) => Accepted::Failed,
+        }
+    }
+
+    fn end(&mut self, source: TcpSource, sink: TcpSink) {
+        match after_stretch(source, sink) {
+            Ok(stream) => self.door.let_rest(&self.rt, stream),
+            Err(stream) => part_with(&stream),
+        }
+    }
+
+    fn wake(&mut self) {
+        self.door.wake();
+    }
+}
+
+/// The connection: `Ok` exactly where it goes on, since its stretch ended between two requests and nothing failed.
+fn after_stretch(source: TcpSource, sink: TcpSink) -> Result<Arc<TcpStream>, Arc<TcpStream>>
+    ensures { IsOk result ↔ ((source.rests ≡ true) × (source.faults ≡ 0) × (sink.faults ≡ 0)) }
+{
+    let has_failed = sink.close();
+    let (stream, rests) = source.into_stream();
+    if rests && !has_failed {
+        Ok(stream)
+    } else {
+        Err(stream)
+    }
+}

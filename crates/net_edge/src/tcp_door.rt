@@ -1,0 +1,57 @@
+use crate::TcpAcceptor;
+use crate::door::Door;
+use crate::door_limits::DoorLimits;
+use side_world::Acceptor;
+use std::io;
+use std::net::{Net, TcpListener, TcpStream};
+use std::sync::{Arc, Wait};
+
+/// A port of 127.0.0.1 at which any number of connections wait for any number of workers.
+///
+/// A connection, as its acceptors give it, is a stretch of a TCP connection: from a moment at which something is there to read
+/// until one at which, between two requests, nothing more is. Then it waits at the door again, and takes no worker's time. One
+/// that says nothing for 60 seconds is closed, and so is one that takes more than 30 seconds, and a millisecond for each byte,
+/// for a request: more than 1 second where all workers wait for such peers.
+#[derive(Drop)]
+pub struct TcpDoor {
+    door: Arc<Door>,
+}
+
+impl TcpDoor {
+    ghost use Rattle.std.specs.Prelude.{◌≡◌, IfOk};
+
+    /// A door at this port, at any free one where it is 0.
+    pub fn open<R: Net<Listener = TcpListener, Stream = TcpStream> + AllocGlobal>(
+        rt: &R,
+        port: u16,
+    ) -> io::Result<Self> {
+        TcpDoor::open_within(rt, port, DoorLimits::standard())
+    }
+
+    pub(crate) fn open_within<R: Net<Listener = TcpListener, Stream = TcpStream> + AllocGlobal>(
+        rt: &R,
+        port: u16,
+        limits: DoorLimits,
+    ) -> io::Result<Self> {
+        Ok(TcpDoor {
+            door: Arc::new(rt.alloc(), Door::open(rt, port, limits)?)?,
+        })
+    }
+
+    /// The port at which it listens.
+    pub fn port(&self) -> io::Result<u16> {
+        self.door.port()
+    }
+
+    /// The acceptor of one worker more, which has no faults.
+    pub fn acceptor<R: Wait + AllocGlobal + Drop>(&self, rt: R) -> io::Result<TcpAcceptor<R>>
+        ensures { IfOk result (λ a. ⟦<TcpAcceptor<R> as Acceptor>⟧.faults a ≡ 0) }
+    {
+        Ok(TcpAcceptor::new(rt, Arc::try_clone(&self.door)?))
+    }
+
+    /// Its acceptors answer `Closed` from now on.
+    pub fn shut(&self) {
+        self.door.shut();
+    }
+}

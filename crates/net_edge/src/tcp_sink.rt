@@ -1,0 +1,58 @@
+ghost use Rattle.std.specs.Prelude.{◌≡◌, None};
+
+use crate::connection::write_in_time;
+use crate::door::Door;
+use crate::fault_count::FaultCount;
+use side_world::{Failed, Sink};
+use std::net::TcpStream;
+use std::sync::Arc;
+
+/// What is sent to the peer of a connection. It tells no content.
+///
+/// A write waits for a peer that doesn't read, up to a limit of time. Each error of the connection is a fault, and so is a write
+/// of which nothing was taken in time.
+pub struct TcpSink {
+    door: Arc<Door>,
+    stream: Arc<TcpStream>,
+    pub(crate) faults: FaultCount,
+}
+
+impl TcpSink {
+    ghost use Rattle.std.specs.Prelude.{◌≡◌, ◌≢◌, ◌↔◌, true};
+
+    /// To the peer of this connection.
+    pub(crate) fn new(door: Arc<Door>, stream: Arc<TcpStream>) -> Self
+        ensures { ⟦<TcpSink as Sink>⟧.faults result ≡ 0 }
+    {
+        TcpSink {
+            door,
+            stream,
+            faults: FaultCount::none(),
+        }
+    }
+
+    /// Lets its share of the connection go, and tells whether it has failed.
+    pub(crate) fn close(self) -> bool
+        ensures { result ≡ true ↔ self.faults ≢ 0 }
+    {
+        let TcpSink {
+            door: _,
+            stream: _,
+            faults,
+        } = self;
+        !faults.is_none()
+    }
+}
+
+impl Sink for TcpSink {
+    ghost contents = { λ _. None };
+
+    ghost faults = { λ s. s.faults };
+
+    fn write(&mut self, piece: &[u8]) -> Result<usize, Failed> {
+        match write_in_time(&self.door, &self.stream, piece) {
+            Ok(n) if n > 0 => Ok(n),
+            _ => Err(self.faults.fail()),
+        }
+    }
+}

@@ -1,0 +1,146 @@
+ghost use Rattle.std.specs.Prelude.{◌≡◌, None, true};
+
+use crate::connection::{read_in_time, read_now};
+use crate::door::Door;
+use crate::fault_count::FaultCount;
+use crate::waiting::now_ms;
+use side_world::{Failed, Source};
+use std::io;
+use std::net::TcpStream;
+use std::sync::Arc;
+
+/// How many requests of one connection are served before others have their turn.
+const REQUESTS_AT_ONCE: u32 = 64;
+
+/// How the requests of a stretch come.
+#[derive(Drop)]
+struct Pace {
+    /// How many reads between two requests gave some of one.
+    requests: u32,
+    /// The moment from which the time of the present request is counted, in milliseconds.
+    since: u64,
+}
+
+impl Pace {
+    /// None has come.
+    fn new() -> Self {
+        Pace {
+            requests: 0,
+            since: 0,
+        }
+    }
+
+    /// So many bytes came. They begin a request, or give the present one as many milliseconds more.
+    fn note(&mut self, begins: bool, n: usize) {
+        let now = now_ms();
+        if begins {
+            self.requests = self.requests.saturating_add(1);
+            self.since = now;
+        } else {
+            self.since = self.since.saturating_add(n as u64).min(now);
+        }
+    }
+}
+
+/// What the peer of a connection sends in one stretch: from a moment at which something is there until one at which, between
+/// two requests, nothing more is. It tells no content.
+///
+/// Between two requests, of which `between` tells it, a read looks once, and answers 0 where nothing is there. Within a request
+/// it waits, and answers 0 where the time for the request is over. Each error of the connection is a fault.
+pub struct TcpSource {
+    door: Arc<Door>,
+    stream: Arc<TcpStream>,
+    /// The reader holds no part of a request.
+    is_between: bool,
+    /// The last read answered that the stretch ended between two requests.
+    pub(crate) rests: bool,
+    ended: bool,
+    pace: Pace,
+    pub(crate) faults: FaultCount,
+    ghost rest_ends: { rests ≡ true → ended ≡ true },
+    ghost rests_between: { rests ≡ true → is_between ≡ true },
+}
+
+impl TcpSource {
+    ghost use Rattle.std.specs.Prelude.{◌≡◌, ◌≤◌, ◌↔◌, length, true, false, None, IfOk, IfSome};
+
+    /// A stretch that begins.
+    pub(crate) fn new(door: Arc<Door>, stream: Arc<TcpStream>) -> Self
+        ensures no_faults { ⟦<TcpSource as Source>⟧.faults result ≡ 0 }
+        ensures not_ended { ⟦<TcpSource as Source>⟧.ended result ≡ false }
+        ensures does_not_rest { result.rests ≡ false }
+    {
+        TcpSource {
+            door,
+            stream,
+            is_between: true,
+            rests: false,
+            ended: false,
+            pace: Pace::new(),
+            faults: FaultCount::none(),
+        }
+    }
+
+    /// The connection, and whether its stretch ended between two requests and it didn't fail.
+    pub(crate) fn into_stream(self) -> (Arc<TcpStream>, bool)
+        ensures { result.1 ≡ true ↔ ((self.rests ≡ true) × (self.faults ≡ 0)) }
+    {
+        let TcpSource {
+            door: _,
+            stream,
+            is_between: _,
+            rests,
+            ended: _,
+            pace: _,
+            faults,
+        } = self;
+        (stream, rests && faults.is_none())
+    }
+
+    /// What comes next; `None` where the stretch ends between two requests.
+    fn next_bytes(&self, into: &mut [u8]) -> io::Result<Option<usize>>
+        ensures within { IfOk result (λ found. IfSome found (λ n. n ≤ length into.new)) }
+        ensures rests { IfOk result (λ found. found ≡ None → self.now.is_between ≡ true) }
+    {
+        if !self.is_between {
+            let n = read_in_time(&self.door, &self.stream, self.pace.since, into)?;
+            return Ok(Some(n));
+        }
+        if self.pace.requests >= REQUESTS_AT_ONCE {
+            return Ok(None);
+        }
+        read_now(&self.stream, into)
+    }
+}
+
+impl Source for TcpSource {
+    ghost left = { λ _. None };
+
+    ghost taken = { λ _. None };
+
+    ghost ended = { λ s. s.ended };
+
+    ghost faults = { λ s. s.faults };
+
+    fn read(&mut self, into: &mut [u8]) -> Result<usize, Failed> {
+        self.rests = false;
+        let found = self.next_bytes(into);
+        match self.faults.counted(found)? {
+            Some(n) => {
+                self.pace.note(self.is_between, n);
+                self.ended = self.ended || n == 0;
+                Ok(n)
+            }
+            None => {
+                self.ended = true;
+                self.rests = true;
+                Ok(0)
+            }
+        }
+    }
+
+    fn between(&mut self, is_between: bool) {
+        self.rests = self.rests && is_between;
+        self.is_between = is_between;
+    }
+}

@@ -1,0 +1,37 @@
+use libc::net::{self, POLLIN, POLLOUT};
+use libc::types::{pollfd, timespec};
+use libc::{CLOCK_MONOTONIC, clock_gettime};
+use std::os::fd::RawFd;
+
+/// The milliseconds since some start, by the system's clock that is never set back.
+pub(crate) fn now_ms() -> u64 {
+    let mut time = timespec {
+        tv_sec: 0,
+        tv_nsec: 0,
+    };
+    clock_gettime(CLOCK_MONOTONIC, &mut time);
+    let nanos = time.tv_nsec.unsigned_abs();
+    time.tv_sec
+        .unsigned_abs()
+        .saturating_mul(1_000)
+        .saturating_add(nanos / 1_000_000)
+}
+
+/// Waits until something can be read, or the connection has ended, or the milliseconds are up.
+pub(crate) fn wait_for_bytes(fd: RawFd, ms: i32) {
+    wait_for(fd, POLLIN, ms);
+}
+
+/// Waits until something can be written, or the connection has ended, or the milliseconds are up.
+pub(crate) fn wait_for_room(fd: RawFd, ms: i32) {
+    wait_for(fd, POLLOUT, ms);
+}
+
+fn wait_for(fd: RawFd, events: i16, ms: i32) {
+    let mut asked = [pollfd {
+        fd,
+        events,
+        revents: 0,
+    }];
+    net::poll(&mut asked, ms);
+}
