@@ -1,0 +1,165 @@
+// What a case gives: the files of a folder, and for which app they are read.
+
+use crate::section::{Section, name_in};
+use case_text::{unescaped, without_blank_end};
+use itoa::Buffer;
+use resource_files::{Resources, ResourcesErr, read_resources, refusal_text, usual_resources};
+use side_base::{Blob, NoMemory, Places, Sequence, Text, number_of, split_digits};
+use side_memory::MemoryFiles;
+use std::alloc::Global;
+
+/// The app and the folder of a case that names none.
+const APP: &str = "shop";
+
+const FOLDER: &str = "d";
+
+/// What came of reading.
+#[derive(Drop)]
+pub(crate) enum Outcome {
+    Read(Resources),
+    /// Nothing was read, for this reason.
+    Refused(Text),
+}
+
+/// Whether a section of this word gives something, and asks nothing.
+pub(crate) fn is_given(word: &str) -> bool {
+    match word {
+        "file" | "numbered" | "padded" | "folder" | "failing" | "no-folder" | "for" => true,
+        _ => false,
+    }
+}
+
+/// The app for which a case is read.
+pub(crate) fn app_of(alloc: Global, sections: &[Section<'_>]) -> Result<Text, NoMemory> {
+    Text::from_str(alloc, name_in(sections, "for").unwrap_or(APP))
+}
+
+// The number that a text begins with, and the text behind it and a space.
+fn numbered(text: &str) -> (u64, &str) {
+    match text.split_once(' ') {
+        Some((number, name)) => (number_in(number), name),
+        None => (number_in(text), ""),
+    }
+}
+
+fn number_in(text: &str) -> u64 {
+    let (digits, _) = split_digits(text.as_bytes());
+    number_of(digits)
+}
+
+// The calls that are to fail.
+fn failing(alloc: Global, sections: &[Section<'_>]) -> Result<Places, NoMemory> {
+    let mut places = Sequence::new(alloc);
+    if let Some(number) = name_in(sections, "failing") {
+        places.push(u32::try_from(number_in(number)).unwrap_or(0))?;
+    }
+    Ok(places)
+}
+
+// This text as often as is said, each time with its number behind it and a line end.
+fn repeated(alloc: Global, text: &[u8], times: u64) -> Result<Blob, NoMemory> {
+    let mut all = Blob::new(alloc);
+    for number in 0..times {
+        let mut buffer = Buffer::new();
+        all.push(text)?;
+        all.push(buffer.format(number).as_bytes())?;
+        all.push_byte(b'\n')?;
+    }
+    Ok(all)
+}
+
+// This text with so many `#` behind it that it has this length.
+fn padded(mut text: Blob, len: u64) -> Result<Blob, NoMemory> {
+    let missing = len.saturating_sub(text.len() as u64);
+    for _ in 0..missing {
+        text.push_byte(b'#')?;
+    }
+    Ok(text)
+}
+
+// The name and the bytes of the file that a section is.
+fn file_of<'a>(
+    alloc: Global,
+    section: &Section<'a>,
+    text: Blob,
+) -> Result<(&'a str, Blob), NoMemory> {
+    let (number, name) = numbered(section.name);
+    match section.word {
+        "numbered" => Ok((name, repeated(alloc, text.bytes(), number)?)),
+        "padded" => Ok((name, padded(text, number)?)),
+        _ => Ok((section.name, text)),
+    }
+}
+
+// Adds the file that a section is.
+fn add_file(
+    alloc: Global,
+    files: &mut MemoryFiles,
+    section: &Section<'_>,
+    text: Blob,
+) -> Result<(), NoMemory> {
+    let (name, bytes) = file_of(alloc, section, text)?;
+    files.add_file(FOLDER.as_bytes(), Text::from_str(alloc, name)?, bytes)
+}
+
+fn is_file(word: &str) -> bool {
+    match word {
+        "file" | "numbered" | "padded" => true,
+        _ => false,
+    }
+}
+
+// The files of a case; `None` where the text of one has no escape where it should.
+fn files_of(alloc: Global, sections: &[Section<'_>]) -> Result<Option<MemoryFiles>, NoMemory> {
+    let mut files = MemoryFiles::new(alloc, failing(alloc, sections)?);
+    files.add_folder(FOLDER.as_bytes())?;
+    for section in sections {
+        if is_file(section.word) {
+            match unescaped(alloc, without_blank_end(section.text))? {
+                Some(text) => add_file(alloc, &mut files, section, text)?,
+                None => return Ok(None),
+            }
+        }
+    }
+    Ok(Some(files))
+}
+
+// Why nothing was read; `NoMemory` where that is the reason.
+fn reason(alloc: Global, error: ResourcesErr) -> Result<Text, NoMemory> {
+    match error {
+        ResourcesErr::Refused { file, refusal } => {
+            let mut text = file;
+            text.push(": ")?;
+            text.push(refusal_text(alloc, &refusal)?.as_str())?;
+            Ok(text)
+        }
+        ResourcesErr::Failed => Ok(Text::from_static(alloc, "failed")),
+        ResourcesErr::NoMemory => Err(NoMemory),
+    }
+}
+
+fn outcome_of(alloc: Global, read: Result<Resources, ResourcesErr>) -> Result<Outcome, NoMemory> {
+    match read {
+        Ok(resources) => Ok(Outcome::Read(resources)),
+        Err(error) => Ok(Outcome::Refused(reason(alloc, error)?)),
+    }
+}
+
+/// Reads what a case gives, for this app.
+pub(crate) fn read(
+    alloc: Global,
+    sections: &[Section<'_>],
+    app: &Text,
+) -> Result<Outcome, NoMemory> {
+    if name_in(sections, "no-folder").is_some() {
+        return Ok(Outcome::Read(usual_resources(alloc, app)?));
+    }
+    let folder = name_in(sections, "folder").unwrap_or(FOLDER);
+    match files_of(alloc, sections)? {
+        Some(mut files) => outcome(
+            alloc,
+            read_resources(alloc, &mut files, folder.as_bytes(), app),
+        ),
+        None => Ok(Outcome::Refused(Text::from_static(alloc, "no escape"))),
+    }
+}
