@@ -1,32 +1,44 @@
 // What is bound to a target, as a text: a line for its timeout, its retries and its breaker.
 
-use crate::component_text::add_number;
+use crate::lines::Lines;
 use policy_spec::{Policies, Target, bind};
 use retry_core::{RetryKind, RetryPolicy};
 use side_base::{NoMemory, Text};
 use std::alloc::Global;
 
-fn add_kind(text: &mut Text, kind: RetryKind) -> Result<(), NoMemory> {
+fn add_kind(lines: &mut Lines, kind: RetryKind) {
     match kind {
-        RetryKind::Constant { duration_ms } => add_number(text, "retry after ", duration_ms),
+        RetryKind::Constant { duration_ms } => lines.add_number("retry after ", duration_ms),
         RetryKind::Exponential { max_interval_ms } => {
-            add_number(text, "retry after up to ", max_interval_ms)
+            lines.add_number("retry after up to ", max_interval_ms)
         }
     }
 }
 
-fn add_retry(text: &mut Text, retry: &RetryPolicy) -> Result<(), NoMemory> {
-    add_kind(text, retry.kind)?;
-    match retry.max_retries {
-        Some(most) => add_number(text, ", times ", most as u64)?,
-        None => text.push(", without end")?,
+fn add_most(lines: &mut Lines, most: Option<u32>) {
+    match most {
+        Some(most) => lines.add_number_line(", times ", most as u64),
+        None => lines.add(", without end\n"),
     }
-    text.push("\n")
 }
 
-fn add_number_line(text: &mut Text, words: &str, number: u64) -> Result<(), NoMemory> {
-    add_number(text, words, number)?;
-    text.push("\n")
+fn add_retry(lines: &mut Lines, retry: Option<RetryPolicy>) {
+    if let Some(retry) = retry {
+        add_kind(lines, retry.kind);
+        add_most(lines, retry.max_retries);
+    }
+}
+
+fn add_timeout(lines: &mut Lines, timeout: Option<u64>) {
+    if let Some(ms) = timeout {
+        lines.add_number_line("timeout ", ms);
+    }
+}
+
+fn add_breaker(lines: &mut Lines, place: Option<u32>) {
+    if let Some(place) = place {
+        lines.add_number_line("breaker ", place as u64);
+    }
 }
 
 /// What is bound to a target, and `nothing` where nothing is.
@@ -36,18 +48,12 @@ pub(crate) fn bound_text(
     target: &Target<'_>,
 ) -> Result<Text, NoMemory> {
     let bound = bind(policies, target);
-    let mut text = Text::new(alloc);
-    if let Some(ms) = bound.timeout_ms {
-        add_number_line(&mut text, "timeout ", ms)?;
+    let mut lines = Lines::new(alloc);
+    add_timeout(&mut lines, bound.timeout_ms);
+    add_retry(&mut lines, bound.retry);
+    add_breaker(&mut lines, bound.breaker);
+    if lines.is_empty() {
+        lines.add("nothing\n");
     }
-    if let Some(retry) = bound.retry {
-        add_retry(&mut text, &retry)?;
-    }
-    if let Some(place) = bound.breaker {
-        add_number_line(&mut text, "breaker ", place as u64)?;
-    }
-    if text.is_empty() {
-        text.push("nothing\n")?;
-    }
-    Ok(text)
+    lines.done()
 }

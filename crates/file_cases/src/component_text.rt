@@ -1,28 +1,14 @@
 // Components as texts: a line for each, and below it its facts and its settings.
 
-use itoa::Buffer;
+use crate::lines::Lines;
 use resource_spec::{Component, ComponentKind, Components, Settings, Url};
 use side_base::{NoMemory, Text};
 use std::alloc::Global;
 
-/// Adds words and a number behind them.
-pub(crate) fn add_number(text: &mut Text, words: &str, number: u64) -> Result<(), NoMemory> {
-    let mut buffer = Buffer::new();
-    text.push(words)?;
-    text.push(buffer.format(number))
-}
-
-// Adds a line of these words and what stands behind them.
-fn add_line(text: &mut Text, words: &str, behind: &str) -> Result<(), NoMemory> {
-    text.push(words)?;
-    text.push(behind)?;
-    text.push("\n")
-}
-
-fn add_prefix(text: &mut Text, component: &Component, app: &Text) -> Result<(), NoMemory> {
+fn add_prefix(lines: &mut Lines, component: &Component, app: &Text) {
     match component.key_prefix(app) {
-        Some(prefix) => add_line(text, "  prefix ", prefix.as_str()),
-        None => text.push("  no prefix\n"),
+        Some(prefix) => lines.add_line("  prefix ", prefix.as_str()),
+        None => lines.add("  no prefix\n"),
     }
 }
 
@@ -33,43 +19,42 @@ fn text_in(bytes: &[u8]) -> &str {
     }
 }
 
-fn add_url(text: &mut Text, url: &Url<'_>) -> Result<(), NoMemory> {
-    text.push("  host ")?;
-    text.push(text_in(url.host))?;
-    add_number(text, ", port ", url.port as u64)?;
-    add_line(text, ", path ", text_in(url.path))
+fn add_url(lines: &mut Lines, url: &Url<'_>) {
+    lines.add("  host ");
+    lines.add(text_in(url.host));
+    lines.add_number(", port ", url.port as u64);
+    lines.add_line(", path ", text_in(url.path));
 }
 
 // Adds what a component is by its kind.
-fn add_facts(text: &mut Text, component: &Component, app: &Text) -> Result<(), NoMemory> {
+fn add_facts(lines: &mut Lines, component: &Component, app: &Text) {
     match component.kind() {
-        ComponentKind::StateMemory => add_prefix(text, component, app),
+        ComponentKind::StateMemory => add_prefix(lines, component, app),
         ComponentKind::StateJournal => {
-            add_line(text, "  path ", component.path().as_str())?;
-            add_prefix(text, component, app)
+            lines.add_line("  path ", component.path().as_str());
+            add_prefix(lines, component, app);
         }
-        ComponentKind::PubsubMemory => Ok(()),
-        ComponentKind::BindingHttp => add_url(text, &component.url()),
+        ComponentKind::PubsubMemory => {}
+        ComponentKind::BindingHttp => add_url(lines, &component.url()),
     }
 }
 
-fn add_settings(text: &mut Text, settings: &Settings) -> Result<(), NoMemory> {
+fn add_settings(lines: &mut Lines, settings: &Settings) {
     for place in 0..settings.len() {
         let setting = settings.at(place);
-        text.push("  ")?;
-        text.push(setting.name.as_str())?;
-        add_line(text, "=", setting.value.as_str())?;
+        lines.add("  ");
+        lines.add(setting.name.as_str());
+        lines.add_line("=", setting.value.as_str());
     }
-    Ok(())
 }
 
-fn add_component(text: &mut Text, component: &Component, app: &Text) -> Result<(), NoMemory> {
-    text.push(component.name().as_str())?;
-    text.push(" ")?;
-    text.push(component.kind().name())?;
-    add_line(text, " ", component.version().as_str())?;
-    add_facts(text, component, app)?;
-    add_settings(text, component.settings())
+fn add_component(lines: &mut Lines, component: &Component, app: &Text) {
+    lines.add(component.name().as_str());
+    lines.add(" ");
+    lines.add(component.kind().name());
+    lines.add_line(" ", component.version().as_str());
+    add_facts(lines, component, app);
+    add_settings(lines, component.settings());
 }
 
 /// The components, for this app.
@@ -78,9 +63,9 @@ pub(crate) fn components_text(
     components: &Components,
     app: &Text,
 ) -> Result<Text, NoMemory> {
-    let mut text = Text::new(alloc);
+    let mut lines = Lines::new(alloc);
     for place in 0..components.len() {
-        add_component(&mut text, components.at(place), app)?;
+        add_component(&mut lines, components.at(place), app);
     }
-    Ok(text)
+    lines.done()
 }

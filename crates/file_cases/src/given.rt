@@ -1,5 +1,6 @@
 // What a case gives: the files of a folder, and for which app they are read.
 
+use crate::lines::Lines;
 use crate::section::{Section, name_in};
 use case_text::{unescaped, without_blank_end};
 use itoa::Buffer;
@@ -91,15 +92,25 @@ fn file_of<'a>(
     }
 }
 
-// Adds the file that a section is.
+// Adds a file to the folder.
 fn add_file(
+    alloc: Global,
+    files: &mut MemoryFiles,
+    name: &str,
+    bytes: Blob,
+) -> Result<(), NoMemory> {
+    files.add_file(FOLDER.as_bytes(), Text::from_str(alloc, name)?, bytes)
+}
+
+// Adds the file that a section is.
+fn add_section(
     alloc: Global,
     files: &mut MemoryFiles,
     section: &Section<'_>,
     text: Blob,
 ) -> Result<(), NoMemory> {
     let (name, bytes) = file_of(alloc, section, text)?;
-    files.add_file(FOLDER.as_bytes(), Text::from_str(alloc, name)?, bytes)
+    add_file(alloc, files, name, bytes)
 }
 
 fn is_file(word: &str) -> bool {
@@ -109,39 +120,101 @@ fn is_file(word: &str) -> bool {
     }
 }
 
-// The files of a case; `None` where the text of one has no escape where it should.
-fn files_of(alloc: Global, sections: &[Section<'_>]) -> Result<Option<MemoryFiles>, NoMemory> {
+// Adds the file that a section is, if it is one; `false` where its text has no escape where it should.
+fn add_given(
+    alloc: Global,
+    files: &mut MemoryFiles,
+    section: &Section<'_>,
+) -> Result<bool, NoMemory> {
+    if !is_file(section.word) {
+        return Ok(true);
+    }
+    match unescaped(alloc, without_blank_end(section.text)) {
+        Ok(Some(text)) => match add_section(alloc, files, section, text) {
+            Ok(()) => Ok(true),
+            Err(error) => Err(error),
+        },
+        Ok(None) => Ok(false),
+        Err(error) => Err(error),
+    }
+}
+
+// The folder, without files.
+fn empty_folder(alloc: Global, sections: &[Section<'_>]) -> Result<MemoryFiles, NoMemory> {
     let mut files = MemoryFiles::new(alloc, failing(alloc, sections)?);
     files.add_folder(FOLDER.as_bytes())?;
+    Ok(files)
+}
+
+// Adds the files of a case; `false` where the text of one has no escape where it should.
+fn add_all(
+    alloc: Global,
+    files: &mut MemoryFiles,
+    sections: &[Section<'_>],
+) -> Result<bool, NoMemory> {
     for section in sections {
-        if is_file(section.word) {
-            match unescaped(alloc, without_blank_end(section.text))? {
-                Some(text) => add_file(alloc, &mut files, section, text)?,
-                None => return Ok(None),
-            }
+        if !add_given(alloc, files, section)? {
+            return Ok(false);
         }
     }
-    Ok(Some(files))
+    Ok(true)
 }
 
 // Why nothing was read; `NoMemory` where that is the reason.
-fn reason(alloc: Global, error: ResourcesErr) -> Result<Text, NoMemory> {
+fn reason(alloc: Global, error: &ResourcesErr) -> Result<Text, NoMemory> {
     match error {
         ResourcesErr::Refused { file, refusal } => {
-            let mut text = file;
-            text.push(": ")?;
-            text.push(refusal_text(alloc, &refusal)?.as_str())?;
-            Ok(text)
+            let text = refusal_text(alloc, refusal)?;
+            let mut lines = Lines::new(alloc);
+            lines.add(file.as_str());
+            lines.add(": ");
+            lines.add(text.as_str());
+            lines.done()
         }
         ResourcesErr::Failed => Ok(Text::from_static(alloc, "failed")),
         ResourcesErr::NoMemory => Err(NoMemory),
     }
 }
 
+fn refused(reason: Result<Text, NoMemory>) -> Result<Outcome, NoMemory> {
+    match reason {
+        Ok(reason) => Ok(Outcome::Refused(reason)),
+        Err(error) => Err(error),
+    }
+}
+
 fn outcome_of(alloc: Global, read: Result<Resources, ResourcesErr>) -> Result<Outcome, NoMemory> {
     match read {
         Ok(resources) => Ok(Outcome::Read(resources)),
-        Err(error) => Ok(Outcome::Refused(reason(alloc, error)?)),
+        Err(error) => refused(reason(alloc, &error)),
+    }
+}
+
+// Reads the folder of a case.
+fn read_folder(
+    alloc: Global,
+    files: &mut MemoryFiles,
+    sections: &[Section<'_>],
+    app: &Text,
+) -> Result<Outcome, NoMemory> {
+    let folder = name_in(sections, "folder").unwrap_or(FOLDER);
+    outcome_of(alloc, read_resources(alloc, files, folder.as_bytes(), app))
+}
+
+fn read_usual(alloc: Global, app: &Text) -> Result<Outcome, NoMemory> {
+    match usual_resources(alloc, app) {
+        Ok(resources) => Ok(Outcome::Read(resources)),
+        Err(error) => Err(error),
+    }
+}
+
+// Reads the files of a case.
+fn read_files(alloc: Global, sections: &[Section<'_>], app: &Text) -> Result<Outcome, NoMemory> {
+    let mut files = empty_folder(alloc, sections)?;
+    if add_all(alloc, &mut files, sections)? {
+        read_folder(alloc, &mut files, sections, app)
+    } else {
+        Ok(Outcome::Refused(Text::from_static(alloc, "no escape")))
     }
 }
 
@@ -151,15 +224,8 @@ pub(crate) fn read(
     sections: &[Section<'_>],
     app: &Text,
 ) -> Result<Outcome, NoMemory> {
-    if name_in(sections, "no-folder").is_some() {
-        return Ok(Outcome::Read(usual_resources(alloc, app)?));
-    }
-    let folder = name_in(sections, "folder").unwrap_or(FOLDER);
-    match files_of(alloc, sections)? {
-        Some(mut files) => outcome(
-            alloc,
-            read_resources(alloc, &mut files, folder.as_bytes(), app),
-        ),
-        None => Ok(Outcome::Refused(Text::from_static(alloc, "no escape"))),
+    match name_in(sections, "no-folder") {
+        Some(_) => read_usual(alloc, app),
+        None => read_files(alloc, sections, app),
     }
 }

@@ -6,6 +6,7 @@ mod asked;
 mod bound_text;
 mod component_text;
 mod given;
+mod lines;
 mod playing;
 mod section;
 mod trip_text;

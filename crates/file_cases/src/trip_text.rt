@@ -1,6 +1,6 @@
 // Breakers as texts.
 
-use crate::component_text::add_number;
+use crate::lines::Lines;
 use policy_spec::BreakerPolicies;
 use retry_core::{BreakerPolicy, Comparison, Counter, Join, Sign, Trip};
 use side_base::{NoMemory, Text};
@@ -31,35 +31,35 @@ fn join_text(join: Join) -> &'static str {
     }
 }
 
-fn add_comparison(text: &mut Text, comparison: &Comparison) -> Result<(), NoMemory> {
-    text.push(counter_name(comparison.counter))?;
-    add_number(text, sign_text(comparison.sign), comparison.number as u64)
+fn add_comparison(lines: &mut Lines, comparison: &Comparison) {
+    lines.add(counter_name(comparison.counter));
+    lines.add_number(sign_text(comparison.sign), comparison.number as u64);
 }
 
-fn add_trip(text: &mut Text, trip: &Trip) -> Result<(), NoMemory> {
+fn add_trip(lines: &mut Lines, trip: &Trip) {
     let mut join = ", trip ";
     for slot in &trip.comparisons {
         if let Some(comparison) = slot {
-            text.push(join)?;
-            add_comparison(text, comparison)?;
+            lines.add(join);
+            add_comparison(lines, comparison);
             join = join_text(trip.join);
         }
     }
-    text.push("\n")
+    lines.add("\n");
 }
 
-fn add_breaker(text: &mut Text, policy: &BreakerPolicy) -> Result<(), NoMemory> {
-    add_number(text, "requests ", policy.max_requests as u64)?;
-    add_number(text, ", interval ", policy.interval_ms)?;
-    add_number(text, ", timeout ", policy.timeout_ms)?;
-    add_trip(text, &policy.trip)
+fn add_breaker(lines: &mut Lines, policy: &BreakerPolicy) {
+    lines.add_number("requests ", policy.max_requests as u64);
+    lines.add_number(", interval ", policy.interval_ms);
+    lines.add_number(", timeout ", policy.timeout_ms);
+    add_trip(lines, &policy.trip);
 }
 
 /// The breakers, in their order: a line for each.
 pub(crate) fn breakers_text(alloc: Global, breakers: &BreakerPolicies) -> Result<Text, NoMemory> {
-    let mut text = Text::new(alloc);
+    let mut lines = Lines::new(alloc);
     for place in 0..breakers.len() {
-        add_breaker(&mut text, breakers.at(place))?;
+        add_breaker(&mut lines, breakers.at(place));
     }
-    Ok(text)
+    lines.done()
 }
