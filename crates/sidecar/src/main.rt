@@ -1,24 +1,38 @@
 //! The program: makes the real devices, runs the command that its words ask for, and ends with its status.
 #![tactic(auto)]
 
-use net_edge::{StdSink, StdSource};
+use net_edge::{HostClock, HostFiles, HostOutside, NoLink, StdSink, StdSource};
 use side_base::{NoMemory, Text};
-use sidecar_cli::{Status, World, sidecar_main};
+use side_world::Sink;
+use sidecar_cli::{Device, Status, World, sidecar_main};
 use std::env;
 use std::io::ErrorKind;
 use std::process::ExitCode;
 use std::rt::Env;
 
 fn main(rt: HostRuntime) -> ExitCode {
+    let mut note = StdSink::new(rt.stderr());
+    let (Ok(clock), Ok(outside)) = (HostClock::new(rt), HostOutside::new(rt)) else {
+        return end(Status::OutsideFailed(Device::Outside), &mut note);
+    };
+    let Ok(words) = words(&rt) else {
+        return end(Status::NoMemory, &mut note);
+    };
     let mut world = World {
         source: StdSource::new(rt.stdin()),
         sink: StdSink::new(rt.stdout()),
-        note: StdSink::new(rt.stderr()),
+        note,
+        files: HostFiles::new(rt),
+        link: NoLink::new(),
+        clock,
+        outside,
     };
-    let status = match words(&rt) {
-        Ok(words) => sidecar_main(rt.alloc(), &words, &mut world),
-        Err(NoMemory) => Status::NoMemory.tell(&mut world.note),
-    };
+    ExitCode::from(sidecar_main(&rt, rt.alloc(), &words, &mut world).code())
+}
+
+/// Ends a run that didn't begin.
+fn end<E: Sink>(status: Status, note: &mut E) -> ExitCode {
+    status.tell(note);
     ExitCode::from(status.code())
 }
 

@@ -1,3 +1,2 @@
-pub mod Answering
-mod PlainLemmas
-pub mod ThreeWords
+mod Counted
+mod Fitting

@@ -1,10 +1,7 @@
-pub mod Command
-pub mod Front
+pub mod Check
+pub mod Configured
 pub mod Note
-pub mod Output
-pub mod Plain
-pub mod PlainReading
-pub mod Response
+pub mod Play
 pub mod Run
 pub mod Status
-pub mod Words
+pub mod World

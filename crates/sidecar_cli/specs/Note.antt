@@ -1,8 +1,9 @@
 -- What the note gets.
-use Rattle.std.specs.Prelude.{◌⊎◌, ℕ, List, Option}
+use Rattle.std.specs.Prelude.{◌≡◌, ◌⊎◌, ℕ, List}
 use Rattle.side_world.specs.Faults.{Rose}
-use Rattle.side_world.specs.Told.{Told, SentSome}
+use Rattle.side_world.specs.Told.{Told}
+use Rattle.conn_serve.specs.Ends.{SinkAt}
 
--- a text was written, or a prefix of it at a fault
-abbrev pub Noted : ℕ → ℕ → Option (List ℕ) → Option (List ℕ) → List ℕ → Type 0
-Noted faults faults_after before after text = Told before after text ⊎ (Rose faults faults_after × SentSome before after text)
+-- a text was written, unless the note failed
+abbrev pub IsNoted : SinkAt → SinkAt → List ℕ → Type 0
+IsNoted note note' text = (Told note.contents note'.contents text × (note'.faults ≡ note.faults)) ⊎ Rose note.faults note'.faults

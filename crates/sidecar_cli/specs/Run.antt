@@ -1,29 +1,28 @@
--- A run on standard input: what was read, and what goes out for it.
-use Rattle.std.specs.Prelude.{◌≡◌, ◌⊎◌, ◌<◌, ◌≤◌, ℕ, Bool, true, List, length, Option}
-use Rattle.sidecar_cli.specs.Plain.{IsPlain, HasNoPlain}
-use Rattle.sidecar_cli.specs.declared.plain.PlainRequest.{PlainRequest}
-use Rattle.side_world.specs.Told.{Took, IsDrained}
-use Rattle.sidecar_cli.specs.declared.run.TheConstants.{INPUT_LIMIT}
-use Rattle.sidecar_cli.specs.Output.{IsOutputOf}
-use Rattle.sidecar_cli.specs.Words.{Asks}
+-- A run: what the words mean, and what is done for it.
+use Rattle.std.specs.Prelude.{◌≡◌, ℕ, List}
+use Rattle.side_world.specs.declared.disk.Disk.{Ghosts as Keeps}
+use Rattle.rand_core.specs.Stream.{Stream}
+use Rattle.keeper_core.specs.declared.keeper.Keeper.{Ghosts}
+use Rattle.keeper_journal.specs.declared.any_keeper.AnyKeeper.{AnyKeeper}
+use Rattle.state_core.specs.declared.store.Store.{Store}
+use Rattle.sidecar_core.specs.Did.{Kinds}
+use Rattle.sidecar_words.specs.declared.given.Words.{Words}
+use Rattle.sidecar_words.specs.declared.given.Mode.TheVariants as mode
+use Rattle.sidecar_words.specs.Meaning.{Means}
+use Rattle.sidecar_cli.specs.Check.{IsCheck}
+use Rattle.sidecar_cli.specs.Play.{IsPlay}
+use Rattle.sidecar_cli.specs.World.{WorldAt}
+use Rattle.sidecar_cli.specs.declared.status.Status.{Status}
+use Rattle.sidecar_cli.specs.declared.status.Status.TheVariants.{Usage, NoMemory}
 
--- these bytes were taken from the source, and it has ended, where they are no more than an input may have
-pub record IsInput (left after : Option (List ℕ)) (has_ended : Bool) (bytes : List ℕ) : Type 0 where
-  pub taken : Took left after bytes
-  pub ended : length bytes ≤ INPUT_LIMIT → has_ended ≡ true
-  pub drained : length bytes ≤ INPUT_LIMIT → IsDrained after
+-- what words that mean this come to; serving isn't built yet, so that words without a mode are refused
+pub data IsCommand {D : Type 0} (disking : Keeps D) (keeping : Ghosts (AnyKeeper D disking)) (kinds : Kinds (Store (AnyKeeper D disking) keeping)) (words_of : ℕ → Stream) (given : Words) (world world' : WorldAt) (status : Status) : Type 0 where
+  played : given.mode ≡ mode.Stdio → IsPlay disking keeping kinds words_of given world world' status → IsCommand disking keeping kinds words_of given world world' status
+  checked : given.mode ≡ mode.Check → IsCheck given world world' status → IsCommand disking keeping kinds words_of given world world' status
+  refused : given.mode ≡ mode.Serve → status ≡ Usage → world' ≡ world → IsCommand disking keeping kinds words_of given world world' status
 
--- the bytes are an input, and these are the responses to its requests
-pub record IsAnswer (app bytes out : List ℕ) : Type 0 where
-  pub requests : List PlainRequest
-  pub within : length bytes ≤ INPUT_LIMIT
-  pub plain : IsPlain bytes requests
-  pub answered : IsOutputOf app requests out
-
--- the same under the app id of the words
-abbrev pub IsOutput : List (List ℕ) → List ℕ → List ℕ → Type 0
-IsOutput words bytes out = (app : List ℕ) × Asks words app × IsAnswer app bytes out
-
--- the bytes are more than an input may have, or no requests that are read so far
-abbrev pub IsBadInput : List ℕ → Type 0
-IsBadInput bytes = (INPUT_LIMIT < length bytes) ⊎ HasNoPlain bytes
+-- words that mean nothing are refused, and nothing is touched; nor is anything where there is no memory to read them
+pub data IsRun {D : Type 0} (disking : Keeps D) (keeping : Ghosts (AnyKeeper D disking)) (kinds : Kinds (Store (AnyKeeper D disking) keeping)) (words_of : ℕ → Stream) (words : List (List ℕ)) (world world' : WorldAt) (status : Status) : Type 0 where
+  meant : (given : Words) → Means words given → IsCommand disking keeping kinds words_of given world world' status → IsRun disking keeping kinds words_of words world world' status
+  meaningless : ((given : Words) → ¬ Means words given) → status ≡ Usage → world' ≡ world → IsRun disking keeping kinds words_of words world world' status
+  lacks : status ≡ NoMemory → world' ≡ world → IsRun disking keeping kinds words_of words world world' status

@@ -1,25 +1,55 @@
--- The exit status and the note of each end.
-use Rattle.std.specs.Prelude.{ℕ, List, [], codes}
+-- How a run ends: the exit status, and the line that the note gets.
+use Rattle.std.specs.Prelude.{ℕ, List, [], ◌∷◌, ◌++◌, codes, decimal}
+use Rattle.conn_serve.specs.declared.ended.Ended.{Ended}
+use Rattle.conn_serve.specs.declared.ended.Ended.TheVariants as ends
+use Rattle.http_frames.specs.Refusals.{refused_name}
 use Rattle.sidecar_cli.specs.declared.status.Status.{Status}
-use Rattle.sidecar_cli.specs.declared.status.Status.TheVariants.{Ok, BadInput, Usage, OutsideFailed, NoMemory}
+use Rattle.sidecar_cli.specs.declared.status.Status.TheVariants.{Ok, BadInput, Usage, BadResources, OutsideFailed, NoMemory, Limit, Spent}
+use Rattle.sidecar_cli.specs.declared.status.Input.TheVariants.{Cut, Refused}
 use Rattle.sidecar_cli.specs.declared.status.Device.{Device}
-use Rattle.sidecar_cli.specs.declared.status.Device.TheVariants.{Source, Sink}
+use Rattle.sidecar_cli.specs.declared.status.Device.TheVariants.{Source, Sink, Files, Disk, Outside}
 
 abbrev pub code_of : Status → ℕ
 code_of Ok = 0
-code_of BadInput = 1
+code_of (BadInput input) = 1
 code_of Usage = 2
+code_of (BadResources text) = 3
 code_of (OutsideFailed device) = 4
 code_of NoMemory = 5
+code_of Limit = 6
+code_of (Spent count) = 7
 
 abbrev pub name_of : Device → List ℕ
 name_of Source = codes "source"
 name_of Sink = codes "sink"
+name_of Files = codes "files"
+name_of Disk = codes "disk"
+name_of Outside = codes "outside"
+
+-- a line of two parts, with its end
+abbrev pub line_of : List ℕ → List ℕ → List ℕ
+line_of front rest = front ++ (rest ++ 10 ∷ [])
 
 abbrev pub text_of : Status → List ℕ
 text_of Ok = []
-text_of BadInput = codes "input: NotYet\n"
-text_of Usage = codes "usage\n"
-text_of (OutsideFailed Source) = codes "outside: source\n"
-text_of (OutsideFailed Sink) = codes "outside: sink\n"
-text_of NoMemory = codes "no memory\n"
+text_of (BadInput Cut) = line_of (codes "input: ") (codes "cut")
+text_of (BadInput (Refused why)) = line_of (codes "input: ") (refused_name why)
+text_of Usage = line_of [] (codes "usage")
+text_of (BadResources text) = line_of (codes "resources: ") text
+text_of (OutsideFailed device) = line_of (codes "outside: ") (name_of device)
+text_of NoMemory = line_of [] (codes "no memory")
+text_of Limit = line_of [] (codes "limit")
+text_of (Spent count) = line_of (codes "spent ") (decimal count)
+
+-- how a run ends whose one connection ended so
+abbrev pub status_of : Ended → Status
+status_of ends.Done = Ok
+status_of ends.Closed = Ok
+status_of ends.Asked = Ok
+status_of ends.ClosedByPeer = BadInput Cut
+status_of (ends.Refused why) = BadInput (Refused why)
+status_of ends.Limit = Limit
+status_of (ends.Spent count) = Spent count
+status_of ends.SourceFailed = OutsideFailed Source
+status_of ends.SinkFailed = OutsideFailed Sink
+status_of ends.NoMemory = NoMemory

@@ -1,20 +1,18 @@
-//! The top call: from the words of the command line and the bytes that come in to the bytes that go out, and a status.
+//! The program: its words become a command, which is run over the world that is given to it.
+//!
+//! - `world` is all that a run has of the outside, and `status` how it ends, with the line that the note gets.
+//! - `running` runs the command: `configuring` reads what is configured, `checking` says how much that is, and `playing` answers the requests
+//!   of one connection over the objects that `starting` made.
 #![tactic(auto)]
 
-mod answers;
-mod command;
-mod front;
-mod plain;
-mod response;
-mod run;
+mod checking;
+mod configuring;
+mod playing;
+mod running;
+mod starting;
 mod status;
-mod words;
 mod world;
 
-pub use answers::STORE_LIMIT;
-pub use run::{INPUT_LIMIT, sidecar_main};
-pub use status::{Device, Status};
+pub use running::sidecar_main;
+pub use status::{Device, Input, Status};
 pub use world::World;
-
-#[cfg(test)]
-mod tests;

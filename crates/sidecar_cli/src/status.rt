@@ -1,65 +1,132 @@
-ghost use Rattle.std.specs.Prelude.{◌≡◌};
-ghost use Rattle.sidecar_cli.specs.Status.{code_of, text_of};
-ghost use Rattle.sidecar_cli.specs.Note.{Noted};
+ghost use Rattle.std.specs.Prelude.{◌≡◌, ◌≤◌, ◌++◌, ◌∷◌, [], OnOk, OnErr, codes};
+ghost use Rattle.conn_serve.specs.Ends.{sink_at};
+ghost use Rattle.side_world.specs.Faults.{Rose};
+ghost use Rattle.side_world.specs.Told.{Told};
+ghost use Rattle.sidecar_cli.specs.Status.{code_of, name_of, text_of, status_of};
+ghost use Rattle.sidecar_cli.specs.Note.{IsNoted};
 
-use side_world::{Sink, send};
+use conn_serve::Ended;
+use http_frames::FrameErr;
+use itoa::Buffer;
+use side_base::Blob;
+use side_world::{Failed, Sink, send};
 
-/// A device of the outside that can fail.
+/// Why the input of a run on standard input is bad.
+#[derive(Clone, Copy, Debug, PartialEq, Eq)]
+pub enum Input {
+    /// It ends inside a request.
+    Cut,
+    /// A request is refused, and was answered so.
+    Refused(FrameErr),
+}
+
+/// A part of the outside that can fail.
 #[derive(Clone, Copy, Debug, PartialEq, Eq)]
 pub enum Device {
     Source,
     Sink,
+    Files,
+    Disk,
+    Outside,
 }
 
 /// How a run ended.
-#[derive(Clone, Copy, Debug, PartialEq, Eq)]
+#[derive(Debug, Drop)]
 pub enum Status {
-    /// 0: every request was answered, or those up to the first that closes the connection.
+    /// 0: the input ended between two requests, or the last request that was answered closed the connection or asked for the end; or a
+    /// check is done.
     Ok,
-    /// 1: the input is not a list of requests that are read so far; nothing was answered.
-    BadInput,
+    /// 1: the input is bad.
+    BadInput(Input),
     /// 2: the words of the command line are refused; nothing was read.
     Usage,
-    /// 4: the count of faults of this device rose.
+    /// 3: a resource file or a journal is refused: which one, and why.
+    BadResources { text: Blob },
+    /// 4: the count of faults of this part of the outside rose.
     OutsideFailed(Device),
-    /// 5: there was no memory; nothing was answered.
+    /// 5: there was no memory.
     NoMemory,
+    /// 6: the last request that a connection may have, the 100,000th, was answered.
+    Limit,
+    /// 7: a cell has no ticket left; `count` was read in it.
+    Spent { count: u64 },
 }
 
 impl Status {
     /// The exit status of the process.
-    pub fn code(self) -> u8
-        ensures { result ≡ code_of self }
+    pub fn code(&self) -> u8
+        ensures { result ≡ code_of self.now }
     {
         match self {
             Status::Ok => 0,
-            Status::BadInput => 1,
+            Status::BadInput(_) => 1,
             Status::Usage => 2,
+            Status::BadResources { .. } => 3,
             Status::OutsideFailed(_) => 4,
             Status::NoMemory => 5,
+            Status::Limit => 6,
+            Status::Spent { .. } => 7,
         }
     }
 
-    /// The line for the note, its line end included; empty for `Ok`.
-    pub fn text(self) -> &'static [u8]
-        ensures { result.now ≡ text_of self }
+    /// Writes the line of the status to the note, if it has one. Faults of the note change nothing.
+    pub fn tell<E: Sink>(&self, note: &mut E)
+        ensures { IsNoted (sink_at E.Sink note.old) (sink_at E.Sink note.new) (text_of self.now) }
     {
-        match self {
-            Status::Ok => b"",
-            Status::BadInput => b"input: NotYet\n",
-            Status::Usage => b"usage\n",
-            Status::OutsideFailed(Device::Source) => b"outside: source\n",
-            Status::OutsideFailed(Device::Sink) => b"outside: sink\n",
-            Status::NoMemory => b"no memory\n",
-        }
+        let _ = match self {
+            Status::Ok => Ok(()),
+            Status::BadInput(Input::Cut) => line(note, b"input: ", b"cut"),
+            Status::BadInput(Input::Refused(why)) => line(note, b"input: ", why.name().as_bytes()),
+            Status::Usage => line(note, b"", b"usage"),
+            Status::BadResources { text } => line(note, b"resources: ", text.bytes()),
+            Status::OutsideFailed(device) => line(note, b"outside: ", name_of(*device)),
+            Status::NoMemory => line(note, b"", b"no memory"),
+            Status::Limit => line(note, b"", b"limit"),
+            Status::Spent { count } => line(
+                note,
+                b"spent ",
+                Buffer::new().format(*count).as_bytes(),
+            ),
+        };
     }
+}
 
-    /// Writes the line to the note, whose faults change nothing, and gives the status back.
-    pub fn tell<E: Sink>(self, note: &mut E) -> Status
-        ensures same { result ≡ self }
-        ensures note { Noted (E.faults note.old) (E.faults note.new) (E.contents note.old) (E.contents note.new) (text_of self) }
-    {
-        let _ = send(note, self.text());
-        self
+/// The name of a part of the outside.
+fn name_of(device: Device) -> &'static [u8]
+    ensures { result.now ≡ name_of device }
+{
+    match device {
+        Device::Source => b"source",
+        Device::Sink => b"sink",
+        Device::Files => b"files",
+        Device::Disk => b"disk",
+        Device::Outside => b"outside",
+    }
+}
+
+/// Writes a line of two parts.
+fn line<E: Sink>(note: &mut E, front: &[u8], rest: &[u8]) -> Result<(), Failed>
+    ensures all { OnOk result (Told (E.contents note.old) (E.contents note.new) (front.now ++ (rest.now ++ 10 ∷ []))) }
+    ensures no_fault { OnOk result (E.faults note.new ≡ E.faults note.old) }
+    ensures failed { OnErr result (Rose (E.faults note.old) (E.faults note.new)) }
+{
+    send(note, front)?;
+    send(note, rest)?;
+    send(note, b"\n")
+}
+
+/// How a run ended whose one connection ended so.
+pub(crate) fn status_of(ended: Ended) -> Status
+    ensures { result ≡ status_of ended }
+{
+    match ended {
+        Ended::Done | Ended::Closed | Ended::Asked => Status::Ok,
+        Ended::ClosedByPeer => Status::BadInput(Input::Cut),
+        Ended::Refused(why) => Status::BadInput(Input::Refused(why)),
+        Ended::Limit => Status::Limit,
+        Ended::Spent { count } => Status::Spent { count },
+        Ended::SourceFailed => Status::OutsideFailed(Device::Source),
+        Ended::SinkFailed => Status::OutsideFailed(Device::Sink),
+        Ended::NoMemory => Status::NoMemory,
     }
 }

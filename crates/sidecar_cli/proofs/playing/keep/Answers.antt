@@ -1,0 +1,28 @@
+use Rattle.std.proofs.Common.{refl}
+use Rattle.sidecar_cli.specs.Play.{down, up}
+use Rattle.sidecar_cli.proofs.Fitting.{session_of}
+use Rattle.sidecar_cli.proofs.playing.keep.Goals as goal
+
+pub session-requires-clause-pass : goal.session-requires-clause-pass
+session-requires-clause-pass g c κs within = c.in-Ok.ensures.pass
+
+pub session-requires-clause-lone : goal.session-requires-clause-lone
+session-requires-clause-lone g c κs within = c.in-Ok.ensures.lone
+
+pub session-requires-clause-room : goal.session-requires-clause-room
+session-requires-clause-room g c κs within = c.in-Ok.ensures.room
+
+pub session-requires-clause-fit : goal.session-requires-clause-fit
+session-requires-clause-fit g c κs within = c.in-Ok.ensures.fit
+
+pub returns-in-Ok-clause-kept : goal.returns-in-Ok-clause-kept
+returns-in-Ok-clause-kept g c = up c.in-Ok.up.shared.objects c.in-Ok.up.pass _ c.in-Ok.ensures.up refl (session_of c.in-Ok.ensures.same c.session.ensures.session)
+
+pub returns-in-Ok-clause-note : goal.returns-in-Ok-clause-note
+returns-in-Ok-clause-note g c = c.session.ensures.note
+
+pub returns-in-Err-clause-kept : goal.returns-in-Err-clause-kept
+returns-in-Err-clause-kept g c = down c.in-Err.ensures.down refl
+
+pub returns-in-Err-clause-note : goal.returns-in-Err-clause-note
+returns-in-Err-clause-note g c = refl

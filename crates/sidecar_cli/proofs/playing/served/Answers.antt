@@ -1,0 +1,5 @@
+use Rattle.std.proofs.Common.{refl}
+use Rattle.sidecar_cli.proofs.playing.served.Goals as goal
+
+pub returns-clause-served : goal.returns-clause-served
+returns-clause-served g c = record { rest = g.R.Rng.stream c.serve_connection.new.rng; served = c.serve_connection.ensures.served; files = refl; outside = refl }

@@ -1,0 +1,29 @@
+-- What is configured: by the resource files of a folder, or without one.
+use Rattle.std.specs.Prelude.{◌≡◌, ◌⊎◌, ℕ, List, ◌++◌, Option, Some, None, Result, Ok, Err, codes}
+use Rattle.resource_files.specs.declared.resources.Resources.{Resources}
+use Rattle.resource_files.specs.declared.resources.ResourcesErr.{ResourcesErr}
+use Rattle.resource_files.specs.declared.resources.ResourcesErr.TheVariants as fault
+use Rattle.resource_files.specs.Added.{nothing_said, Adds}
+use Rattle.resource_files.specs.Read.{IsReadFrom}
+use Rattle.resource_files.specs.Refusals.{told_as}
+use Rattle.resource_files.specs.Usual.{usual_file}
+use Rattle.sidecar_cli.specs.World.{FilesAt}
+use Rattle.sidecar_cli.specs.declared.status.Status.{Status}
+use Rattle.sidecar_cli.specs.declared.status.Status.TheVariants.{BadResources, OutsideFailed, NoMemory}
+use Rattle.sidecar_cli.specs.declared.status.Device.TheVariants.{Files}
+
+-- without a folder no file is read, and a store and a broker in memory are there
+abbrev pub IsUsual : List ℕ → Result Resources ResourcesErr → Type 0
+IsUsual app (Ok resources) = Adds app usual_file nothing_said resources
+IsUsual app (Err e) = e ≡ fault.NoMemory
+
+-- the resources for an app, with what was read for them
+abbrev pub IsConfigured : Option (List ℕ) → List ℕ → FilesAt → FilesAt → Result Resources ResourcesErr → Type 0
+IsConfigured None app files files' result = (files' ≡ files) × IsUsual app result
+IsConfigured (Some folder) app files files' result = (files'.folders ≡ files.folders) × IsReadFrom files.folders files.calls files'.calls files.faults files'.faults folder app result
+
+-- how a run ends that has no resources: the file and its refusal are told, where there is memory for it
+abbrev pub Says : ResourcesErr → Status → Type 0
+Says (fault.Refused file refusal) status = (status ≡ BadResources (file ++ (codes ": " ++ told_as refusal))) ⊎ (status ≡ NoMemory)
+Says fault.Failed status = status ≡ OutsideFailed Files
+Says fault.NoMemory status = status ≡ NoMemory

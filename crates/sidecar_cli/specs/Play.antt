@@ -1,0 +1,113 @@
+-- A run on standard input: the random numbers, the resources, the keepers, the start, and one session.
+use Rattle.std.specs.Prelude.{◌≡◌, ℕ, List, [], ◌∷◌, ◌++◌, ◌⊎◌, map, length, Ok, Err, codes, decimal}
+use Rattle.side_world.specs.declared.disk.Disk.{Ghosts as Keeps}
+use Rattle.side_world.specs.Faults.{RoseWith}
+use Rattle.side_world.specs.Told.{Tells}
+use Rattle.rand_core.specs.Stream.{Stream}
+use Rattle.keeper_core.specs.declared.keeper.Keeper.{Ghosts}
+use Rattle.keeper_journal.specs.declared.any_keeper.AnyKeeper.{AnyKeeper}
+use Rattle.turn_pass.specs.Pass.{AreClosed}
+use Rattle.state_core.specs.declared.store.Store.{Store}
+use Rattle.state_core.specs.Store.{keeper_of}
+use Rattle.conn_serve.specs.declared.ended.Ended.{Ended}
+use Rattle.conn_serve.specs.Served.{Served}
+use Rattle.resource_files.specs.declared.resources.Resources.{Resources}
+use Rattle.resource_files.specs.declared.resources.ResourcesErr.{ResourcesErr}
+use Rattle.sidecar_keepers.specs.declared.starting.KeepersErr.{KeepersErr}
+use Rattle.sidecar_keepers.specs.declared.starting.KeepersErr.TheVariants as lack
+use Rattle.sidecar_keepers.specs.Stores.{stores_of, takes_of}
+use Rattle.sidecar_keepers.specs.Made.{AreMade}
+use Rattle.sidecar_keepers.specs.Given.{AreBack, faults_on_disks}
+use Rattle.sidecar_keepers.specs.Refused.{Counts, IsRefused}
+use Rattle.sidecar_core.specs.declared.config.Config.{Config}
+use Rattle.sidecar_core.specs.declared.objects.Objects.{Objects}
+use Rattle.sidecar_core.specs.declared.objects.Pass.{Pass}
+use Rattle.sidecar_core.specs.Did.{Kinds, Shows, Standing, Went}
+use Rattle.sidecar_core.specs.Exchange.{Exchange}
+use Rattle.sidecar_core.specs.Pass.{cells_of, seats_of}
+use Rattle.sidecar_core.specs.Started.{IsStarted}
+use Rattle.sidecar_words.specs.declared.given.Words.{Words}
+use Rattle.sidecar_cli.specs.Configured.{IsConfigured, Says}
+use Rattle.sidecar_cli.specs.Status.{status_of}
+use Rattle.sidecar_cli.specs.World.{OutsideAt, WorldAt}
+use Rattle.sidecar_cli.specs.declared.status.Status.{Status}
+use Rattle.sidecar_cli.specs.declared.status.Status.TheVariants as ends
+use Rattle.sidecar_cli.specs.declared.status.Device.TheVariants.{Disk, Outside}
+
+-- how a run ends that has no keepers: the component and the place in its journal are told, where there is memory for it
+abbrev pub SaysOfKeepers : KeepersErr → Status → Type 0
+SaysOfKeepers (lack.NotAJournal component at) status = (status ≡ ends.BadResources (component ++ (codes ": " ++ (codes "NotAJournal at " ++ decimal at)))) ⊎ (status ≡ ends.NoMemory)
+SaysOfKeepers lack.OutsideFailed status = status ≡ ends.OutsideFailed Outside
+SaysOfKeepers lack.DiskFailed status = status ≡ ends.OutsideFailed Disk
+SaysOfKeepers lack.NoMemory status = status ≡ ends.NoMemory
+
+-- a keeper was made for each store, each disk taken once
+pub record AreKept {D : Type 0} (disking : Keeps D) (config : Config) (keepers : List (AnyKeeper D disking)) (outside outside' : OutsideAt) : Type 0 where
+  pub made : AreMade disking (stores_of config.components) keepers outside.disks outside'.disks
+  pub takes : Tells outside.calls outside'.calls (takes_of config.components)
+  pub no_fault : outside'.faults ≡ outside.faults
+  pub numbers : outside'.numbers ≡ outside.numbers
+
+-- the objects were started over a keeper for each store
+pub record IsUp {D : Type 0} (disking : Keeps D) (keeping : Ghosts (AnyKeeper D disking)) (config : Config) (outside outside' : OutsideAt) (objects : Objects (AnyKeeper D disking) keeping) (pass : Pass (AnyKeeper D disking) keeping) : Type 0 where
+  pub keepers : List (AnyKeeper D disking)
+  pub kept : AreKept disking config keepers outside outside'
+  pub started : IsStarted config keepers config objects pass
+
+-- a keeper was refused; or there was a keeper for each store, and no memory for the objects
+pub data IsDown {D : Type 0} (disking : Keeps D) (config : Config) (outside outside' : OutsideAt) (status : Status) : Type 0 where
+  refused : (e : KeepersErr) → IsRefused disking config.components e outside.disks outside'.disks outside.calls outside'.calls → Counts e outside.faults outside'.faults → outside'.numbers ≡ outside.numbers → SaysOfKeepers e status → IsDown disking config outside outside' status
+  lacks : (keepers : List (AnyKeeper D disking)) → AreKept disking config keepers outside outside' → status ≡ ends.NoMemory → IsDown disking config outside outside' status
+
+module _ {D : Type 0} (disking : Keeps D) (keeping : Ghosts (AnyKeeper D disking)) (kinds : Kinds (Store (AnyKeeper D disking) keeping)) where
+  -- what a pass and all that it works with show
+  abbrev pub standing_at : Pass (AnyKeeper D disking) keeping → WorldAt → Stream → Standing (Store (AnyKeeper D disking) keeping)
+  standing_at pass world words = record { seats = seats_of pass; clock = world.clock; calls = world.link; words = words }
+
+  -- one session over these objects was served by this pass, with random words from here on; files and the outside were not asked
+  pub record IsServed (config : Config) (objects : Objects (AnyKeeper D disking) keeping) (pass after : Pass (AnyKeeper D disking) keeping) (words : Stream) (world world' : WorldAt) (ended : Ended) : Type 0 where
+    pub rest : Stream
+    pub served : Served (Exchange config) (λ events. Went kinds (cells_of objects) (standing_at pass world words) events (standing_at after world' rest)) (Shows (seats_of after)) world.source world'.source world.sink world'.sink ended
+    pub files : world'.files ≡ world.files
+    pub outside : world'.outside ≡ world.outside
+
+  -- the cells were closed by this pass, and the disks of the stores' keepers went back
+  pub record IsClosed (config : Config) (objects : Objects (AnyKeeper D disking) keeping) (pass : Pass (AnyKeeper D disking) keeping) (outside outside' : OutsideAt) : Type 0 where
+    pub stores : List (Store (AnyKeeper D disking) keeping)
+    pub closed : AreClosed kinds.store.stands objects.stores.items pass.stores.items stores
+    pub back : AreBack disking (stores_of config.components) (map keeper_of stores) outside.disks outside'.disks
+    pub faults : RoseWith (faults_on_disks disking (map keeper_of stores)) outside.faults outside'.faults
+    pub calls : outside'.calls ≡ outside.calls
+    pub numbers : outside'.numbers ≡ outside.numbers
+
+  -- One session over objects that were just started, by their pass; then the cells were closed, and the disks went back
+  pub record IsSession (config : Config) (objects : Objects (AnyKeeper D disking) keeping) (pass : Pass (AnyKeeper D disking) keeping) (words : Stream) (world world' : WorldAt) (status : Status) : Type 0 where
+    pub after : Pass (AnyKeeper D disking) keeping
+    pub between : WorldAt
+    pub ended : Ended
+    pub served : IsServed config objects pass after words world between ended
+    pub closed : IsClosed config objects after between.outside world'.outside
+    pub rest : world' ≡ record between { outside = world'.outside }
+    pub ends : status ≡ status_of ended
+
+  -- all objects were started, and then the session was played; or they were not, and nothing was read
+  pub data IsKept (config : Config) (words : Stream) (world world' : WorldAt) (status : Status) : Type 0 where
+    down : IsDown disking config world.outside world'.outside status → world' ≡ record world { outside = world'.outside } → IsKept config words world world' status
+    up : (objects : Objects (AnyKeeper D disking) keeping) (pass : Pass (AnyKeeper D disking) keeping) (between : WorldAt) → IsUp disking keeping config world.outside between.outside objects pass → between ≡ record world { outside = between.outside }
+        → IsSession config objects pass words between world' status → IsKept config words world world' status
+
+  -- the resources were read, and then all objects were started; or they were refused, and nothing else was done
+  pub data IsBegun (given : Words) (words : Stream) (world world' : WorldAt) (status : Status) : Type 0 where
+    refused : (e : ResourcesErr) → IsConfigured given.resources given.app world.files world'.files (Err e) → Says e status → world' ≡ record world { files = world'.files } → IsBegun given words world world' status
+    read : (resources : Resources) (between : WorldAt) → IsConfigured given.resources given.app world.files between.files (Ok resources) → between ≡ record world { files = between.files }
+        → IsKept (record { app = given.app; components = resources.components; policies = resources.policies }) words between world' status → IsBegun given words world world' status
+
+  -- three numbers were asked for: that of the random words, and two for the secret bytes
+  pub record IsPlay (words_of : ℕ → Stream) (given : Words) (world world' : WorldAt) (status : Status) : Type 0 where
+    pub seed : ℕ
+    pub one : ℕ
+    pub other : ℕ
+    pub between : WorldAt
+    pub asked : Tells world.outside.numbers between.outside.numbers (seed ∷ one ∷ other ∷ [])
+    pub only : between ≡ record world { outside = record world.outside { numbers = between.outside.numbers } }
+    pub begun : IsBegun given (words_of seed) between world' status

@@ -1,0 +1,51 @@
+-- What a run has of the outside, as it shows it.
+use Rattle.std.specs.Prelude.{ℕ, List, Option}
+use Rattle.side_world.specs.declared.source.Source.{Ghosts as Gives}
+use Rattle.side_world.specs.declared.sink.Sink.{Ghosts as Takes}
+use Rattle.side_world.specs.declared.files.Files.{Ghosts as Holds}
+use Rattle.side_world.specs.declared.files.FilesCall.{FilesCall}
+use Rattle.side_world.specs.declared.link.Link.{Ghosts as Asks}
+use Rattle.side_world.specs.declared.link.LinkCall.{LinkCall}
+use Rattle.side_world.specs.declared.clock.Clock.{Ghosts as Times}
+use Rattle.side_world.specs.declared.outside.OutsideCall.{OutsideCall}
+use Rattle.side_world.specs.Files.{Folders}
+use Rattle.side_world.specs.Outside.{Disks}
+use Rattle.policy_run.specs.Effects.{Clocked, clocked}
+use Rattle.conn_serve.specs.Ends.{SourceAt, SinkAt, source_at, sink_at}
+use Rattle.sidecar_cli.specs.declared.world.World.{World}
+
+-- the folders that are there, the calls on them, where they are told, and how often one failed
+pub record FilesAt : Type 0 where
+  pub folders : Option Folders
+  pub calls : Option (List FilesCall)
+  pub faults : ℕ
+
+abbrev pub files_at : {F : Type 0} → Holds F → F → FilesAt
+files_at holds files = record { folders = holds.folders files; calls = holds.calls files; faults = holds.faults files }
+
+-- the disks that are there and not taken, the calls that took some and the numbers that were given, where they are told, and how often it
+-- failed
+pub record OutsideAt : Type 0 where
+  pub disks : Option Disks
+  pub calls : Option (List OutsideCall)
+  pub numbers : Option (List ℕ)
+  pub faults : ℕ
+
+-- all but the note
+pub record WorldAt : Type 0 where
+  pub source : SourceAt
+  pub sink : SinkAt
+  pub files : FilesAt
+  pub link : Option (List LinkCall)
+  pub clock : Clocked
+  pub outside : OutsideAt
+
+abbrev pub world_at : {S N E F L C O : Type 0} → Gives S → Takes N → Holds F → Asks L → Times C → (O → OutsideAt) → World S N E F L C O → WorldAt
+world_at gives takes holds asks times lends world = record {
+  source = source_at gives world.source;
+  sink = sink_at takes world.sink;
+  files = files_at holds world.files;
+  link = asks.calls world.link;
+  clock = clocked times world.clock;
+  outside = lends world.outside;
+}

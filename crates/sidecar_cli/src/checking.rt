@@ -1,0 +1,50 @@
+ghost use Rattle.std.specs.Prelude.{◌≡◌, IfOk, length};
+ghost use Rattle.conn_serve.specs.Ends.{sink_at};
+ghost use Rattle.sidecar_cli.specs.Check.{check_line, IsCheck, IsCounted};
+ghost use Rattle.sidecar_cli.specs.World.{world_at};
+
+use crate::configuring::{configured, without_resources};
+use crate::{Device, Status, World};
+use itoa::Buffer;
+use side_base::{Blob, NoMemory};
+use side_world::{Clock, Failed, Files, Link, Outside, Sink, Source, send};
+use sidecar_words::Words;
+use std::alloc::Global;
+
+/// Reads the resources, and says how many there are.
+pub(crate) fn check<S: Source, N: Sink, E: Sink, F: Files, L: Link, C: Clock, O: Outside>(
+    alloc: Global,
+    given: &Words,
+    world: &mut World<S, N, E, F, L, C, O>,
+) -> Status
+    ensures checked { IsCheck given.now (world_at S.Source N.Sink F.Files L.Link C.Clock (λ o. record { disks = O.disks o; calls = O.calls o; numbers = O.numbers o; faults = O.faults o }) world.old) (world_at S.Source N.Sink F.Files L.Link C.Clock (λ o. record { disks = O.disks o; calls = O.calls o; numbers = O.numbers o; faults = O.faults o }) world.new) result }
+    ensures note { world.new.note ≡ world.old.note }
+{
+    match configured(alloc, &mut world.files, &given.resources, &given.app) {
+        Ok(resources) => tell(alloc, resources.components.len(), &mut world.sink),
+        Err(error) => without_resources(alloc, error),
+    }
+}
+
+/// Says how many components there are.
+fn tell<N: Sink>(alloc: Global, components: usize, sink: &mut N) -> Status
+    ensures { IsCounted components (sink_at N.Sink sink.old) (sink_at N.Sink sink.new) result }
+{
+    let Ok(line) = line(alloc, components) else {
+        return Status::NoMemory;
+    };
+    match send(sink, line.bytes()) {
+        Ok(()) => Status::Ok,
+        Err(Failed) => Status::OutsideFailed(Device::Sink),
+    }
+}
+
+/// The line that says so many components.
+fn line(alloc: Global, components: usize) -> Result<Blob, NoMemory>
+    ensures { IfOk result (λ line. line ≡ check_line components) }
+{
+    let mut line = Blob::from_bytes(alloc, b"ok components ")?;
+    line.push(Buffer::new().format(components).as_bytes())?;
+    line.push(b" subscriptions 0\n")?;
+    Ok(line)
+}

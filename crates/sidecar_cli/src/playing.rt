@@ -1,0 +1,174 @@
+ghost use Rattle.std.specs.Prelude.{◌≡◌, ◌∷◌, [], ℕ, length, map};
+ghost use Rattle.side_world.specs.Told.{Tells};
+ghost use Rattle.state_core.specs.Store.{keeper_of};
+ghost use Rattle.sidecar_core.specs.Did.{IsLone, IsPassOf};
+ghost use Rattle.sidecar_core.specs.Pass.{cells_of, seats_of};
+ghost use Rattle.sidecar_core.specs.Started.{IsRoomFor};
+ghost use Rattle.sidecar_keepers.specs.Kinds.{AllFit};
+ghost use Rattle.sidecar_keepers.specs.Stores.{stores_of};
+ghost use Rattle.sidecar_cli.specs.Play.{IsBegun, IsClosed, IsKept, IsPlay, IsServed, IsSession};
+ghost use Rattle.sidecar_cli.specs.World.{world_at};
+
+use crate::configuring::{configured, without_resources};
+use crate::starting::start_objects;
+use crate::status::status_of;
+use crate::{Status, World};
+use conn_serve::Ended;
+use keeper_core::Keeper;
+use keeper_journal::AnyKeeper;
+use rand_core::{Rng, SeedableRng};
+use rand_pcg::Pcg64;
+use side_world::{Clock, Files, Link, Outside, Sink, Source};
+use sidecar_core::{Config, ObjectKinds, Pass, Room, Shared, serve_connection};
+use sidecar_keepers::give_back;
+use sidecar_words::Words;
+use state_core::Store;
+use std::alloc::Global;
+use std::sync::Wait;
+
+/// Answers the requests of the one connection of the source and the sink, over stores that are started for it.
+pub(crate) fn play<S: Source, N: Sink, E: Sink, F: Files, L: Link, C: Clock, O: Outside, W: Wait>(
+    rt: &W,
+    alloc: Global,
+    given: Words,
+    world: &mut World<S, N, E, F, L, C, O>,
+) -> Status
+    ensures play { IsPlay O.Disk.Disk ⟦<AnyKeeper<O::Disk> as Keeper>⟧ ⟦<Store<AnyKeeper<O::Disk>> as ObjectKinds>⟧.kinds (λ n. ⟦<Pcg64 as Rng>⟧.stream (⟦<Pcg64 as SeedableRng>⟧.of_seed (⟦<Pcg64 as SeedableRng>⟧.seed_of_u64 n))) given (world_at S.Source N.Sink F.Files L.Link C.Clock (λ o. record { disks = O.disks o; calls = O.calls o; numbers = O.numbers o; faults = O.faults o }) world.old) (world_at S.Source N.Sink F.Files L.Link C.Clock (λ o. record { disks = O.disks o; calls = O.calls o; numbers = O.numbers o; faults = O.faults o }) world.new) result }
+    ensures note { world.new.note ≡ world.old.note }
+{
+    let (seed, secret) = start_numbers(&mut world.outside);
+    let mut rng = words_from(seed);
+    begin(rt, alloc, given, secret, &mut rng, world)
+}
+
+/// The number from which the random words begin, and secret bytes, of two further numbers.
+fn start_numbers<O: Outside>(outside: &mut O) -> (u64, [u8; 16])
+    ensures asked { (one : ℕ) × (other : ℕ) × Tells (O.numbers outside.old) (O.numbers outside.new) (result.0 ∷ one ∷ other ∷ []) }
+    ensures disks { O.disks outside.new ≡ O.disks outside.old }
+    ensures calls { O.calls outside.new ≡ O.calls outside.old }
+    ensures faults { O.faults outside.new ≡ O.faults outside.old }
+{
+    let seed = outside.start_number();
+    let one = outside.start_number();
+    let other = outside.start_number();
+    (seed, secret(one, other))
+}
+
+/// The random words that begin from a number.
+fn words_from(seed: u64) -> Pcg64
+    ensures { ⟦<Pcg64 as Rng>⟧.stream result ≡ ⟦<Pcg64 as Rng>⟧.stream (⟦<Pcg64 as SeedableRng>⟧.of_seed (⟦<Pcg64 as SeedableRng>⟧.seed_of_u64 seed)) }
+{
+    Pcg64::seed_from_u64(seed)
+}
+
+/// Reads the resources, and plays the session over them.
+fn begin<S: Source, N: Sink, E: Sink, F: Files, L: Link, C: Clock, O: Outside, R: Rng, W: Wait>(
+    rt: &W,
+    alloc: Global,
+    given: Words,
+    secret: [u8; 16],
+    rng: &mut R,
+    world: &mut World<S, N, E, F, L, C, O>,
+) -> Status
+    ensures begun { IsBegun O.Disk.Disk ⟦<AnyKeeper<O::Disk> as Keeper>⟧ ⟦<Store<AnyKeeper<O::Disk>> as ObjectKinds>⟧.kinds given (R.stream rng.old) (world_at S.Source N.Sink F.Files L.Link C.Clock (λ o. record { disks = O.disks o; calls = O.calls o; numbers = O.numbers o; faults = O.faults o }) world.old) (world_at S.Source N.Sink F.Files L.Link C.Clock (λ o. record { disks = O.disks o; calls = O.calls o; numbers = O.numbers o; faults = O.faults o }) world.new) result }
+    ensures note { world.new.note ≡ world.old.note }
+{
+    match configured(alloc, &mut world.files, &given.resources, &given.app) {
+        Ok(resources) => {
+            let config = Config {
+                app: given.app,
+                components: resources.components,
+                policies: resources.policies,
+            };
+            keep(rt, alloc, config, secret, rng, world)
+        }
+        Err(error) => without_resources(alloc, error),
+    }
+}
+
+/// Starts all objects, and plays the session over them.
+fn keep<S: Source, N: Sink, E: Sink, F: Files, L: Link, C: Clock, O: Outside, R: Rng, W: Wait>(
+    rt: &W,
+    alloc: Global,
+    config: Config,
+    secret: [u8; 16],
+    rng: &mut R,
+    world: &mut World<S, N, E, F, L, C, O>,
+) -> Status
+    ensures kept { IsKept O.Disk.Disk ⟦<AnyKeeper<O::Disk> as Keeper>⟧ ⟦<Store<AnyKeeper<O::Disk>> as ObjectKinds>⟧.kinds config (R.stream rng.old) (world_at S.Source N.Sink F.Files L.Link C.Clock (λ o. record { disks = O.disks o; calls = O.calls o; numbers = O.numbers o; faults = O.faults o }) world.old) (world_at S.Source N.Sink F.Files L.Link C.Clock (λ o. record { disks = O.disks o; calls = O.calls o; numbers = O.numbers o; faults = O.faults o }) world.new) result }
+    ensures note { world.new.note ≡ world.old.note }
+{
+    match start_objects(alloc, config, secret, &mut world.outside) {
+        Ok(up) => session(rt, up.shared, up.pass, up.room, rng, world),
+        Err(status) => status,
+    }
+}
+
+/// Plays the session by a pass that is alone, ends the cells, and gives the disks back.
+fn session<S: Source, N: Sink, E: Sink, F: Files, L: Link, C: Clock, O: Outside, R: Rng, W: Wait>(
+    rt: &W,
+    shared: Shared<AnyKeeper<O::Disk>>,
+    mut pass: Pass<AnyKeeper<O::Disk>>,
+    room: Room<AnyKeeper<O::Disk>>,
+    rng: &mut R,
+    world: &mut World<S, N, E, F, L, C, O>,
+) -> Status
+    requires pass { IsPassOf (cells_of shared.objects) (seats_of pass) }
+    requires lone { IsLone (cells_of shared.objects) (seats_of pass) }
+    requires room { IsRoomFor (length shared.objects.stores.items) room }
+    requires fit { AllFit (stores_of shared.config.components) (map (λ cell. keeper_of cell.first) shared.objects.stores.items) }
+    ensures session { IsSession O.Disk.Disk ⟦<AnyKeeper<O::Disk> as Keeper>⟧ ⟦<Store<AnyKeeper<O::Disk>> as ObjectKinds>⟧.kinds shared.config shared.objects pass (R.stream rng.old) (world_at S.Source N.Sink F.Files L.Link C.Clock (λ o. record { disks = O.disks o; calls = O.calls o; numbers = O.numbers o; faults = O.faults o }) world.old) (world_at S.Source N.Sink F.Files L.Link C.Clock (λ o. record { disks = O.disks o; calls = O.calls o; numbers = O.numbers o; faults = O.faults o }) world.new) result }
+    ensures note { world.new.note ≡ world.old.note }
+{
+    let ended = served(rt, &shared, &mut pass, rng, world);
+    close(shared, pass, room, &mut world.outside);
+    status_of(ended)
+}
+
+/// Answers the requests of the one connection.
+fn served<S: Source, N: Sink, E: Sink, F: Files, L: Link, C: Clock, O: Outside, R: Rng, W: Wait>(
+    rt: &W,
+    shared: &Shared<AnyKeeper<O::Disk>>,
+    pass: &mut Pass<AnyKeeper<O::Disk>>,
+    rng: &mut R,
+    world: &mut World<S, N, E, F, L, C, O>,
+) -> Ended
+    requires { IsPassOf (cells_of shared.now.objects) (seats_of pass.old) }
+    ensures served { IsServed O.Disk.Disk ⟦<AnyKeeper<O::Disk> as Keeper>⟧ ⟦<Store<AnyKeeper<O::Disk>> as ObjectKinds>⟧.kinds shared.now.config shared.now.objects pass.old pass.new (R.stream rng.old) (world_at S.Source N.Sink F.Files L.Link C.Clock (λ o. record { disks = O.disks o; calls = O.calls o; numbers = O.numbers o; faults = O.faults o }) world.old) (world_at S.Source N.Sink F.Files L.Link C.Clock (λ o. record { disks = O.disks o; calls = O.calls o; numbers = O.numbers o; faults = O.faults o }) world.new) result }
+    ensures note { world.new.note ≡ world.old.note }
+{
+    serve_connection(
+        rt,
+        shared,
+        pass,
+        &mut world.source,
+        &mut world.sink,
+        &mut world.link,
+        &mut world.clock,
+        rng,
+    )
+}
+
+/// Ends the cells by a pass that is alone, and gives the disks back.
+fn close<O: Outside>(
+    shared: Shared<AnyKeeper<O::Disk>>,
+    pass: Pass<AnyKeeper<O::Disk>>,
+    room: Room<AnyKeeper<O::Disk>>,
+    outside: &mut O,
+)
+    requires lone { IsLone (cells_of shared.objects) (seats_of pass) }
+    requires room { IsRoomFor (length shared.objects.stores.items) room }
+    requires fit { AllFit (stores_of shared.config.components) (map (λ cell. keeper_of cell.first) shared.objects.stores.items) }
+    ensures closed { IsClosed O.Disk.Disk ⟦<AnyKeeper<O::Disk> as Keeper>⟧ ⟦<Store<AnyKeeper<O::Disk>> as ObjectKinds>⟧.kinds shared.config shared.objects pass (record { disks = O.disks outside.old; calls = O.calls outside.old; numbers = O.numbers outside.old; faults = O.faults outside.old }) (record { disks = O.disks outside.new; calls = O.calls outside.new; numbers = O.numbers outside.new; faults = O.faults outside.new }) }
+{
+    let (config, keepers) = shared.close(pass, room);
+    give_back(&config.components, keepers, outside);
+}
+
+/// The secret bytes of two numbers.
+fn secret(one: u64, other: u64) -> [u8; 16] {
+    let mut bytes = [0; 16];
+    bytes[..8].copy_from_slice(&one.to_le_bytes());
+    bytes[8..].copy_from_slice(&other.to_le_bytes());
+    bytes
+}

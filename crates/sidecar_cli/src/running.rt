@@ -1,0 +1,73 @@
+ghost use Rattle.std.specs.Prelude.{◌≡◌};
+ghost use Rattle.conn_serve.specs.Ends.{sink_at};
+ghost use Rattle.sidecar_cli.specs.Note.{IsNoted};
+ghost use Rattle.sidecar_cli.specs.Run.{IsCommand, IsRun};
+ghost use Rattle.sidecar_cli.specs.Status.{text_of};
+ghost use Rattle.sidecar_cli.specs.World.{world_at};
+
+use crate::checking::check;
+use crate::playing::play;
+use crate::{Status, World};
+use keeper_core::Keeper;
+use keeper_journal::AnyKeeper;
+use rand_core::{Rng, SeedableRng};
+use rand_pcg::Pcg64;
+use side_base::Text;
+use side_world::{Clock, Files, Link, Outside, Sink, Source};
+use sidecar_core::ObjectKinds;
+use sidecar_words::{Mode, Words, WordsErr, read_words};
+use state_core::Store;
+use std::alloc::Global;
+use std::sync::Wait;
+
+/// Runs the command that `words` ask for, without the program's name, over a world, and writes to the note how it ended.
+///
+/// With `--stdio` the requests of one connection are answered, over stores that are started for it and whose disks are given back; with
+/// `--check` the resources are read and counted. Words without a mode are refused, as all words that mean nothing.
+pub fn sidecar_main<S: Source, N: Sink, E: Sink, F: Files, L: Link, C: Clock, O: Outside, W: Wait>(
+    rt: &W,
+    alloc: Global,
+    words: &[Text],
+    world: &mut World<S, N, E, F, L, C, O>,
+) -> Status
+    ensures run { IsRun O.Disk.Disk ⟦<AnyKeeper<O::Disk> as Keeper>⟧ ⟦<Store<AnyKeeper<O::Disk>> as ObjectKinds>⟧.kinds (λ n. ⟦<Pcg64 as Rng>⟧.stream (⟦<Pcg64 as SeedableRng>⟧.of_seed (⟦<Pcg64 as SeedableRng>⟧.seed_of_u64 n))) words.now (world_at S.Source N.Sink F.Files L.Link C.Clock (λ o. record { disks = O.disks o; calls = O.calls o; numbers = O.numbers o; faults = O.faults o }) world.old) (world_at S.Source N.Sink F.Files L.Link C.Clock (λ o. record { disks = O.disks o; calls = O.calls o; numbers = O.numbers o; faults = O.faults o }) world.new) result }
+    ensures note { IsNoted (sink_at E.Sink world.old.note) (sink_at E.Sink world.new.note) (text_of result) }
+{
+    let status = run(rt, alloc, words, world);
+    status.tell(&mut world.note);
+    status
+}
+
+/// Reads the words, and does what they mean.
+fn run<S: Source, N: Sink, E: Sink, F: Files, L: Link, C: Clock, O: Outside, W: Wait>(
+    rt: &W,
+    alloc: Global,
+    words: &[Text],
+    world: &mut World<S, N, E, F, L, C, O>,
+) -> Status
+    ensures run { IsRun O.Disk.Disk ⟦<AnyKeeper<O::Disk> as Keeper>⟧ ⟦<Store<AnyKeeper<O::Disk>> as ObjectKinds>⟧.kinds (λ n. ⟦<Pcg64 as Rng>⟧.stream (⟦<Pcg64 as SeedableRng>⟧.of_seed (⟦<Pcg64 as SeedableRng>⟧.seed_of_u64 n))) words.now (world_at S.Source N.Sink F.Files L.Link C.Clock (λ o. record { disks = O.disks o; calls = O.calls o; numbers = O.numbers o; faults = O.faults o }) world.old) (world_at S.Source N.Sink F.Files L.Link C.Clock (λ o. record { disks = O.disks o; calls = O.calls o; numbers = O.numbers o; faults = O.faults o }) world.new) result }
+    ensures note { world.new.note ≡ world.old.note }
+{
+    match read_words(alloc, words) {
+        Ok(given) => command(rt, alloc, given, world),
+        Err(WordsErr::Usage) => Status::Usage,
+        Err(WordsErr::NoMemory) => Status::NoMemory,
+    }
+}
+
+/// Does what the words mean.
+fn command<S: Source, N: Sink, E: Sink, F: Files, L: Link, C: Clock, O: Outside, W: Wait>(
+    rt: &W,
+    alloc: Global,
+    given: Words,
+    world: &mut World<S, N, E, F, L, C, O>,
+) -> Status
+    ensures command { IsCommand O.Disk.Disk ⟦<AnyKeeper<O::Disk> as Keeper>⟧ ⟦<Store<AnyKeeper<O::Disk>> as ObjectKinds>⟧.kinds (λ n. ⟦<Pcg64 as Rng>⟧.stream (⟦<Pcg64 as SeedableRng>⟧.of_seed (⟦<Pcg64 as SeedableRng>⟧.seed_of_u64 n))) given (world_at S.Source N.Sink F.Files L.Link C.Clock (λ o. record { disks = O.disks o; calls = O.calls o; numbers = O.numbers o; faults = O.faults o }) world.old) (world_at S.Source N.Sink F.Files L.Link C.Clock (λ o. record { disks = O.disks o; calls = O.calls o; numbers = O.numbers o; faults = O.faults o }) world.new) result }
+    ensures note { world.new.note ≡ world.old.note }
+{
+    match given.mode {
+        Mode::Stdio => play(rt, alloc, given, world),
+        Mode::Check => check(alloc, &given, world),
+        Mode::Serve => Status::Usage,
+    }
+}
