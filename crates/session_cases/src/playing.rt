@@ -1,0 +1,113 @@
+// A case, played and compared.
+
+use crate::given::{joined, text_of, words};
+use crate::lines::Lines;
+use crate::section::{Section, name_in, sections};
+use crate::world::{Made, world};
+use case_text::Piece;
+use itoa::Buffer;
+use side_base::Text;
+use sidecar_cli::sidecar_main;
+use std::alloc::Global;
+use std::sync::Wait;
+
+fn compare(lines: &mut Lines, word: &str, wanted: &[u8], got: &[u8]) {
+    if wanted != got {
+        lines.add_line("-- ", word);
+        lines.add_bytes("wanted:\n", wanted);
+        lines.add_bytes("got:\n", got);
+    }
+}
+
+// Compares what a disk holds afterwards.
+fn compare_disk(alloc: Global, lines: &mut Lines, section: &Section<'_>, world: &Made) {
+    match world.outside.disk(section.name.as_bytes()) {
+        Some(disk) => compare(lines, "kept", text_of(alloc, section).bytes(), disk.bytes()),
+        None => lines.add_line("no disk ", section.name),
+    }
+}
+
+fn is_known(word: &str) -> bool {
+    match word {
+        "words"
+        | "file"
+        | "disk"
+        | "input"
+        | "reads"
+        | "source-fails"
+        | "sink-fails"
+        | "note-fails"
+        | "files-fail"
+        | "outside-fails"
+        | "disk-fails"
+        | "output"
+        | "note"
+        | "status" => true,
+        _ => false,
+    }
+}
+
+// Compares what each section wants that no other of its word is joined to.
+fn compare_each(alloc: Global, lines: &mut Lines, sections: &[Section<'_>], world: &Made) {
+    for section in sections {
+        if section.word == "kept" {
+            compare_disk(alloc, lines, section, world);
+        } else if !is_known(section.word) {
+            lines.add_line("no such section: ", section.word);
+        }
+    }
+}
+
+// Compares what was written, and the status.
+fn compare_all(alloc: Global, sections: &[Section<'_>], world: &Made, status: u8) -> Lines {
+    let mut lines = Lines::new(alloc);
+    let output = joined(alloc, sections, "output");
+    let note = joined(alloc, sections, "note");
+    let wanted = name_in(sections, "status").unwrap_or("0");
+    let mut buffer = Buffer::new();
+    compare(&mut lines, "output", output.bytes(), world.sink.bytes());
+    compare(&mut lines, "note", note.bytes(), world.note.bytes());
+    compare(
+        &mut lines,
+        "status",
+        wanted.as_bytes(),
+        buffer.format(status).as_bytes(),
+    );
+    compare_each(alloc, &mut lines, sections, world);
+    lines
+}
+
+// What is wrong of a case whose sections are these.
+fn report<W: Wait>(rt: &W, alloc: Global, sections: &[Section<'_>]) -> Text {
+    let mut world = world(alloc, sections);
+    let words = words(alloc, sections);
+    let status = sidecar_main(rt, alloc, words.as_slice(), &mut world);
+    compare_all(alloc, sections, &world, status.code()).done()
+}
+
+// A report below the title of its case, if it says anything.
+fn with_title(alloc: Global, case: &Piece<'_>, report: &Text) -> Text {
+    let mut lines = Lines::new(alloc);
+    if !report.is_empty() {
+        lines.add_bytes("== ", case.head);
+        lines.add(report.as_str());
+    }
+    lines.done()
+}
+
+fn play<W: Wait>(rt: &W, alloc: Global, case: &Piece<'_>) -> Text {
+    match sections(alloc, case) {
+        Ok(sections) => with_title(alloc, case, &report(rt, alloc, sections.as_slice())),
+        Err(_) => Text::from_static(alloc, "no memory\n"),
+    }
+}
+
+/// What is wrong of a case; nothing where it is right. One that differs is played again, as it may have found no memory.
+pub(crate) fn played<W: Wait>(rt: &W, alloc: Global, case: &Piece<'_>) -> Text {
+    let report = play(rt, alloc, case);
+    if report.is_empty() {
+        report
+    } else {
+        play(rt, alloc, case)
+    }
+}
