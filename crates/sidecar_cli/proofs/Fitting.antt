@@ -1,5 +1,5 @@
 -- Keepers stay of the kinds of their components, and there is one for each store.
-use Rattle.std.specs.Prelude.{◌≡◌, ℕ, Bool, true, false, List, [], ◌∷◌, length, map, Option, Result, Ok, Err, IfErr, refl}
+use Rattle.std.specs.Prelude.{◌≡◌, Bool, List, [], ◌∷◌, length, map, Option, Result, Ok, Err, IfErr, refl}
 use Rattle.std.proofs.Common.{◌∙◌, suc, ap, sym, subst}
 use Rattle.std.specs.List.{filter}
 use Rattle.side_world.specs.declared.disk.Disk.{Ghosts as Keeps}
@@ -11,7 +11,6 @@ use Rattle.keeper_journal.specs.declared.any_keeper.AnyKeeper.TheVariants.{Memor
 use Rattle.resource_spec.specs.Component.{Loaded}
 use Rattle.resource_spec.specs.declared.component.ComponentKind.{ComponentKind}
 use Rattle.resource_spec.specs.declared.component.ComponentKind.TheVariants as kind
-use Rattle.turn_cell.specs.declared.entry.Entry.{Entry}
 use Rattle.turn_cell.specs.Sitting.{Begun, Sitting}
 use Rattle.turn_pass.specs.Pass.{AreClosed}
 use Rattle.state_core.specs.declared.command.Cmd.{Cmd}

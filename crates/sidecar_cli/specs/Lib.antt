@@ -1,5 +1,6 @@
 pub mod Check
 pub mod Configured
+pub mod Counting
 pub mod Note
 pub mod Play
 pub mod Run

@@ -1,5 +1,5 @@
 -- A run on standard input: the random numbers, the resources, the keepers, the start, and one session.
-use Rattle.std.specs.Prelude.{◌≡◌, ℕ, List, [], ◌∷◌, ◌++◌, ◌⊎◌, map, length, Ok, Err, codes, decimal}
+use Rattle.std.specs.Prelude.{◌≡◌, ℕ, List, [], ◌∷◌, ◌++◌, ◌⊎◌, Option, map, Ok, Err, codes, decimal}
 use Rattle.side_world.specs.declared.disk.Disk.{Ghosts as Keeps}
 use Rattle.side_world.specs.Faults.{RoseWith}
 use Rattle.side_world.specs.Told.{Tells}
@@ -28,7 +28,8 @@ use Rattle.sidecar_core.specs.Pass.{cells_of, seats_of}
 use Rattle.sidecar_core.specs.Started.{IsStarted}
 use Rattle.sidecar_words.specs.declared.given.Words.{Words}
 use Rattle.sidecar_cli.specs.Configured.{IsConfigured, Says}
-use Rattle.sidecar_cli.specs.Status.{status_of}
+use Rattle.sidecar_cli.specs.Counting.{IsTold}
+use Rattle.sidecar_cli.specs.Status.{status_after}
 use Rattle.sidecar_cli.specs.World.{OutsideAt, WorldAt}
 use Rattle.sidecar_cli.specs.declared.status.Status.{Status}
 use Rattle.sidecar_cli.specs.declared.status.Status.TheVariants as ends
@@ -64,12 +65,13 @@ module _ {D : Type 0} (disking : Keeps D) (keeping : Ghosts (AnyKeeper D disking
   abbrev pub standing_at : Pass (AnyKeeper D disking) keeping → WorldAt → Stream → Standing (Store (AnyKeeper D disking) keeping)
   standing_at pass world words = record { seats = seats_of pass; clock = world.clock; calls = world.link; words = words }
 
-  -- one session over these objects was served by this pass, with random words from here on; files and the outside were not asked
+  -- one session over these objects was served by this pass, with random words from here on; files, the outside and the note were not asked
   pub record IsServed (config : Config) (objects : Objects (AnyKeeper D disking) keeping) (pass after : Pass (AnyKeeper D disking) keeping) (words : Stream) (world world' : WorldAt) (ended : Ended) : Type 0 where
     pub rest : Stream
     pub served : Served (Exchange config) (λ events. Went kinds (cells_of objects) (standing_at pass world words) events (standing_at after world' rest)) (Shows (seats_of after)) world.source world'.source world.sink world'.sink ended
     pub files : world'.files ≡ world.files
     pub outside : world'.outside ≡ world.outside
+    pub note : world'.note ≡ world.note
 
   -- the cells were closed by this pass, and the disks of the stores' keepers went back
   pub record IsClosed (config : Config) (objects : Objects (AnyKeeper D disking) keeping) (pass : Pass (AnyKeeper D disking) keeping) (outside outside' : OutsideAt) : Type 0 where
@@ -80,15 +82,18 @@ module _ {D : Type 0} (disking : Keeps D) (keeping : Ghosts (AnyKeeper D disking
     pub calls : outside'.calls ≡ outside.calls
     pub numbers : outside'.numbers ≡ outside.numbers
 
-  -- One session over objects that were just started, by their pass; then the cells were closed, and the disks went back
+  -- One session over objects that were just started, by their pass; then the ledgers were counted and told, the cells were closed, and the disks went back
   pub record IsSession (config : Config) (objects : Objects (AnyKeeper D disking) keeping) (pass : Pass (AnyKeeper D disking) keeping) (words : Stream) (world world' : WorldAt) (status : Status) : Type 0 where
     pub after : Pass (AnyKeeper D disking) keeping
+    pub last : Pass (AnyKeeper D disking) keeping
     pub between : WorldAt
     pub ended : Ended
+    pub spent : Option ℕ
     pub served : IsServed config objects pass after words world between ended
-    pub closed : IsClosed config objects after between.outside world'.outside
-    pub rest : world' ≡ record between { outside = world'.outside }
-    pub ends : status ≡ status_of ended
+    pub told : IsTold kinds (cells_of objects) config.components (seats_of after) (seats_of last) between.note world'.note spent
+    pub closed : IsClosed config objects last between.outside world'.outside
+    pub rest : world' ≡ record between { note = world'.note; outside = world'.outside }
+    pub ends : status ≡ status_after ended spent
 
   -- all objects were started, and then the session was played; or they were not, and nothing was read
   pub data IsKept (config : Config) (words : Stream) (world world' : WorldAt) (status : Status) : Type 0 where

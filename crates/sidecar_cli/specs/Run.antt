@@ -10,7 +10,9 @@ use Rattle.sidecar_words.specs.declared.given.Words.{Words}
 use Rattle.sidecar_words.specs.declared.given.Mode.TheVariants as mode
 use Rattle.sidecar_words.specs.Meaning.{Means}
 use Rattle.sidecar_cli.specs.Check.{IsCheck}
+use Rattle.sidecar_cli.specs.Note.{IsNoted}
 use Rattle.sidecar_cli.specs.Play.{IsPlay}
+use Rattle.sidecar_cli.specs.Status.{text_of}
 use Rattle.sidecar_cli.specs.World.{WorldAt}
 use Rattle.sidecar_cli.specs.declared.status.Status.{Status}
 use Rattle.sidecar_cli.specs.declared.status.Status.TheVariants.{Usage, NoMemory}
@@ -26,3 +28,10 @@ pub data IsRun {D : Type 0} (disking : Keeps D) (keeping : Ghosts (AnyKeeper D d
   meant : (given : Words) → Means words given → IsCommand disking keeping kinds words_of given world world' status → IsRun disking keeping kinds words_of words world world' status
   meaningless : ((given : Words) → ¬ Means words given) → status ≡ Usage → world' ≡ world → IsRun disking keeping kinds words_of words world world' status
   lacks : status ≡ NoMemory → world' ≡ world → IsRun disking keeping kinds words_of words world world' status
+
+-- a run, and then the note got the text of its status, unless it failed
+pub record IsMain {D : Type 0} (disking : Keeps D) (keeping : Ghosts (AnyKeeper D disking)) (kinds : Kinds (Store (AnyKeeper D disking) keeping)) (words_of : ℕ → Stream) (words : List (List ℕ)) (world world' : WorldAt) (status : Status) : Type 0 where
+  pub between : WorldAt
+  pub run : IsRun disking keeping kinds words_of words world between status
+  pub noted : IsNoted between.note world'.note (text_of status)
+  pub rest : world' ≡ record between { note = world'.note }

@@ -1,5 +1,6 @@
 -- How a run ends: the exit status, and the line that the note gets.
-use Rattle.std.specs.Prelude.{ℕ, List, [], ◌∷◌, ◌++◌, codes, decimal}
+use Rattle.std.specs.Prelude.{ℕ, List, [], ◌∷◌, ◌++◌, Option, None, Some, codes, decimal}
+use Rattle.std.specs.Option.{option_or}
 use Rattle.conn_serve.specs.declared.ended.Ended.{Ended}
 use Rattle.conn_serve.specs.declared.ended.Ended.TheVariants as ends
 use Rattle.http_frames.specs.Refusals.{refused_name}
@@ -53,3 +54,25 @@ status_of (ends.Spent count) = Spent count
 status_of ends.SourceFailed = OutsideFailed Source
 status_of ends.SinkFailed = OutsideFailed Sink
 status_of ends.NoMemory = NoMemory
+
+-- what was read in the cell that ended a connection
+abbrev pub spent_in : Ended → Option ℕ
+spent_in ends.Done = None
+spent_in ends.Closed = None
+spent_in ends.Asked = None
+spent_in ends.ClosedByPeer = None
+spent_in (ends.Refused why) = None
+spent_in ends.Limit = None
+spent_in (ends.Spent count) = Some count
+spent_in ends.SourceFailed = None
+spent_in ends.SinkFailed = None
+spent_in ends.NoMemory = None
+
+-- an exhausted cell stands before all other ends
+abbrev pub spent_or : Option ℕ → Status → Status
+spent_or None status = status
+spent_or (Some count) status = Spent count
+
+-- how a run ends whose connection ended so, and then what was read in the first exhausted cell of a ledger, if there is one
+abbrev pub status_after : Ended → Option ℕ → Status
+status_after ended spent = spent_or (option_or (spent_in ended) spent) (status_of ended)

@@ -31,19 +31,20 @@ pub record OutsideAt : Type 0 where
   pub numbers : Option (List ℕ)
   pub faults : ℕ
 
--- all but the note
 pub record WorldAt : Type 0 where
   pub source : SourceAt
   pub sink : SinkAt
+  pub note : SinkAt
   pub files : FilesAt
   pub link : Option (List LinkCall)
   pub clock : Clocked
   pub outside : OutsideAt
 
-abbrev pub world_at : {S N E F L C O : Type 0} → Gives S → Takes N → Holds F → Asks L → Times C → (O → OutsideAt) → World S N E F L C O → WorldAt
-world_at gives takes holds asks times lends world = record {
+abbrev pub world_at : {S N E F L C O : Type 0} → Gives S → Takes N → Takes E → Holds F → Asks L → Times C → (O → OutsideAt) → World S N E F L C O → WorldAt
+world_at gives takes notes holds asks times lends world = record {
   source = source_at gives world.source;
   sink = sink_at takes world.sink;
+  note = sink_at notes world.note;
   files = files_at holds world.files;
   link = asks.calls world.link;
   clock = clocked times world.clock;

@@ -7,6 +7,7 @@
 
 mod checking;
 mod configuring;
+mod counting;
 mod playing;
 mod running;
 mod starting;

@@ -10,8 +10,9 @@ ghost use Rattle.sidecar_cli.specs.Play.{IsBegun, IsClosed, IsKept, IsPlay, IsSe
 ghost use Rattle.sidecar_cli.specs.World.{world_at};
 
 use crate::configuring::{configured, without_resources};
+use crate::counting::tell_ledgers;
 use crate::starting::start_objects;
-use crate::status::status_of;
+use crate::status::status_after;
 use crate::{Status, World};
 use conn_serve::Ended;
 use keeper_core::Keeper;
@@ -33,8 +34,7 @@ pub(crate) fn play<S: Source, N: Sink, E: Sink, F: Files, L: Link, C: Clock, O: 
     given: Words,
     world: &mut World<S, N, E, F, L, C, O>,
 ) -> Status
-    ensures play { IsPlay O.Disk.Disk ⟦<AnyKeeper<O::Disk> as Keeper>⟧ ⟦<Store<AnyKeeper<O::Disk>> as ObjectKinds>⟧.kinds (λ n. ⟦<Pcg64 as Rng>⟧.stream (⟦<Pcg64 as SeedableRng>⟧.of_seed (⟦<Pcg64 as SeedableRng>⟧.seed_of_u64 n))) given (world_at S.Source N.Sink F.Files L.Link C.Clock (λ o. record { disks = O.disks o; calls = O.calls o; numbers = O.numbers o; faults = O.faults o }) world.old) (world_at S.Source N.Sink F.Files L.Link C.Clock (λ o. record { disks = O.disks o; calls = O.calls o; numbers = O.numbers o; faults = O.faults o }) world.new) result }
-    ensures note { world.new.note ≡ world.old.note }
+    ensures { IsPlay O.Disk.Disk ⟦<AnyKeeper<O::Disk> as Keeper>⟧ ⟦<Store<AnyKeeper<O::Disk>> as ObjectKinds>⟧.kinds (λ n. ⟦<Pcg64 as Rng>⟧.stream (⟦<Pcg64 as SeedableRng>⟧.of_seed (⟦<Pcg64 as SeedableRng>⟧.seed_of_u64 n))) given (world_at S.Source N.Sink E.Sink F.Files L.Link C.Clock (λ o. record { disks = O.disks o; calls = O.calls o; numbers = O.numbers o; faults = O.faults o }) world.old) (world_at S.Source N.Sink E.Sink F.Files L.Link C.Clock (λ o. record { disks = O.disks o; calls = O.calls o; numbers = O.numbers o; faults = O.faults o }) world.new) result }
 {
     let (seed, secret) = start_numbers(&mut world.outside);
     let mut rng = words_from(seed);
@@ -70,8 +70,7 @@ fn begin<S: Source, N: Sink, E: Sink, F: Files, L: Link, C: Clock, O: Outside, R
     rng: &mut R,
     world: &mut World<S, N, E, F, L, C, O>,
 ) -> Status
-    ensures begun { IsBegun O.Disk.Disk ⟦<AnyKeeper<O::Disk> as Keeper>⟧ ⟦<Store<AnyKeeper<O::Disk>> as ObjectKinds>⟧.kinds given (R.stream rng.old) (world_at S.Source N.Sink F.Files L.Link C.Clock (λ o. record { disks = O.disks o; calls = O.calls o; numbers = O.numbers o; faults = O.faults o }) world.old) (world_at S.Source N.Sink F.Files L.Link C.Clock (λ o. record { disks = O.disks o; calls = O.calls o; numbers = O.numbers o; faults = O.faults o }) world.new) result }
-    ensures note { world.new.note ≡ world.old.note }
+    ensures { IsBegun O.Disk.Disk ⟦<AnyKeeper<O::Disk> as Keeper>⟧ ⟦<Store<AnyKeeper<O::Disk>> as ObjectKinds>⟧.kinds given (R.stream rng.old) (world_at S.Source N.Sink E.Sink F.Files L.Link C.Clock (λ o. record { disks = O.disks o; calls = O.calls o; numbers = O.numbers o; faults = O.faults o }) world.old) (world_at S.Source N.Sink E.Sink F.Files L.Link C.Clock (λ o. record { disks = O.disks o; calls = O.calls o; numbers = O.numbers o; faults = O.faults o }) world.new) result }
 {
     match configured(alloc, &mut world.files, &given.resources, &given.app) {
         Ok(resources) => {
@@ -95,8 +94,7 @@ fn keep<S: Source, N: Sink, E: Sink, F: Files, L: Link, C: Clock, O: Outside, R:
     rng: &mut R,
     world: &mut World<S, N, E, F, L, C, O>,
 ) -> Status
-    ensures kept { IsKept O.Disk.Disk ⟦<AnyKeeper<O::Disk> as Keeper>⟧ ⟦<Store<AnyKeeper<O::Disk>> as ObjectKinds>⟧.kinds config (R.stream rng.old) (world_at S.Source N.Sink F.Files L.Link C.Clock (λ o. record { disks = O.disks o; calls = O.calls o; numbers = O.numbers o; faults = O.faults o }) world.old) (world_at S.Source N.Sink F.Files L.Link C.Clock (λ o. record { disks = O.disks o; calls = O.calls o; numbers = O.numbers o; faults = O.faults o }) world.new) result }
-    ensures note { world.new.note ≡ world.old.note }
+    ensures { IsKept O.Disk.Disk ⟦<AnyKeeper<O::Disk> as Keeper>⟧ ⟦<Store<AnyKeeper<O::Disk>> as ObjectKinds>⟧.kinds config (R.stream rng.old) (world_at S.Source N.Sink E.Sink F.Files L.Link C.Clock (λ o. record { disks = O.disks o; calls = O.calls o; numbers = O.numbers o; faults = O.faults o }) world.old) (world_at S.Source N.Sink E.Sink F.Files L.Link C.Clock (λ o. record { disks = O.disks o; calls = O.calls o; numbers = O.numbers o; faults = O.faults o }) world.new) result }
 {
     match start_objects(alloc, config, secret, &mut world.outside) {
         Ok(up) => session(rt, up.shared, up.pass, up.room, rng, world),
@@ -104,7 +102,7 @@ fn keep<S: Source, N: Sink, E: Sink, F: Files, L: Link, C: Clock, O: Outside, R:
     }
 }
 
-/// Plays the session by a pass that is alone, ends the cells, and gives the disks back.
+/// Plays the session by a pass that is alone, tells the counts of the ledgers, ends the cells, and gives the disks back.
 fn session<S: Source, N: Sink, E: Sink, F: Files, L: Link, C: Clock, O: Outside, R: Rng, W: Wait>(
     rt: &W,
     shared: Shared<AnyKeeper<O::Disk>>,
@@ -117,12 +115,12 @@ fn session<S: Source, N: Sink, E: Sink, F: Files, L: Link, C: Clock, O: Outside,
     requires lone { IsLone (cells_of shared.objects) (seats_of pass) }
     requires room { IsRoomFor (length shared.objects.stores.items) room }
     requires fit { AllFit (stores_of shared.config.components) (map (λ cell. keeper_of cell.first) shared.objects.stores.items) }
-    ensures session { IsSession O.Disk.Disk ⟦<AnyKeeper<O::Disk> as Keeper>⟧ ⟦<Store<AnyKeeper<O::Disk>> as ObjectKinds>⟧.kinds shared.config shared.objects pass (R.stream rng.old) (world_at S.Source N.Sink F.Files L.Link C.Clock (λ o. record { disks = O.disks o; calls = O.calls o; numbers = O.numbers o; faults = O.faults o }) world.old) (world_at S.Source N.Sink F.Files L.Link C.Clock (λ o. record { disks = O.disks o; calls = O.calls o; numbers = O.numbers o; faults = O.faults o }) world.new) result }
-    ensures note { world.new.note ≡ world.old.note }
+    ensures { IsSession O.Disk.Disk ⟦<AnyKeeper<O::Disk> as Keeper>⟧ ⟦<Store<AnyKeeper<O::Disk>> as ObjectKinds>⟧.kinds shared.config shared.objects pass (R.stream rng.old) (world_at S.Source N.Sink E.Sink F.Files L.Link C.Clock (λ o. record { disks = O.disks o; calls = O.calls o; numbers = O.numbers o; faults = O.faults o }) world.old) (world_at S.Source N.Sink E.Sink F.Files L.Link C.Clock (λ o. record { disks = O.disks o; calls = O.calls o; numbers = O.numbers o; faults = O.faults o }) world.new) result }
 {
     let ended = served(rt, &shared, &mut pass, rng, world);
+    let spent = tell_ledgers(rt, &shared, &mut pass, &mut world.note);
     close(shared, pass, room, &mut world.outside);
-    status_of(ended)
+    status_after(ended, spent)
 }
 
 /// Answers the requests of the one connection.
@@ -134,8 +132,8 @@ fn served<S: Source, N: Sink, E: Sink, F: Files, L: Link, C: Clock, O: Outside, 
     world: &mut World<S, N, E, F, L, C, O>,
 ) -> Ended
     requires { IsPassOf (cells_of shared.now.objects) (seats_of pass.old) }
-    ensures served { IsServed O.Disk.Disk ⟦<AnyKeeper<O::Disk> as Keeper>⟧ ⟦<Store<AnyKeeper<O::Disk>> as ObjectKinds>⟧.kinds shared.now.config shared.now.objects pass.old pass.new (R.stream rng.old) (world_at S.Source N.Sink F.Files L.Link C.Clock (λ o. record { disks = O.disks o; calls = O.calls o; numbers = O.numbers o; faults = O.faults o }) world.old) (world_at S.Source N.Sink F.Files L.Link C.Clock (λ o. record { disks = O.disks o; calls = O.calls o; numbers = O.numbers o; faults = O.faults o }) world.new) result }
-    ensures note { world.new.note ≡ world.old.note }
+    ensures served { IsServed O.Disk.Disk ⟦<AnyKeeper<O::Disk> as Keeper>⟧ ⟦<Store<AnyKeeper<O::Disk>> as ObjectKinds>⟧.kinds shared.now.config shared.now.objects pass.old pass.new (R.stream rng.old) (world_at S.Source N.Sink E.Sink F.Files L.Link C.Clock (λ o. record { disks = O.disks o; calls = O.calls o; numbers = O.numbers o; faults = O.faults o }) world.old) (world_at S.Source N.Sink E.Sink F.Files L.Link C.Clock (λ o. record { disks = O.disks o; calls = O.calls o; numbers = O.numbers o; faults = O.faults o }) world.new) result }
+    ensures pass { IsPassOf (cells_of shared.now.objects) (seats_of pass.new) }
 {
     serve_connection(
         rt,

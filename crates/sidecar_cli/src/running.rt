@@ -1,8 +1,4 @@
-ghost use Rattle.std.specs.Prelude.{◌≡◌};
-ghost use Rattle.conn_serve.specs.Ends.{sink_at};
-ghost use Rattle.sidecar_cli.specs.Note.{IsNoted};
-ghost use Rattle.sidecar_cli.specs.Run.{IsCommand, IsRun};
-ghost use Rattle.sidecar_cli.specs.Status.{text_of};
+ghost use Rattle.sidecar_cli.specs.Run.{IsCommand, IsMain, IsRun};
 ghost use Rattle.sidecar_cli.specs.World.{world_at};
 
 use crate::checking::check;
@@ -30,8 +26,7 @@ pub fn sidecar_main<S: Source, N: Sink, E: Sink, F: Files, L: Link, C: Clock, O:
     words: &[Text],
     world: &mut World<S, N, E, F, L, C, O>,
 ) -> Status
-    ensures run { IsRun O.Disk.Disk ⟦<AnyKeeper<O::Disk> as Keeper>⟧ ⟦<Store<AnyKeeper<O::Disk>> as ObjectKinds>⟧.kinds (λ n. ⟦<Pcg64 as Rng>⟧.stream (⟦<Pcg64 as SeedableRng>⟧.of_seed (⟦<Pcg64 as SeedableRng>⟧.seed_of_u64 n))) words.now (world_at S.Source N.Sink F.Files L.Link C.Clock (λ o. record { disks = O.disks o; calls = O.calls o; numbers = O.numbers o; faults = O.faults o }) world.old) (world_at S.Source N.Sink F.Files L.Link C.Clock (λ o. record { disks = O.disks o; calls = O.calls o; numbers = O.numbers o; faults = O.faults o }) world.new) result }
-    ensures note { IsNoted (sink_at E.Sink world.old.note) (sink_at E.Sink world.new.note) (text_of result) }
+    ensures { IsMain O.Disk.Disk ⟦<AnyKeeper<O::Disk> as Keeper>⟧ ⟦<Store<AnyKeeper<O::Disk>> as ObjectKinds>⟧.kinds (λ n. ⟦<Pcg64 as Rng>⟧.stream (⟦<Pcg64 as SeedableRng>⟧.of_seed (⟦<Pcg64 as SeedableRng>⟧.seed_of_u64 n))) words.now (world_at S.Source N.Sink E.Sink F.Files L.Link C.Clock (λ o. record { disks = O.disks o; calls = O.calls o; numbers = O.numbers o; faults = O.faults o }) world.old) (world_at S.Source N.Sink E.Sink F.Files L.Link C.Clock (λ o. record { disks = O.disks o; calls = O.calls o; numbers = O.numbers o; faults = O.faults o }) world.new) result }
 {
     let status = run(rt, alloc, words, world);
     status.tell(&mut world.note);
@@ -45,8 +40,7 @@ fn run<S: Source, N: Sink, E: Sink, F: Files, L: Link, C: Clock, O: Outside, W: 
     words: &[Text],
     world: &mut World<S, N, E, F, L, C, O>,
 ) -> Status
-    ensures run { IsRun O.Disk.Disk ⟦<AnyKeeper<O::Disk> as Keeper>⟧ ⟦<Store<AnyKeeper<O::Disk>> as ObjectKinds>⟧.kinds (λ n. ⟦<Pcg64 as Rng>⟧.stream (⟦<Pcg64 as SeedableRng>⟧.of_seed (⟦<Pcg64 as SeedableRng>⟧.seed_of_u64 n))) words.now (world_at S.Source N.Sink F.Files L.Link C.Clock (λ o. record { disks = O.disks o; calls = O.calls o; numbers = O.numbers o; faults = O.faults o }) world.old) (world_at S.Source N.Sink F.Files L.Link C.Clock (λ o. record { disks = O.disks o; calls = O.calls o; numbers = O.numbers o; faults = O.faults o }) world.new) result }
-    ensures note { world.new.note ≡ world.old.note }
+    ensures { IsRun O.Disk.Disk ⟦<AnyKeeper<O::Disk> as Keeper>⟧ ⟦<Store<AnyKeeper<O::Disk>> as ObjectKinds>⟧.kinds (λ n. ⟦<Pcg64 as Rng>⟧.stream (⟦<Pcg64 as SeedableRng>⟧.of_seed (⟦<Pcg64 as SeedableRng>⟧.seed_of_u64 n))) words.now (world_at S.Source N.Sink E.Sink F.Files L.Link C.Clock (λ o. record { disks = O.disks o; calls = O.calls o; numbers = O.numbers o; faults = O.faults o }) world.old) (world_at S.Source N.Sink E.Sink F.Files L.Link C.Clock (λ o. record { disks = O.disks o; calls = O.calls o; numbers = O.numbers o; faults = O.faults o }) world.new) result }
 {
     match read_words(alloc, words) {
         Ok(given) => command(rt, alloc, given, world),
@@ -62,8 +56,7 @@ fn command<S: Source, N: Sink, E: Sink, F: Files, L: Link, C: Clock, O: Outside,
     given: Words,
     world: &mut World<S, N, E, F, L, C, O>,
 ) -> Status
-    ensures command { IsCommand O.Disk.Disk ⟦<AnyKeeper<O::Disk> as Keeper>⟧ ⟦<Store<AnyKeeper<O::Disk>> as ObjectKinds>⟧.kinds (λ n. ⟦<Pcg64 as Rng>⟧.stream (⟦<Pcg64 as SeedableRng>⟧.of_seed (⟦<Pcg64 as SeedableRng>⟧.seed_of_u64 n))) given (world_at S.Source N.Sink F.Files L.Link C.Clock (λ o. record { disks = O.disks o; calls = O.calls o; numbers = O.numbers o; faults = O.faults o }) world.old) (world_at S.Source N.Sink F.Files L.Link C.Clock (λ o. record { disks = O.disks o; calls = O.calls o; numbers = O.numbers o; faults = O.faults o }) world.new) result }
-    ensures note { world.new.note ≡ world.old.note }
+    ensures { IsCommand O.Disk.Disk ⟦<AnyKeeper<O::Disk> as Keeper>⟧ ⟦<Store<AnyKeeper<O::Disk>> as ObjectKinds>⟧.kinds (λ n. ⟦<Pcg64 as Rng>⟧.stream (⟦<Pcg64 as SeedableRng>⟧.of_seed (⟦<Pcg64 as SeedableRng>⟧.seed_of_u64 n))) given (world_at S.Source N.Sink E.Sink F.Files L.Link C.Clock (λ o. record { disks = O.disks o; calls = O.calls o; numbers = O.numbers o; faults = O.faults o }) world.old) (world_at S.Source N.Sink E.Sink F.Files L.Link C.Clock (λ o. record { disks = O.disks o; calls = O.calls o; numbers = O.numbers o; faults = O.faults o }) world.new) result }
 {
     match given.mode {
         Mode::Stdio => play(rt, alloc, given, world),

@@ -2,7 +2,7 @@ ghost use Rattle.std.specs.Prelude.{◌≡◌, ◌≤◌, ◌++◌, ◌∷◌, [
 ghost use Rattle.conn_serve.specs.Ends.{sink_at};
 ghost use Rattle.side_world.specs.Faults.{Rose};
 ghost use Rattle.side_world.specs.Told.{Told};
-ghost use Rattle.sidecar_cli.specs.Status.{code_of, name_of, text_of, status_of};
+ghost use Rattle.sidecar_cli.specs.Status.{code_of, name_of, text_of, spent_in, status_after, status_of};
 ghost use Rattle.sidecar_cli.specs.Note.{IsNoted};
 
 use conn_serve::Ended;
@@ -116,7 +116,7 @@ fn line<E: Sink>(note: &mut E, front: &[u8], rest: &[u8]) -> Result<(), Failed>
 }
 
 /// How a run ended whose one connection ended so.
-pub(crate) fn status_of(ended: Ended) -> Status
+fn status_of(ended: Ended) -> Status
     ensures { result ≡ status_of ended }
 {
     match ended {
@@ -128,5 +128,33 @@ pub(crate) fn status_of(ended: Ended) -> Status
         Ended::SourceFailed => Status::OutsideFailed(Device::Source),
         Ended::SinkFailed => Status::OutsideFailed(Device::Sink),
         Ended::NoMemory => Status::NoMemory,
+    }
+}
+
+/// How a run ended whose one connection ended so, where this was read in the first cell of a ledger that is exhausted, if one is.
+pub(crate) fn status_after(ended: Ended, spent: Option<u64>) -> Status
+    ensures { result ≡ status_after ended spent }
+{
+    match spent_in(ended).or(spent) {
+        Some(count) => Status::Spent { count },
+        None => status_of(ended),
+    }
+}
+
+/// What was read in the cell that ended a connection, if one did.
+fn spent_in(ended: Ended) -> Option<u64>
+    ensures { result ≡ spent_in ended }
+{
+    match ended {
+        Ended::Spent { count } => Some(count),
+        Ended::Done
+        | Ended::Closed
+        | Ended::Asked
+        | Ended::ClosedByPeer
+        | Ended::Refused(_)
+        | Ended::Limit
+        | Ended::SourceFailed
+        | Ended::SinkFailed
+        | Ended::NoMemory => None,
     }
 }

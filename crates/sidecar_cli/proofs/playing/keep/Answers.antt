@@ -15,14 +15,8 @@ session-requires-clause-room g c κs within = c.in-Ok.ensures.room
 pub session-requires-clause-fit : goal.session-requires-clause-fit
 session-requires-clause-fit g c κs within = c.in-Ok.ensures.fit
 
-pub returns-in-Ok-clause-kept : goal.returns-in-Ok-clause-kept
-returns-in-Ok-clause-kept g c = up c.in-Ok.up.shared.objects c.in-Ok.up.pass _ c.in-Ok.ensures.up refl (session_of c.in-Ok.ensures.same c.session.ensures.session)
+pub returns-in-Ok : goal.returns-in-Ok
+returns-in-Ok g c = up c.in-Ok.up.shared.objects c.in-Ok.up.pass _ c.in-Ok.ensures.up refl (session_of c.in-Ok.ensures.same c.session.ensures)
 
-pub returns-in-Ok-clause-note : goal.returns-in-Ok-clause-note
-returns-in-Ok-clause-note g c = c.session.ensures.note
-
-pub returns-in-Err-clause-kept : goal.returns-in-Err-clause-kept
-returns-in-Err-clause-kept g c = down c.in-Err.ensures.down refl
-
-pub returns-in-Err-clause-note : goal.returns-in-Err-clause-note
-returns-in-Err-clause-note g c = refl
+pub returns-in-Err : goal.returns-in-Err
+returns-in-Err g c = down c.in-Err.ensures.down refl

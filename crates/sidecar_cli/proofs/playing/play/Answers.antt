@@ -2,11 +2,11 @@ use Rattle.sidecar_cli.specs.World.{OutsideAt, world_at}
 use Rattle.sidecar_cli.proofs.Fitting.{begun_by, numbered}
 use Rattle.sidecar_cli.proofs.playing.play.Goals as goal
 
-pub returns-clause-play : goal.returns-clause-play
-returns-clause-play g c =
+pub returns : goal.returns
+returns g c =
     let o = c.start_numbers-seed.new.outside in
     let after : OutsideAt = record { disks = g.O.Outside.disks o; calls = g.O.Outside.calls o; numbers = g.O.Outside.numbers o; faults = g.O.Outside.faults o } in
-    let before = world_at g.S.Source g.N.Sink g.F.Files g.L.Link g.C.Clock (λ o. record { disks = g.O.Outside.disks o; calls = g.O.Outside.calls o; numbers = g.O.Outside.numbers o; faults = g.O.Outside.faults o }) c.args.world.now in
+    let before = world_at g.S.Source g.N.Sink g.E.Sink g.F.Files g.L.Link g.C.Clock (λ o. record { disks = g.O.Outside.disks o; calls = g.O.Outside.calls o; numbers = g.O.Outside.numbers o; faults = g.O.Outside.faults o }) c.args.world.now in
     record {
       seed = c.start_numbers-seed.result.0;
       one = c.start_numbers-seed.ensures.asked.0;
@@ -14,8 +14,5 @@ returns-clause-play g c =
       between = record before { outside = after };
       asked = c.start_numbers-seed.ensures.asked.2;
       only = numbered before after c.start_numbers-seed.ensures.disks c.start_numbers-seed.ensures.calls c.start_numbers-seed.ensures.faults;
-      begun = begun_by c.words_from-rng.ensures c.begin.ensures.begun;
+      begun = begun_by c.words_from-rng.ensures c.begin.ensures;
     }
-
-pub returns-clause-note : goal.returns-clause-note
-returns-clause-note g c = c.begin.ensures.note

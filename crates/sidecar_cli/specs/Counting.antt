@@ -1,0 +1,50 @@
+-- The lines that tell the counts of the ledgers.
+use Rattle.std.specs.Prelude.{◌≡◌, ◌≤◌, ℕ, suc, List, [], ◌∷◌, ◌++◌, Option, Some, None, Result, Ok, Err, codes, decimal}
+use Rattle.std.specs.Option.{option_or}
+use Rattle.side_world.specs.declared.link.LinkCall.{LinkCall}
+use Rattle.rand_core.specs.Stream.{Stream}
+use Rattle.turn_cell.specs.declared.error.Exhausted.{Exhausted}
+use Rattle.ledger_core.specs.declared.reply.LedgerReply.{LedgerReply}
+use Rattle.ledger_core.specs.declared.reply.LedgerReply.TheVariants as says
+use Rattle.policy_run.specs.Effects.{Clocked}
+use Rattle.conn_serve.specs.Ends.{SinkAt}
+use Rattle.resource_spec.specs.Component.{Loaded}
+use Rattle.sidecar_core.specs.Did.{CellsAt, Does, Kinds, SeatsAt, ShowsAt}
+use Rattle.sidecar_core.specs.Delivery.{Counted}
+use Rattle.sidecar_core.specs.Sites.{pubsubs_of}
+use Rattle.sidecar_cli.specs.Note.{IsNoted}
+
+-- the line of a broker: how many deliveries are owed, done, dropped and dead-lettered
+abbrev pub counts_line : List ℕ → LedgerReply → List ℕ
+counts_line name (says.Counts owed done dropped dead) = codes "pubsub " ++ (name ++ (codes " owed " ++ (decimal owed ++ (codes " done " ++ (decimal done ++ (codes " dropped " ++ (decimal dropped ++ (codes " dead " ++ (decimal dead ++ 10 ∷ [])))))))))
+counts_line name reply = []
+
+-- a ledger whose cell is exhausted has no line
+abbrev pub line_told : List ℕ → Result LedgerReply Exhausted → List ℕ
+line_told name (Ok reply) = counts_line name reply
+line_told name (Err e) = []
+
+abbrev pub spent_told : Result LedgerReply Exhausted → Option ℕ
+spent_told (Ok reply) = None
+spent_told (Err e) = Some e.count
+
+-- the broker of this name, whose ledger stands at this place, was counted by a pass that did nothing else
+pub record IsCountedOf {O : Type 0} (kinds : Kinds O) (cells : CellsAt O) (name : List ℕ) (place : ℕ) (seats : SeatsAt O) (text : List ℕ) (spent : Option ℕ) (seats' : SeatsAt O) : Type 0 where
+  pub result : Result LedgerReply Exhausted
+  pub does : (clock : Clocked) (calls : Option (List LinkCall)) (words : Stream) → Does kinds cells (record { seats = seats; clock = clock; calls = calls; words = words }) (record { seats = seats'; clock = clock; calls = calls; words = words }) (λ events. Counted place events result)
+  pub shows : (count : ℕ) → result ≡ Err (record { count = count }) → ShowsAt place count seats'.ledgers
+  pub text_is : text ≡ line_told name result
+  pub spent_is : spent ≡ spent_told result
+
+-- brokers whose ledgers stand from this place on, one after the other; the first count of an exhausted cell is what is spent
+pub data AreCountedOf {O : Type 0} (kinds : Kinds O) (cells : CellsAt O) : ℕ → List Loaded → SeatsAt O → List ℕ → Option ℕ → SeatsAt O → Type 0 where
+  none : (place : ℕ) (seats : SeatsAt O) → AreCountedOf kinds cells place [] seats [] None seats
+  more : (place : ℕ) (c : Loaded) (cs : List Loaded) (seats between seats' : SeatsAt O) (text rest : List ℕ) (spent later : Option ℕ) → IsCountedOf kinds cells c.name place seats text spent between → AreCountedOf kinds cells (suc place) cs between rest later seats'
+      → AreCountedOf kinds cells place (c ∷ cs) seats (text ++ rest) (option_or spent later) seats'
+
+-- all brokers were counted, in order, and the note got their lines, unless it failed
+pub record IsTold {O : Type 0} (kinds : Kinds O) (cells : CellsAt O) (components : List Loaded) (seats seats' : SeatsAt O) (note note' : SinkAt) (spent : Option ℕ) : Type 0 where
+  pub text : List ℕ
+  pub counted : AreCountedOf kinds cells 0 (pubsubs_of components) seats text spent seats'
+  pub noted : IsNoted note note' text
+  pub no_fewer : note.faults ≤ note'.faults

@@ -1,0 +1,130 @@
+ghost use Rattle.std.specs.Prelude.{◌≡◌, ◌≤◌, ◌<◌, ℕ, List, length, OnOk, OnErr};
+ghost use Rattle.conn_serve.specs.Ends.{sink_at};
+ghost use Rattle.ledger_core.specs.declared.reply.LedgerReply.TheVariants as says;
+ghost use Rattle.side_world.specs.Faults.{Rose};
+ghost use Rattle.side_world.specs.Told.{Told};
+ghost use Rattle.std.specs.Prelude.{◌++◌, decimal};
+ghost use Rattle.sidecar_core.specs.Did.{IsPassOf};
+ghost use Rattle.sidecar_core.specs.Pass.{cells_of, seats_of};
+ghost use Rattle.sidecar_core.specs.Sites.{is_pubsub};
+ghost use Rattle.sidecar_cli.specs.Counting.{counts_line, IsCountedOf, IsTold};
+ghost use Rattle.sidecar_cli.specs.Note.{IsNoted};
+
+use itoa::Buffer;
+use keeper_core::Keeper;
+use ledger_core::LedgerReply;
+use resource_spec::ComponentKind;
+use side_base::Text;
+use side_world::{Failed, Sink, send};
+use sidecar_core::{ObjectKinds, Pass, Shared};
+use state_core::Store;
+use std::sync::Wait;
+
+/// Writes how many deliveries each broker has counted to the note, a line each, in the order of the components; and says what was read of the first cell that
+/// is exhausted, if one is. Faults of the note change nothing.
+pub(crate) fn tell_ledgers<K: Keeper, E: Sink, W: Wait>(
+    rt: &W,
+    shared: &Shared<K>,
+    pass: &mut Pass<K>,
+    note: &mut E,
+) -> Option<u64>
+    requires { IsPassOf (cells_of shared.now.objects) (seats_of pass.old) }
+    ensures { IsTold ⟦<Store<K> as ObjectKinds>⟧.kinds (cells_of shared.now.objects) shared.now.config.components (seats_of pass.old) (seats_of pass.new) (sink_at E.Sink note.old) (sink_at E.Sink note.new) result }
+{
+    let components = &shared.config.components;
+    let mut spent = None;
+    let mut place = 0;
+    for at in 0..components.len() {
+        let component = components.at(at);
+        if is_pubsub(component.kind()) {
+            spent = spent.or(tell_ledger(rt, shared, place, component.name(), pass, note));
+            place += 1;
+        }
+    }
+    spent
+}
+
+/// Whether it is a broker.
+fn is_pubsub(kind: ComponentKind) -> bool
+    ensures { result ≡ is_pubsub kind }
+{
+    match kind {
+        ComponentKind::PubsubMemory => true,
+        ComponentKind::StateMemory | ComponentKind::StateJournal | ComponentKind::BindingHttp => {
+            false
+        }
+    }
+}
+
+/// Writes the line of the broker whose ledger stands at a place, or says what was read of its cell.
+fn tell_ledger<K: Keeper, E: Sink, W: Wait>(
+    rt: &W,
+    shared: &Shared<K>,
+    place: usize,
+    name: &Text,
+    pass: &mut Pass<K>,
+    note: &mut E,
+) -> Option<u64>
+    requires pass { IsPassOf (cells_of shared.now.objects) (seats_of pass.old) }
+    requires place { place < length shared.now.objects.ledgers.items }
+    ensures told { (text : List ℕ) × IsCountedOf ⟦<Store<K> as ObjectKinds>⟧.kinds (cells_of shared.now.objects) name.now place (seats_of pass.old) text result (seats_of pass.new) × IsNoted (sink_at E.Sink note.old) (sink_at E.Sink note.new) text }
+    ensures no_fewer { E.faults note.old ≤ E.faults note.new }
+{
+    match shared.counts(rt, place, pass) {
+        Ok(reply) => {
+            tell_counts(name, &reply, note);
+            None
+        }
+        Err(exhausted) => Some(exhausted.count),
+    }
+}
+
+/// Writes the line of a broker whose ledger answered so.
+fn tell_counts<E: Sink>(name: &Text, reply: &LedgerReply, note: &mut E)
+    ensures noted { IsNoted (sink_at E.Sink note.old) (sink_at E.Sink note.new) (counts_line name.now reply.now) }
+    ensures no_fewer { E.faults note.old ≤ E.faults note.new }
+{
+    if let LedgerReply::Counts {
+        owed,
+        done,
+        dropped,
+        dead,
+    } = reply
+    {
+        let _ = line(name, *owed, *done, *dropped, *dead, note);
+    }
+}
+
+/// Writes the line of a broker.
+fn line<E: Sink>(
+    name: &Text,
+    owed: u128,
+    done: u128,
+    dropped: u128,
+    dead: u128,
+    note: &mut E,
+) -> Result<(), Failed>
+    ensures all { OnOk result (Told (E.contents note.old) (E.contents note.new) (counts_line name.now (says.Counts owed done dropped dead))) }
+    ensures no_fault { OnOk result (E.faults note.new ≡ E.faults note.old) }
+    ensures failed { OnErr result (Rose (E.faults note.old) (E.faults note.new)) }
+    ensures no_fewer { E.faults note.old ≤ E.faults note.new }
+{
+    send(note, b"pubsub ")?;
+    send(note, name.bytes())?;
+    number(b" owed ", owed, note)?;
+    number(b" done ", done, note)?;
+    number(b" dropped ", dropped, note)?;
+    number(b" dead ", dead, note)?;
+    send(note, b"\n")
+}
+
+/// Writes a word and a number.
+fn number<E: Sink>(word: &[u8], number: u128, note: &mut E) -> Result<(), Failed>
+    ensures all { OnOk result (Told (E.contents note.old) (E.contents note.new) (word.now ++ decimal number)) }
+    ensures no_fault { OnOk result (E.faults note.new ≡ E.faults note.old) }
+    ensures failed { OnErr result (Rose (E.faults note.old) (E.faults note.new)) }
+    ensures no_fewer { E.faults note.old ≤ E.faults note.new }
+{
+    send(note, word)?;
+    send(note, Buffer::new().format(number).as_bytes())
+}
