@@ -2,7 +2,7 @@
 //!
 //! - `world` is all that a run has of the outside, and `status` how it ends, with the line that the note gets.
 //! - `running` runs the command: `configuring` reads what is configured, `checking` says how much that is, and `playing` answers the requests
-//!   of one connection over the objects that `starting` made.
+//!   of one connection over the objects that `starting` made; behind it `counting` tells the note what each ledger counts.
 #![tactic(auto)]
 
 mod checking;
