@@ -14,8 +14,8 @@ use Rattle.rand_core.specs.Stream.{Stream}
 use Rattle.policy_run.specs.Effects.{Clocked}
 use Rattle.conn_serve.specs.Ends.{SinkAt}
 use Rattle.resource_spec.specs.Component.{Loaded}
-use Rattle.sidecar_core.specs.Composed.{lone_stays, pass_stays}
-use Rattle.sidecar_core.specs.Did.{CellsAt, IsLone, IsPassOf, Kinds, SeatsAt}
+use Rattle.sidecar_core.specs.Composed.{lone_stays, pass_stays, sound_stays}
+use Rattle.sidecar_core.specs.Did.{CellsAt, IsLone, IsPassOf, IsSoundPass, Kinds, SeatsAt}
 use Rattle.sidecar_core.specs.Sites.{is_pubsub, pubsubs_of}
 use Rattle.sidecar_cli.specs.Counting.{AreCountedOf, IsCountedOf, IsTold, none, more}
 use Rattle.sidecar_cli.specs.Note.{IsNoted}
@@ -69,6 +69,11 @@ module _ {O : Type 0} (kinds : Kinds O) (cells : CellsAt O) where
   lone_counted _ _ _ _ _ _ (none place seats) lone = lone
   lone_counted _ _ _ _ _ _ (more place c cs seats between seats' text rest spent later counted behind) lone =
       lone_counted (suc place) cs between seats' rest later behind (lone_stays kinds cells (record { seats = seats; clock = still; calls = None; words = silent }) _ (record { seats = between; clock = still; calls = None; words = silent }) (counted.does still None silent).went lone)
+
+  pub sound_counted : (place : ℕ) (cs : List Loaded) (seats seats' : SeatsAt O) (text : List ℕ) (spent : Option ℕ) → AreCountedOf kinds cells place cs seats text spent seats' → IsSoundPass kinds cells seats → IsSoundPass kinds cells seats'
+  sound_counted _ _ _ _ _ _ (none place seats) sound = sound
+  sound_counted _ _ _ _ _ _ (more place c cs seats between seats' text rest spent later counted behind) sound =
+      sound_counted (suc place) cs between seats' rest later behind (sound_stays kinds cells (record { seats = seats; clock = still; calls = None; words = silent }) _ (record { seats = between; clock = still; calls = None; words = silent }) (counted.does still None silent).went sound)
 
   -- one more broker behind the others
   pub counted_on : (place at : ℕ) (c : Loaded) (cs : List Loaded) (seats between seats' : SeatsAt O) (text rest : List ℕ) (spent later : Option ℕ) → at ≡ place + length cs → AreCountedOf kinds cells place cs seats text spent between → IsCountedOf kinds cells c.name at between rest later seats'

@@ -22,13 +22,14 @@ use Rattle.sidecar_core.specs.declared.config.Config.{Config}
 use Rattle.sidecar_core.specs.declared.objects.Objects.{Objects}
 use Rattle.sidecar_core.specs.declared.objects.Pass.{Pass}
 use Rattle.conn_serve.specs.declared.ended.Ended.{Ended}
-use Rattle.sidecar_core.specs.Composed.{lone_stays}
-use Rattle.sidecar_core.specs.Did.{IsLone, Kinds}
+use Rattle.sidecar_core.specs.Composed.{lone_stays, sound_stays}
+use Rattle.sidecar_core.specs.Did.{IsLone, IsSoundPass, Kinds, SeatsAt}
 use Rattle.sidecar_core.specs.Pass.{cells_of, seats_of}
 use Rattle.sidecar_core.specs.Sites as sites
 use Rattle.sidecar_core.specs.Started.{IsStarted}
 use Rattle.sidecar_keepers.specs.Kinds.{Fits, AllFit}
 use Rattle.sidecar_keepers.specs.Stores as choice
+use Rattle.sidecar_serving.specs.Passes.{root_pass}
 use Rattle.sidecar_words.specs.declared.given.Words.{Words}
 use Rattle.sidecar_cli.specs.Play.{AreKept, IsBegun, IsDown, IsServed, IsSession, lacks}
 use Rattle.sidecar_cli.specs.World.{OutsideAt, WorldAt}
@@ -83,6 +84,10 @@ module _ {D : Type 0} {disking : Keeps D} {keeping : Ghosts (AnyKeeper D disking
       → IsStarted config keepers config' objects pass → AllFit (choice.stores_of config.components) keepers → AllFit (choice.stores_of config'.components) (map (λ cell. keeper_of cell.first) objects.stores.items)
   fit_started {config} {config'} {keepers} {objects} started fits = subst (λ (c : Config). AllFit (choice.stores_of c.components) (map (λ cell. keeper_of cell.first) objects.stores.items)) (sym started.same) (subst (λ l. AllFit (choice.stores_of config.components) l) (sym started.stores) fits)
 
+  -- the pass that was started has neither seen nor done anything
+  pub root_started : {config config' : Config} {keepers : List (AnyKeeper D disking)} {objects : Objects (AnyKeeper D disking) keeping} {pass : Pass (AnyKeeper D disking) keeping} → IsStarted config keepers config' objects pass → seats_of pass ≡ root_pass 0 (cells_of objects)
+  root_started started = λ i. record { stores = started.store_roots i; ledgers = started.ledger_roots i; breakers = started.breaker_roots i; notes = started.notes_root i }
+
   -- what was started over the configuration that was given
   pub started_of : {config config' : Config} {keepers : List (AnyKeeper D disking)} {objects : Objects (AnyKeeper D disking) keeping} {pass : Pass (AnyKeeper D disking) keeping}
       → IsStarted config keepers config' objects pass → IsStarted config keepers config objects pass
@@ -105,13 +110,15 @@ pub lone_served : {D : Type 0} {disking : Keeps D} {keeping : Ghosts (AnyKeeper 
     → IsServed disking keeping kinds config objects pass after words world world' ended → IsLone (cells_of objects) (seats_of pass) → IsLone (cells_of objects) (seats_of after)
 lone_served {kinds = kinds} {objects = objects} {pass = pass} {after = after} {words = words} {world = world} {world' = world'} served lone = lone_stays kinds (cells_of objects) (record { seats = seats_of pass; clock = world.clock; calls = world.link; words = words }) _ (record { seats = seats_of after; clock = world'.clock; calls = world'.link; words = served.rest }) served.served.acted lone
 
+-- what holds of every seat goes on to hold
+pub sound_served : {D : Type 0} {disking : Keeps D} {keeping : Ghosts (AnyKeeper D disking)} {kinds : Kinds (Store (AnyKeeper D disking) keeping)} {config : Config} {objects : Objects (AnyKeeper D disking) keeping} {pass after : Pass (AnyKeeper D disking) keeping} {words : Stream} {world world' : WorldAt} {ended : Ended}
+    → IsServed disking keeping kinds config objects pass after words world world' ended → IsSoundPass kinds (cells_of objects) (seats_of pass) → IsSoundPass kinds (cells_of objects) (seats_of after)
+sound_served {kinds = kinds} {objects = objects} {pass = pass} {after = after} {words = words} {world = world} {world' = world'} served sound = sound_stays kinds (cells_of objects) (record { seats = seats_of pass; clock = world.clock; calls = world.link; words = words }) _ (record { seats = seats_of after; clock = world'.clock; calls = world'.link; words = served.rest }) served.served.acted sound
+
 -- numbers were given, and the outside is as before but for them
-pub numbered : (world : WorldAt) (after : OutsideAt) → after.disks ≡ world.outside.disks → after.calls ≡ world.outside.calls → after.faults ≡ world.outside.faults
+pub numbered : (world : WorldAt) (after : OutsideAt) → after.disks ≡ world.outside.disks → after.calls ≡ world.outside.calls → after.backs ≡ world.outside.backs → after.faults ≡ world.outside.faults
     → record world { outside = after } ≡ record world { outside = record world.outside { numbers = after.numbers } }
-numbered world after disks calls faults = ap (λ (o : OutsideAt). record world { outside = o })
-    (ap (λ d. record { disks = d; calls = after.calls; numbers = after.numbers; faults = after.faults }) disks
-    ∙ (ap (λ c. record { disks = world.outside.disks; calls = c; numbers = after.numbers; faults = after.faults }) calls
-    ∙ ap (λ f. record { disks = world.outside.disks; calls = world.outside.calls; numbers = after.numbers; faults = f }) faults))
+numbered world after disks calls backs faults = λ i. record world { outside = record { disks = disks i; calls = calls i; backs = backs i; numbers = after.numbers; faults = faults i } }
 
 -- a run with the same random words
 pub begun_by : {D : Type 0} {disking : Keeps D} {keeping : Ghosts (AnyKeeper D disking)} {kinds : Kinds (Store (AnyKeeper D disking) keeping)} {given : Words} {words words' : Stream} {world world' : WorldAt} {status : Status}

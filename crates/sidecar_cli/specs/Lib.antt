@@ -4,5 +4,6 @@ pub mod Counting
 pub mod Note
 pub mod Play
 pub mod Run
+pub mod Serve
 pub mod Status
 pub mod World

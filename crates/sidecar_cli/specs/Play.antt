@@ -10,6 +10,7 @@ use Rattle.turn_pass.specs.Pass.{AreClosed}
 use Rattle.state_core.specs.declared.store.Store.{Store}
 use Rattle.state_core.specs.Store.{keeper_of}
 use Rattle.conn_serve.specs.declared.ended.Ended.{Ended}
+use Rattle.conn_serve.specs.Ends.{SinkAt}
 use Rattle.conn_serve.specs.Served.{Served}
 use Rattle.resource_files.specs.declared.resources.Resources.{Resources}
 use Rattle.resource_files.specs.declared.resources.ResourcesErr.{ResourcesErr}
@@ -22,7 +23,7 @@ use Rattle.sidecar_keepers.specs.Refused.{Counts, IsRefused}
 use Rattle.sidecar_core.specs.declared.config.Config.{Config}
 use Rattle.sidecar_core.specs.declared.objects.Objects.{Objects}
 use Rattle.sidecar_core.specs.declared.objects.Pass.{Pass}
-use Rattle.sidecar_core.specs.Did.{Kinds, Shows, Standing, Went}
+use Rattle.sidecar_core.specs.Did.{IsSoundPass, Kinds, Shows, Standing, Went}
 use Rattle.sidecar_core.specs.Exchange.{Exchange}
 use Rattle.sidecar_core.specs.Pass.{cells_of, seats_of}
 use Rattle.sidecar_core.specs.Started.{IsStarted}
@@ -49,11 +50,12 @@ pub record AreKept {D : Type 0} (disking : Keeps D) (config : Config) (keepers :
   pub no_fault : outside'.faults ≡ outside.faults
   pub numbers : outside'.numbers ≡ outside.numbers
 
--- the objects were started over a keeper for each store
-pub record IsUp {D : Type 0} (disking : Keeps D) (keeping : Ghosts (AnyKeeper D disking)) (config : Config) (outside outside' : OutsideAt) (objects : Objects (AnyKeeper D disking) keeping) (pass : Pass (AnyKeeper D disking) keeping) : Type 0 where
+-- the objects were started over a keeper for each store; what holds of every seat holds of those of the pass
+pub record IsUp {D : Type 0} (disking : Keeps D) (keeping : Ghosts (AnyKeeper D disking)) (kinds : Kinds (Store (AnyKeeper D disking) keeping)) (config : Config) (outside outside' : OutsideAt) (objects : Objects (AnyKeeper D disking) keeping) (pass : Pass (AnyKeeper D disking) keeping) : Type 0 where
   pub keepers : List (AnyKeeper D disking)
   pub kept : AreKept disking config keepers outside outside'
   pub started : IsStarted config keepers config objects pass
+  pub sound : IsSoundPass kinds (cells_of objects) (seats_of pass)
 
 -- a keeper was refused; or there was a keeper for each store, and no memory for the objects
 pub data IsDown {D : Type 0} (disking : Keeps D) (config : Config) (outside outside' : OutsideAt) (status : Status) : Type 0 where
@@ -82,23 +84,28 @@ module _ {D : Type 0} (disking : Keeps D) (keeping : Ghosts (AnyKeeper D disking
     pub calls : outside'.calls ≡ outside.calls
     pub numbers : outside'.numbers ≡ outside.numbers
 
-  -- One session over objects that were just started, by their pass; then the ledgers were counted and told, the cells were closed, and the disks went back
+  -- by this pass, which is alone, the ledgers were counted and told; then the cells were closed, and the disks went back. The histories are legal, and have what the seats did
+  pub record IsFinished (config : Config) (objects : Objects (AnyKeeper D disking) keeping) (pass : Pass (AnyKeeper D disking) keeping) (note note' : SinkAt) (outside outside' : OutsideAt) (spent : Option ℕ) : Type 0 where
+    pub last : Pass (AnyKeeper D disking) keeping
+    pub told : IsTold kinds (cells_of objects) config.components (seats_of pass) (seats_of last) note note' spent
+    pub sound : IsSoundPass kinds (cells_of objects) (seats_of last)
+    pub closed : IsClosed config objects last outside outside'
+
+  -- One session over objects that were just started, by their pass; then all was counted, told and closed
   pub record IsSession (config : Config) (objects : Objects (AnyKeeper D disking) keeping) (pass : Pass (AnyKeeper D disking) keeping) (words : Stream) (world world' : WorldAt) (status : Status) : Type 0 where
     pub after : Pass (AnyKeeper D disking) keeping
-    pub last : Pass (AnyKeeper D disking) keeping
     pub between : WorldAt
     pub ended : Ended
     pub spent : Option ℕ
     pub served : IsServed config objects pass after words world between ended
-    pub told : IsTold kinds (cells_of objects) config.components (seats_of after) (seats_of last) between.note world'.note spent
-    pub closed : IsClosed config objects last between.outside world'.outside
+    pub finished : IsFinished config objects after between.note world'.note between.outside world'.outside spent
     pub rest : world' ≡ record between { note = world'.note; outside = world'.outside }
     pub ends : status ≡ status_after ended spent
 
   -- all objects were started, and then the session was played; or they were not, and nothing was read
   pub data IsKept (config : Config) (words : Stream) (world world' : WorldAt) (status : Status) : Type 0 where
     down : IsDown disking config world.outside world'.outside status → world' ≡ record world { outside = world'.outside } → IsKept config words world world' status
-    up : (objects : Objects (AnyKeeper D disking) keeping) (pass : Pass (AnyKeeper D disking) keeping) (between : WorldAt) → IsUp disking keeping config world.outside between.outside objects pass → between ≡ record world { outside = between.outside }
+    up : (objects : Objects (AnyKeeper D disking) keeping) (pass : Pass (AnyKeeper D disking) keeping) (between : WorldAt) → IsUp disking keeping kinds config world.outside between.outside objects pass → between ≡ record world { outside = between.outside }
         → IsSession config objects pass words between world' status → IsKept config words world world' status
 
   -- the resources were read, and then all objects were started; or they were refused, and nothing else was done

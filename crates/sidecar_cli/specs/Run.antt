@@ -12,16 +12,17 @@ use Rattle.sidecar_words.specs.Meaning.{Means}
 use Rattle.sidecar_cli.specs.Check.{IsCheck}
 use Rattle.sidecar_cli.specs.Note.{IsNoted}
 use Rattle.sidecar_cli.specs.Play.{IsPlay}
+use Rattle.sidecar_cli.specs.Serve.{IsServe}
 use Rattle.sidecar_cli.specs.Status.{text_of}
 use Rattle.sidecar_cli.specs.World.{WorldAt}
 use Rattle.sidecar_cli.specs.declared.status.Status.{Status}
 use Rattle.sidecar_cli.specs.declared.status.Status.TheVariants.{Usage, NoMemory}
 
--- what words that mean this come to; serving isn't built yet, so that words without a mode are refused
+-- what words that mean this come to
 pub data IsCommand {D : Type 0} (disking : Keeps D) (keeping : Ghosts (AnyKeeper D disking)) (kinds : Kinds (Store (AnyKeeper D disking) keeping)) (words_of : ℕ → Stream) (given : Words) (world world' : WorldAt) (status : Status) : Type 0 where
   played : given.mode ≡ mode.Stdio → IsPlay disking keeping kinds words_of given world world' status → IsCommand disking keeping kinds words_of given world world' status
   checked : given.mode ≡ mode.Check → IsCheck given world world' status → IsCommand disking keeping kinds words_of given world world' status
-  refused : given.mode ≡ mode.Serve → status ≡ Usage → world' ≡ world → IsCommand disking keeping kinds words_of given world world' status
+  served : given.mode ≡ mode.Serve → IsServe disking keeping kinds words_of given world world' status → IsCommand disking keeping kinds words_of given world world' status
 
 -- words that mean nothing are refused, and nothing is touched; nor is anything where there is no memory to read them
 pub data IsRun {D : Type 0} (disking : Keeps D) (keeping : Ghosts (AnyKeeper D disking)) (kinds : Kinds (Store (AnyKeeper D disking) keeping)) (words_of : ℕ → Stream) (words : List (List ℕ)) (world world' : WorldAt) (status : Status) : Type 0 where

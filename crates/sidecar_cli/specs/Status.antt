@@ -8,7 +8,7 @@ use Rattle.sidecar_cli.specs.declared.status.Status.{Status}
 use Rattle.sidecar_cli.specs.declared.status.Status.TheVariants.{Ok, BadInput, Usage, BadResources, OutsideFailed, NoMemory, Limit, Spent}
 use Rattle.sidecar_cli.specs.declared.status.Input.TheVariants.{Cut, Refused}
 use Rattle.sidecar_cli.specs.declared.status.Device.{Device}
-use Rattle.sidecar_cli.specs.declared.status.Device.TheVariants.{Source, Sink, Files, Disk, Outside}
+use Rattle.sidecar_cli.specs.declared.status.Device.TheVariants.{Source, Sink, Files, Disk, Acceptor, Outside}
 
 abbrev pub code_of : Status → ℕ
 code_of Ok = 0
@@ -25,6 +25,7 @@ name_of Source = codes "source"
 name_of Sink = codes "sink"
 name_of Files = codes "files"
 name_of Disk = codes "disk"
+name_of Acceptor = codes "acceptor"
 name_of Outside = codes "outside"
 
 -- a line of two parts, with its end

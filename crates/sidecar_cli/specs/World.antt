@@ -7,9 +7,10 @@ use Rattle.side_world.specs.declared.files.FilesCall.{FilesCall}
 use Rattle.side_world.specs.declared.link.Link.{Ghosts as Asks}
 use Rattle.side_world.specs.declared.link.LinkCall.{LinkCall}
 use Rattle.side_world.specs.declared.clock.Clock.{Ghosts as Times}
+use Rattle.side_world.specs.declared.outside.Outside.{Ghosts as Lends}
 use Rattle.side_world.specs.declared.outside.OutsideCall.{OutsideCall}
 use Rattle.side_world.specs.Files.{Folders}
-use Rattle.side_world.specs.Outside.{Disks}
+use Rattle.side_world.specs.Outside.{Backs, Disks}
 use Rattle.policy_run.specs.Effects.{Clocked, clocked}
 use Rattle.conn_serve.specs.Ends.{SourceAt, SinkAt, source_at, sink_at}
 use Rattle.sidecar_cli.specs.declared.world.World.{World}
@@ -23,13 +24,17 @@ pub record FilesAt : Type 0 where
 abbrev pub files_at : {F : Type 0} → Holds F → F → FilesAt
 files_at holds files = record { folders = holds.folders files; calls = holds.calls files; faults = holds.faults files }
 
--- the disks that are there and not taken, the calls that took some and the numbers that were given, where they are told, and how often it
--- failed
+-- the disks that are there and not taken, the calls that took some or asked for the parts of workers, what came back of workers and the numbers that were given, where
+-- they are told, and how often it failed
 pub record OutsideAt : Type 0 where
   pub disks : Option Disks
   pub calls : Option (List OutsideCall)
+  pub backs : Option Backs
   pub numbers : Option (List ℕ)
   pub faults : ℕ
+
+abbrev pub outside_at : {O D A L C S N : Type 0} → Lends O D A L C S N → O → OutsideAt
+outside_at lends o = record { disks = lends.disks o; calls = lends.calls o; backs = lends.backs o; numbers = lends.numbers o; faults = lends.faults o }
 
 pub record WorldAt : Type 0 where
   pub source : SourceAt
@@ -40,7 +45,7 @@ pub record WorldAt : Type 0 where
   pub clock : Clocked
   pub outside : OutsideAt
 
-abbrev pub world_at : {S N E F L C O : Type 0} → Gives S → Takes N → Takes E → Holds F → Asks L → Times C → (O → OutsideAt) → World S N E F L C O → WorldAt
+abbrev pub world_at : {S N E F L C O D A' L' C' S' N' : Type 0} → Gives S → Takes N → Takes E → Holds F → Asks L → Times C → Lends O D A' L' C' S' N' → World S N E F L C O → WorldAt
 world_at gives takes notes holds asks times lends world = record {
   source = source_at gives world.source;
   sink = sink_at takes world.sink;
@@ -48,5 +53,5 @@ world_at gives takes notes holds asks times lends world = record {
   files = files_at holds world.files;
   link = asks.calls world.link;
   clock = clocked times world.clock;
-  outside = lends world.outside;
+  outside = outside_at lends world.outside;
 }

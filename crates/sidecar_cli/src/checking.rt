@@ -17,7 +17,7 @@ pub(crate) fn check<S: Source, N: Sink, E: Sink, F: Files, L: Link, C: Clock, O:
     given: &Words,
     world: &mut World<S, N, E, F, L, C, O>,
 ) -> Status
-    ensures { IsCheck given.now (world_at S.Source N.Sink E.Sink F.Files L.Link C.Clock (λ o. record { disks = O.disks o; calls = O.calls o; numbers = O.numbers o; faults = O.faults o }) world.old) (world_at S.Source N.Sink E.Sink F.Files L.Link C.Clock (λ o. record { disks = O.disks o; calls = O.calls o; numbers = O.numbers o; faults = O.faults o }) world.new) result }
+    ensures { IsCheck given.now (world_at S.Source N.Sink E.Sink F.Files L.Link C.Clock O.Outside world.old) (world_at S.Source N.Sink E.Sink F.Files L.Link C.Clock O.Outside world.new) result }
 {
     match configured(alloc, &mut world.files, &given.resources, &given.app) {
         Ok(resources) => tell(alloc, resources.components.len(), &mut world.sink),

@@ -10,6 +10,7 @@ mod configuring;
 mod counting;
 mod playing;
 mod running;
+mod serving;
 mod starting;
 mod status;
 mod world;

@@ -1,13 +1,14 @@
 ghost use Rattle.std.specs.Prelude.{◌≡◌, ◌∷◌, [], ℕ, length, map};
 ghost use Rattle.side_world.specs.Told.{Tells};
 ghost use Rattle.state_core.specs.Store.{keeper_of};
-ghost use Rattle.sidecar_core.specs.Did.{IsLone, IsPassOf};
+ghost use Rattle.conn_serve.specs.Ends.{sink_at};
+ghost use Rattle.sidecar_core.specs.Did.{IsLone, IsPassOf, IsSoundPass};
 ghost use Rattle.sidecar_core.specs.Pass.{cells_of, seats_of};
 ghost use Rattle.sidecar_core.specs.Started.{IsRoomFor};
 ghost use Rattle.sidecar_keepers.specs.Kinds.{AllFit};
 ghost use Rattle.sidecar_keepers.specs.Stores.{stores_of};
-ghost use Rattle.sidecar_cli.specs.Play.{IsBegun, IsClosed, IsKept, IsPlay, IsServed, IsSession};
-ghost use Rattle.sidecar_cli.specs.World.{world_at};
+ghost use Rattle.sidecar_cli.specs.Play.{IsBegun, IsClosed, IsFinished, IsKept, IsPlay, IsServed, IsSession};
+ghost use Rattle.sidecar_cli.specs.World.{outside_at, world_at};
 
 use crate::configuring::{configured, without_resources};
 use crate::counting::tell_ledgers;
@@ -34,7 +35,7 @@ pub(crate) fn play<S: Source, N: Sink, E: Sink, F: Files, L: Link, C: Clock, O: 
     given: Words,
     world: &mut World<S, N, E, F, L, C, O>,
 ) -> Status
-    ensures { IsPlay O.Disk.Disk ⟦<AnyKeeper<O::Disk> as Keeper>⟧ ⟦<Store<AnyKeeper<O::Disk>> as ObjectKinds>⟧.kinds (λ n. ⟦<Pcg64 as Rng>⟧.stream (⟦<Pcg64 as SeedableRng>⟧.of_seed (⟦<Pcg64 as SeedableRng>⟧.seed_of_u64 n))) given (world_at S.Source N.Sink E.Sink F.Files L.Link C.Clock (λ o. record { disks = O.disks o; calls = O.calls o; numbers = O.numbers o; faults = O.faults o }) world.old) (world_at S.Source N.Sink E.Sink F.Files L.Link C.Clock (λ o. record { disks = O.disks o; calls = O.calls o; numbers = O.numbers o; faults = O.faults o }) world.new) result }
+    ensures { IsPlay O.Disk.Disk ⟦<AnyKeeper<O::Disk> as Keeper>⟧ ⟦<Store<AnyKeeper<O::Disk>> as ObjectKinds>⟧.kinds (λ n. ⟦<Pcg64 as Rng>⟧.stream (⟦<Pcg64 as SeedableRng>⟧.of_seed (⟦<Pcg64 as SeedableRng>⟧.seed_of_u64 n))) given (world_at S.Source N.Sink E.Sink F.Files L.Link C.Clock O.Outside world.old) (world_at S.Source N.Sink E.Sink F.Files L.Link C.Clock O.Outside world.new) result }
 {
     let (seed, secret) = start_numbers(&mut world.outside);
     let mut rng = words_from(seed);
@@ -46,6 +47,7 @@ fn start_numbers<O: Outside>(outside: &mut O) -> (u64, [u8; 16])
     ensures asked { (one : ℕ) × (other : ℕ) × Tells (O.numbers outside.old) (O.numbers outside.new) (result.0 ∷ one ∷ other ∷ []) }
     ensures disks { O.disks outside.new ≡ O.disks outside.old }
     ensures calls { O.calls outside.new ≡ O.calls outside.old }
+    ensures backs { O.backs outside.new ≡ O.backs outside.old }
     ensures faults { O.faults outside.new ≡ O.faults outside.old }
 {
     let seed = outside.start_number();
@@ -55,7 +57,7 @@ fn start_numbers<O: Outside>(outside: &mut O) -> (u64, [u8; 16])
 }
 
 /// The random words that begin from a number.
-fn words_from(seed: u64) -> Pcg64
+pub(crate) fn words_from(seed: u64) -> Pcg64
     ensures { ⟦<Pcg64 as Rng>⟧.stream result ≡ ⟦<Pcg64 as Rng>⟧.stream (⟦<Pcg64 as SeedableRng>⟧.of_seed (⟦<Pcg64 as SeedableRng>⟧.seed_of_u64 seed)) }
 {
     Pcg64::seed_from_u64(seed)
@@ -70,7 +72,7 @@ fn begin<S: Source, N: Sink, E: Sink, F: Files, L: Link, C: Clock, O: Outside, R
     rng: &mut R,
     world: &mut World<S, N, E, F, L, C, O>,
 ) -> Status
-    ensures { IsBegun O.Disk.Disk ⟦<AnyKeeper<O::Disk> as Keeper>⟧ ⟦<Store<AnyKeeper<O::Disk>> as ObjectKinds>⟧.kinds given (R.stream rng.old) (world_at S.Source N.Sink E.Sink F.Files L.Link C.Clock (λ o. record { disks = O.disks o; calls = O.calls o; numbers = O.numbers o; faults = O.faults o }) world.old) (world_at S.Source N.Sink E.Sink F.Files L.Link C.Clock (λ o. record { disks = O.disks o; calls = O.calls o; numbers = O.numbers o; faults = O.faults o }) world.new) result }
+    ensures { IsBegun O.Disk.Disk ⟦<AnyKeeper<O::Disk> as Keeper>⟧ ⟦<Store<AnyKeeper<O::Disk>> as ObjectKinds>⟧.kinds given (R.stream rng.old) (world_at S.Source N.Sink E.Sink F.Files L.Link C.Clock O.Outside world.old) (world_at S.Source N.Sink E.Sink F.Files L.Link C.Clock O.Outside world.new) result }
 {
     match configured(alloc, &mut world.files, &given.resources, &given.app) {
         Ok(resources) => {
@@ -94,7 +96,7 @@ fn keep<S: Source, N: Sink, E: Sink, F: Files, L: Link, C: Clock, O: Outside, R:
     rng: &mut R,
     world: &mut World<S, N, E, F, L, C, O>,
 ) -> Status
-    ensures { IsKept O.Disk.Disk ⟦<AnyKeeper<O::Disk> as Keeper>⟧ ⟦<Store<AnyKeeper<O::Disk>> as ObjectKinds>⟧.kinds config (R.stream rng.old) (world_at S.Source N.Sink E.Sink F.Files L.Link C.Clock (λ o. record { disks = O.disks o; calls = O.calls o; numbers = O.numbers o; faults = O.faults o }) world.old) (world_at S.Source N.Sink E.Sink F.Files L.Link C.Clock (λ o. record { disks = O.disks o; calls = O.calls o; numbers = O.numbers o; faults = O.faults o }) world.new) result }
+    ensures { IsKept O.Disk.Disk ⟦<AnyKeeper<O::Disk> as Keeper>⟧ ⟦<Store<AnyKeeper<O::Disk>> as ObjectKinds>⟧.kinds config (R.stream rng.old) (world_at S.Source N.Sink E.Sink F.Files L.Link C.Clock O.Outside world.old) (world_at S.Source N.Sink E.Sink F.Files L.Link C.Clock O.Outside world.new) result }
 {
     match start_objects(alloc, config, secret, &mut world.outside) {
         Ok(up) => session(rt, up.shared, up.pass, up.room, rng, world),
@@ -113,13 +115,13 @@ fn session<S: Source, N: Sink, E: Sink, F: Files, L: Link, C: Clock, O: Outside,
 ) -> Status
     requires pass { IsPassOf (cells_of shared.objects) (seats_of pass) }
     requires lone { IsLone (cells_of shared.objects) (seats_of pass) }
+    requires sound { IsSoundPass ⟦<Store<AnyKeeper<O::Disk>> as ObjectKinds>⟧.kinds (cells_of shared.objects) (seats_of pass) }
     requires room { IsRoomFor (length shared.objects.stores.items) room }
     requires fit { AllFit (stores_of shared.config.components) (map (λ cell. keeper_of cell.first) shared.objects.stores.items) }
-    ensures { IsSession O.Disk.Disk ⟦<AnyKeeper<O::Disk> as Keeper>⟧ ⟦<Store<AnyKeeper<O::Disk>> as ObjectKinds>⟧.kinds shared.config shared.objects pass (R.stream rng.old) (world_at S.Source N.Sink E.Sink F.Files L.Link C.Clock (λ o. record { disks = O.disks o; calls = O.calls o; numbers = O.numbers o; faults = O.faults o }) world.old) (world_at S.Source N.Sink E.Sink F.Files L.Link C.Clock (λ o. record { disks = O.disks o; calls = O.calls o; numbers = O.numbers o; faults = O.faults o }) world.new) result }
+    ensures { IsSession O.Disk.Disk ⟦<AnyKeeper<O::Disk> as Keeper>⟧ ⟦<Store<AnyKeeper<O::Disk>> as ObjectKinds>⟧.kinds shared.config shared.objects pass (R.stream rng.old) (world_at S.Source N.Sink E.Sink F.Files L.Link C.Clock O.Outside world.old) (world_at S.Source N.Sink E.Sink F.Files L.Link C.Clock O.Outside world.new) result }
 {
     let ended = served(rt, &shared, &mut pass, rng, world);
-    let spent = tell_ledgers(rt, &shared, &mut pass, &mut world.note);
-    close(shared, pass, room, &mut world.outside);
+    let spent = finish(rt, shared, pass, room, &mut world.note, &mut world.outside);
     status_after(ended, spent)
 }
 
@@ -132,7 +134,7 @@ fn served<S: Source, N: Sink, E: Sink, F: Files, L: Link, C: Clock, O: Outside, 
     world: &mut World<S, N, E, F, L, C, O>,
 ) -> Ended
     requires { IsPassOf (cells_of shared.now.objects) (seats_of pass.old) }
-    ensures served { IsServed O.Disk.Disk ⟦<AnyKeeper<O::Disk> as Keeper>⟧ ⟦<Store<AnyKeeper<O::Disk>> as ObjectKinds>⟧.kinds shared.now.config shared.now.objects pass.old pass.new (R.stream rng.old) (world_at S.Source N.Sink E.Sink F.Files L.Link C.Clock (λ o. record { disks = O.disks o; calls = O.calls o; numbers = O.numbers o; faults = O.faults o }) world.old) (world_at S.Source N.Sink E.Sink F.Files L.Link C.Clock (λ o. record { disks = O.disks o; calls = O.calls o; numbers = O.numbers o; faults = O.faults o }) world.new) result }
+    ensures served { IsServed O.Disk.Disk ⟦<AnyKeeper<O::Disk> as Keeper>⟧ ⟦<Store<AnyKeeper<O::Disk>> as ObjectKinds>⟧.kinds shared.now.config shared.now.objects pass.old pass.new (R.stream rng.old) (world_at S.Source N.Sink E.Sink F.Files L.Link C.Clock O.Outside world.old) (world_at S.Source N.Sink E.Sink F.Files L.Link C.Clock O.Outside world.new) result }
     ensures pass { IsPassOf (cells_of shared.now.objects) (seats_of pass.new) }
 {
     serve_connection(
@@ -147,8 +149,30 @@ fn served<S: Source, N: Sink, E: Sink, F: Files, L: Link, C: Clock, O: Outside, 
     )
 }
 
+/// Tells the counts of the ledgers by a pass that is alone, ends the cells, and gives the disks back. Answers what was read of the first cell of a ledger that is
+/// exhausted, if one is.
+pub(crate) fn finish<E: Sink, O: Outside, W: Wait>(
+    rt: &W,
+    shared: Shared<AnyKeeper<O::Disk>>,
+    mut pass: Pass<AnyKeeper<O::Disk>>,
+    room: Room<AnyKeeper<O::Disk>>,
+    note: &mut E,
+    outside: &mut O,
+) -> Option<u64>
+    requires pass { IsPassOf (cells_of shared.objects) (seats_of pass) }
+    requires lone { IsLone (cells_of shared.objects) (seats_of pass) }
+    requires sound { IsSoundPass ⟦<Store<AnyKeeper<O::Disk>> as ObjectKinds>⟧.kinds (cells_of shared.objects) (seats_of pass) }
+    requires room { IsRoomFor (length shared.objects.stores.items) room }
+    requires fit { AllFit (stores_of shared.config.components) (map (λ cell. keeper_of cell.first) shared.objects.stores.items) }
+    ensures { IsFinished O.Disk.Disk ⟦<AnyKeeper<O::Disk> as Keeper>⟧ ⟦<Store<AnyKeeper<O::Disk>> as ObjectKinds>⟧.kinds shared.config shared.objects pass (sink_at E.Sink note.old) (sink_at E.Sink note.new) (outside_at O.Outside outside.old) (outside_at O.Outside outside.new) result }
+{
+    let spent = tell_ledgers(rt, &shared, &mut pass, note);
+    close(shared, pass, room, outside);
+    spent
+}
+
 /// Ends the cells by a pass that is alone, and gives the disks back.
-fn close<O: Outside>(
+pub(crate) fn close<O: Outside>(
     shared: Shared<AnyKeeper<O::Disk>>,
     pass: Pass<AnyKeeper<O::Disk>>,
     room: Room<AnyKeeper<O::Disk>>,
@@ -157,14 +181,14 @@ fn close<O: Outside>(
     requires lone { IsLone (cells_of shared.objects) (seats_of pass) }
     requires room { IsRoomFor (length shared.objects.stores.items) room }
     requires fit { AllFit (stores_of shared.config.components) (map (λ cell. keeper_of cell.first) shared.objects.stores.items) }
-    ensures closed { IsClosed O.Disk.Disk ⟦<AnyKeeper<O::Disk> as Keeper>⟧ ⟦<Store<AnyKeeper<O::Disk>> as ObjectKinds>⟧.kinds shared.config shared.objects pass (record { disks = O.disks outside.old; calls = O.calls outside.old; numbers = O.numbers outside.old; faults = O.faults outside.old }) (record { disks = O.disks outside.new; calls = O.calls outside.new; numbers = O.numbers outside.new; faults = O.faults outside.new }) }
+    ensures closed { IsClosed O.Disk.Disk ⟦<AnyKeeper<O::Disk> as Keeper>⟧ ⟦<Store<AnyKeeper<O::Disk>> as ObjectKinds>⟧.kinds shared.config shared.objects pass (outside_at O.Outside outside.old) (outside_at O.Outside outside.new) }
 {
     let (config, keepers) = shared.close(pass, room);
     give_back(&config.components, keepers, outside);
 }
 
 /// The secret bytes of two numbers.
-fn secret(one: u64, other: u64) -> [u8; 16] {
+pub(crate) fn secret(one: u64, other: u64) -> [u8; 16] {
     let mut bytes = [0; 16];
     bytes[..8].copy_from_slice(&one.to_le_bytes());
     bytes[8..].copy_from_slice(&other.to_le_bytes());

@@ -3,6 +3,7 @@ ghost use Rattle.sidecar_cli.specs.World.{world_at};
 
 use crate::checking::check;
 use crate::playing::play;
+use crate::serving::serve_port;
 use crate::{Status, World};
 use keeper_core::Keeper;
 use keeper_journal::AnyKeeper;
@@ -15,18 +16,23 @@ use sidecar_words::{Mode, Words, WordsErr, read_words};
 use state_core::Store;
 use std::alloc::Global;
 use std::sync::Wait;
+use std::thread::Threads;
 
 /// Runs the command that `words` ask for, without the program's name, over a world, and writes to the note how it ended.
 ///
 /// With `--stdio` the requests of one connection are answered, over stores that are started for it and whose disks are given back; with
-/// `--check` the resources are read and counted. Words without a mode are refused, as all words that mean nothing.
-pub fn sidecar_main<S: Source, N: Sink, E: Sink, F: Files, L: Link, C: Clock, O: Outside, W: Wait>(
-    rt: &W,
-    alloc: Global,
-    words: &[Text],
-    world: &mut World<S, N, E, F, L, C, O>,
-) -> Status
-    ensures { IsMain O.Disk.Disk ⟦<AnyKeeper<O::Disk> as Keeper>⟧ ⟦<Store<AnyKeeper<O::Disk>> as ObjectKinds>⟧.kinds (λ n. ⟦<Pcg64 as Rng>⟧.stream (⟦<Pcg64 as SeedableRng>⟧.of_seed (⟦<Pcg64 as SeedableRng>⟧.seed_of_u64 n))) words.now (world_at S.Source N.Sink E.Sink F.Files L.Link C.Clock (λ o. record { disks = O.disks o; calls = O.calls o; numbers = O.numbers o; faults = O.faults o }) world.old) (world_at S.Source N.Sink E.Sink F.Files L.Link C.Clock (λ o. record { disks = O.disks o; calls = O.calls o; numbers = O.numbers o; faults = O.faults o }) world.new) result }
+/// `--check` the resources are read and counted; without either the connections of a port are served, by workers side by side. Words that mean nothing are refused.
+pub fn sidecar_main<
+    S: Source,
+    N: Sink,
+    E: Sink,
+    F: Files,
+    L: Link,
+    C: Clock,
+    O: Outside,
+    W: Threads + Wait + Sync,
+>(rt: &W, alloc: Global, words: &[Text], world: &mut World<S, N, E, F, L, C, O>) -> Status
+    ensures { IsMain O.Disk.Disk ⟦<AnyKeeper<O::Disk> as Keeper>⟧ ⟦<Store<AnyKeeper<O::Disk>> as ObjectKinds>⟧.kinds (λ n. ⟦<Pcg64 as Rng>⟧.stream (⟦<Pcg64 as SeedableRng>⟧.of_seed (⟦<Pcg64 as SeedableRng>⟧.seed_of_u64 n))) words.now (world_at S.Source N.Sink E.Sink F.Files L.Link C.Clock O.Outside world.old) (world_at S.Source N.Sink E.Sink F.Files L.Link C.Clock O.Outside world.new) result }
 {
     let status = run(rt, alloc, words, world);
     status.tell(&mut world.note);
@@ -34,13 +40,17 @@ pub fn sidecar_main<S: Source, N: Sink, E: Sink, F: Files, L: Link, C: Clock, O:
 }
 
 /// Reads the words, and does what they mean.
-fn run<S: Source, N: Sink, E: Sink, F: Files, L: Link, C: Clock, O: Outside, W: Wait>(
-    rt: &W,
-    alloc: Global,
-    words: &[Text],
-    world: &mut World<S, N, E, F, L, C, O>,
-) -> Status
-    ensures { IsRun O.Disk.Disk ⟦<AnyKeeper<O::Disk> as Keeper>⟧ ⟦<Store<AnyKeeper<O::Disk>> as ObjectKinds>⟧.kinds (λ n. ⟦<Pcg64 as Rng>⟧.stream (⟦<Pcg64 as SeedableRng>⟧.of_seed (⟦<Pcg64 as SeedableRng>⟧.seed_of_u64 n))) words.now (world_at S.Source N.Sink E.Sink F.Files L.Link C.Clock (λ o. record { disks = O.disks o; calls = O.calls o; numbers = O.numbers o; faults = O.faults o }) world.old) (world_at S.Source N.Sink E.Sink F.Files L.Link C.Clock (λ o. record { disks = O.disks o; calls = O.calls o; numbers = O.numbers o; faults = O.faults o }) world.new) result }
+fn run<
+    S: Source,
+    N: Sink,
+    E: Sink,
+    F: Files,
+    L: Link,
+    C: Clock,
+    O: Outside,
+    W: Threads + Wait + Sync,
+>(rt: &W, alloc: Global, words: &[Text], world: &mut World<S, N, E, F, L, C, O>) -> Status
+    ensures { IsRun O.Disk.Disk ⟦<AnyKeeper<O::Disk> as Keeper>⟧ ⟦<Store<AnyKeeper<O::Disk>> as ObjectKinds>⟧.kinds (λ n. ⟦<Pcg64 as Rng>⟧.stream (⟦<Pcg64 as SeedableRng>⟧.of_seed (⟦<Pcg64 as SeedableRng>⟧.seed_of_u64 n))) words.now (world_at S.Source N.Sink E.Sink F.Files L.Link C.Clock O.Outside world.old) (world_at S.Source N.Sink E.Sink F.Files L.Link C.Clock O.Outside world.new) result }
 {
     match read_words(alloc, words) {
         Ok(given) => command(rt, alloc, given, world),
@@ -50,17 +60,21 @@ fn run<S: Source, N: Sink, E: Sink, F: Files, L: Link, C: Clock, O: Outside, W: 
 }
 
 /// Does what the words mean.
-fn command<S: Source, N: Sink, E: Sink, F: Files, L: Link, C: Clock, O: Outside, W: Wait>(
-    rt: &W,
-    alloc: Global,
-    given: Words,
-    world: &mut World<S, N, E, F, L, C, O>,
-) -> Status
-    ensures { IsCommand O.Disk.Disk ⟦<AnyKeeper<O::Disk> as Keeper>⟧ ⟦<Store<AnyKeeper<O::Disk>> as ObjectKinds>⟧.kinds (λ n. ⟦<Pcg64 as Rng>⟧.stream (⟦<Pcg64 as SeedableRng>⟧.of_seed (⟦<Pcg64 as SeedableRng>⟧.seed_of_u64 n))) given (world_at S.Source N.Sink E.Sink F.Files L.Link C.Clock (λ o. record { disks = O.disks o; calls = O.calls o; numbers = O.numbers o; faults = O.faults o }) world.old) (world_at S.Source N.Sink E.Sink F.Files L.Link C.Clock (λ o. record { disks = O.disks o; calls = O.calls o; numbers = O.numbers o; faults = O.faults o }) world.new) result }
+fn command<
+    S: Source,
+    N: Sink,
+    E: Sink,
+    F: Files,
+    L: Link,
+    C: Clock,
+    O: Outside,
+    W: Threads + Wait + Sync,
+>(rt: &W, alloc: Global, given: Words, world: &mut World<S, N, E, F, L, C, O>) -> Status
+    ensures { IsCommand O.Disk.Disk ⟦<AnyKeeper<O::Disk> as Keeper>⟧ ⟦<Store<AnyKeeper<O::Disk>> as ObjectKinds>⟧.kinds (λ n. ⟦<Pcg64 as Rng>⟧.stream (⟦<Pcg64 as SeedableRng>⟧.of_seed (⟦<Pcg64 as SeedableRng>⟧.seed_of_u64 n))) given (world_at S.Source N.Sink E.Sink F.Files L.Link C.Clock O.Outside world.old) (world_at S.Source N.Sink E.Sink F.Files L.Link C.Clock O.Outside world.new) result }
 {
     match given.mode {
         Mode::Stdio => play(rt, alloc, given, world),
         Mode::Check => check(alloc, &given, world),
-        Mode::Serve => Status::Usage,
+        Mode::Serve => serve_port(rt, alloc, given, world),
     }
 }

@@ -1,11 +1,13 @@
 ghost use Rattle.std.specs.Prelude.{◌≡◌, ◌++◌, length, map, IfOk, IfErr, codes, decimal};
 ghost use Rattle.state_core.specs.Store.{keeper_of};
-ghost use Rattle.sidecar_core.specs.Did.{IsLone, IsPassOf};
+ghost use Rattle.sidecar_core.specs.Did.{IsLone, IsPassOf, IsSoundPass};
 ghost use Rattle.sidecar_core.specs.Pass.{cells_of, seats_of};
 ghost use Rattle.sidecar_core.specs.Started.{IsRoomFor, IsStarted};
 ghost use Rattle.sidecar_keepers.specs.Kinds.{AllFit};
 ghost use Rattle.sidecar_keepers.specs.Stores.{stores_of};
 ghost use Rattle.sidecar_cli.specs.Play.{IsDown, IsUp, SaysOfKeepers};
+ghost use Rattle.sidecar_cli.specs.World.{outside_at};
+ghost use Rattle.sidecar_serving.specs.Passes.{root_pass};
 ghost use Rattle.sidecar_cli.specs.declared.status.Status.TheVariants as ends;
 
 use crate::configuring::placed;
@@ -15,8 +17,9 @@ use keeper_core::Keeper;
 use keeper_journal::AnyKeeper;
 use side_base::{Blob, NoMemory, Text};
 use side_world::{Disk, Outside};
-use sidecar_core::{Config, Pass, Room, Shared};
+use sidecar_core::{Config, ObjectKinds, Pass, Room, Shared};
 use sidecar_keepers::{KeepersErr, start_keepers};
+use state_core::Store;
 use std::alloc::Global;
 
 /// All objects of a run, the pass of their root seats, and the room for their end.
@@ -35,12 +38,14 @@ pub(crate) fn start_objects<O: Outside>(
     outside: &mut O,
 ) -> Result<Started<AnyKeeper<O::Disk>>, Status>
     ensures same { IfOk result (λ up. up.shared.config ≡ config) }
-    ensures up { IfOk result (λ up. IsUp O.Disk.Disk ⟦<AnyKeeper<O::Disk> as Keeper>⟧ config (record { disks = O.disks outside.old; calls = O.calls outside.old; numbers = O.numbers outside.old; faults = O.faults outside.old }) (record { disks = O.disks outside.new; calls = O.calls outside.new; numbers = O.numbers outside.new; faults = O.faults outside.new }) up.shared.objects up.pass) }
+    ensures up { IfOk result (λ up. IsUp O.Disk.Disk ⟦<AnyKeeper<O::Disk> as Keeper>⟧ ⟦<Store<AnyKeeper<O::Disk>> as ObjectKinds>⟧.kinds config (outside_at O.Outside outside.old) (outside_at O.Outside outside.new) up.shared.objects up.pass) }
     ensures pass { IfOk result (λ up. IsPassOf (cells_of up.shared.objects) (seats_of up.pass)) }
     ensures lone { IfOk result (λ up. IsLone (cells_of up.shared.objects) (seats_of up.pass)) }
+    ensures sound { IfOk result (λ up. IsSoundPass ⟦<Store<AnyKeeper<O::Disk>> as ObjectKinds>⟧.kinds (cells_of up.shared.objects) (seats_of up.pass)) }
+    ensures root { IfOk result (λ up. seats_of up.pass ≡ root_pass 0 (cells_of up.shared.objects)) }
     ensures room { IfOk result (λ up. IsRoomFor (length up.shared.objects.stores.items) up.room) }
     ensures fit { IfOk result (λ up. AllFit (stores_of up.shared.config.components) (map (λ cell. keeper_of cell.first) up.shared.objects.stores.items)) }
-    ensures down { IfErr result (λ status. IsDown O.Disk.Disk config (record { disks = O.disks outside.old; calls = O.calls outside.old; numbers = O.numbers outside.old; faults = O.faults outside.old }) (record { disks = O.disks outside.new; calls = O.calls outside.new; numbers = O.numbers outside.new; faults = O.faults outside.new }) status) }
+    ensures down { IfErr result (λ status. IsDown O.Disk.Disk config (outside_at O.Outside outside.old) (outside_at O.Outside outside.new) status) }
 {
     match start_keepers(alloc, &config.components, secret, outside) {
         Ok(keepers) => over(alloc, config, keepers),
@@ -59,6 +64,8 @@ fn over<D: Disk>(
     ensures started { IfOk result (λ up. IsStarted config keepers.items config up.shared.objects up.pass) }
     ensures pass { IfOk result (λ up. IsPassOf (cells_of up.shared.objects) (seats_of up.pass)) }
     ensures lone { IfOk result (λ up. IsLone (cells_of up.shared.objects) (seats_of up.pass)) }
+    ensures sound { IfOk result (λ up. IsSoundPass ⟦<Store<AnyKeeper<D>> as ObjectKinds>⟧.kinds (cells_of up.shared.objects) (seats_of up.pass)) }
+    ensures root { IfOk result (λ up. seats_of up.pass ≡ root_pass 0 (cells_of up.shared.objects)) }
     ensures room { IfOk result (λ up. IsRoomFor (length up.shared.objects.stores.items) up.room) }
     ensures fit { IfOk result (λ up. AllFit (stores_of up.shared.config.components) (map (λ cell. keeper_of cell.first) up.shared.objects.stores.items)) }
     ensures lacks { IfErr result (λ status. status ≡ ends.NoMemory) }

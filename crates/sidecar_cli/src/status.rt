@@ -27,6 +27,7 @@ pub enum Device {
     Sink,
     Files,
     Disk,
+    Acceptor,
     Outside,
 }
 
@@ -100,6 +101,7 @@ fn name_of(device: Device) -> &'static [u8]
         Device::Sink => b"sink",
         Device::Files => b"files",
         Device::Disk => b"disk",
+        Device::Acceptor => b"acceptor",
         Device::Outside => b"outside",
     }
 }

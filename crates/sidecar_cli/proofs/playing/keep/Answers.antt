@@ -9,6 +9,9 @@ session-requires-clause-pass g c κs within = c.in-Ok.ensures.pass
 pub session-requires-clause-lone : goal.session-requires-clause-lone
 session-requires-clause-lone g c κs within = c.in-Ok.ensures.lone
 
+pub session-requires-clause-sound : goal.session-requires-clause-sound
+session-requires-clause-sound g c κs within = c.in-Ok.ensures.sound
+
 pub session-requires-clause-room : goal.session-requires-clause-room
 session-requires-clause-room g c κs within = c.in-Ok.ensures.room
 

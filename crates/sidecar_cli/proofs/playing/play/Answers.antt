@@ -1,18 +1,17 @@
-use Rattle.sidecar_cli.specs.World.{OutsideAt, world_at}
+use Rattle.sidecar_cli.specs.World.{outside_at, world_at}
 use Rattle.sidecar_cli.proofs.Fitting.{begun_by, numbered}
 use Rattle.sidecar_cli.proofs.playing.play.Goals as goal
 
 pub returns : goal.returns
 returns g c =
-    let o = c.start_numbers-seed.new.outside in
-    let after : OutsideAt = record { disks = g.O.Outside.disks o; calls = g.O.Outside.calls o; numbers = g.O.Outside.numbers o; faults = g.O.Outside.faults o } in
-    let before = world_at g.S.Source g.N.Sink g.E.Sink g.F.Files g.L.Link g.C.Clock (λ o. record { disks = g.O.Outside.disks o; calls = g.O.Outside.calls o; numbers = g.O.Outside.numbers o; faults = g.O.Outside.faults o }) c.args.world.now in
+    let after = outside_at g.O.Outside c.start_numbers-seed.new.outside in
+    let before = world_at g.S.Source g.N.Sink g.E.Sink g.F.Files g.L.Link g.C.Clock g.O.Outside c.args.world.now in
     record {
       seed = c.start_numbers-seed.result.0;
       one = c.start_numbers-seed.ensures.asked.0;
       other = c.start_numbers-seed.ensures.asked.1;
       between = record before { outside = after };
       asked = c.start_numbers-seed.ensures.asked.2;
-      only = numbered before after c.start_numbers-seed.ensures.disks c.start_numbers-seed.ensures.calls c.start_numbers-seed.ensures.faults;
+      only = numbered before after c.start_numbers-seed.ensures.disks c.start_numbers-seed.ensures.calls c.start_numbers-seed.ensures.backs c.start_numbers-seed.ensures.faults;
       begun = begun_by c.words_from-rng.ensures c.begin.ensures;
     }

@@ -1,5 +1,4 @@
-use Rattle.std.proofs.Common.{refl}
-use Rattle.sidecar_cli.specs.Run.{played, checked, refused}
+use Rattle.sidecar_cli.specs.Run.{played, checked, served}
 use Rattle.sidecar_cli.proofs.running.command.Goals as goal
 
 pub returns-in-Stdio : goal.returns-in-Stdio
@@ -9,4 +8,4 @@ pub returns-in-Check : goal.returns-in-Check
 returns-in-Check g c = checked c.in-Check.is c.check.ensures
 
 pub returns-in-Serve : goal.returns-in-Serve
-returns-in-Serve g c = refused c.in-Serve.is refl refl
+returns-in-Serve g c = served c.in-Serve.is c.serve_port.ensures

@@ -1,5 +1,5 @@
 use Rattle.std.proofs.Common.{◌∙◌, length, ap}
-use Rattle.sidecar_cli.proofs.Fitting.{all_wide, same_stores, fit_started, started_of}
+use Rattle.sidecar_cli.proofs.Fitting.{all_wide, same_stores, fit_started, root_started, started_of}
 use Rattle.sidecar_cli.proofs.starting.over.Goals as goal
 
 pub start-requires : goal.start-requires
@@ -13,3 +13,6 @@ returns-in-Ok-clause-started g c = started_of c.in-Ok.ensures.started
 
 pub returns-in-Ok-clause-fit : goal.returns-in-Ok-clause-fit
 returns-in-Ok-clause-fit g c = fit_started c.in-Ok.ensures.started c.requires
+
+pub returns-in-Ok-clause-root : goal.returns-in-Ok-clause-root
+returns-in-Ok-clause-root g c = root_started c.in-Ok.ensures.started

@@ -1,0 +1,23 @@
+ghost use Rattle.sidecar_core.specs.Did.{IsPassOf};
+ghost use Rattle.sidecar_core.specs.Pass.{cells_of, seats_of};
+
+use crate::due::Due;
+use keeper_core::Keeper;
+use rand_core::Rng;
+use side_world::{Acceptor, Clock, Link};
+use sidecar_core::{Pass, Shared};
+use sidecar_workers::Exit;
+
+/// What one worker works with: a pass of its own over the shared objects, an acceptor, a link, a clock and random words.
+pub(crate) struct Serving<'a, K: Keeper, A: Acceptor, L: Link, C: Clock, R: Rng> {
+    pub(crate) shared: &'a Shared<K>,
+    pub(crate) pass: Pass<K>,
+    pub(crate) acceptor: A,
+    pub(crate) link: L,
+    pub(crate) clock: C,
+    pub(crate) rng: R,
+    pub(crate) due: Due<A::From, A::Into>,
+    /// How it ended, if a connection or a turn of its own ended it.
+    pub(crate) exit: Option<Exit>,
+    ghost of: { IsPassOf (cells_of shared.now.objects) (seats_of pass) },
+}
