@@ -1,21 +1,25 @@
 -- A session that goes on.
-use Rattle.std.proofs.Common.{◌≡◌, ℕ, suc, ◌+◌, Bool, true, false, List, [], ◌∷◌, ◌++◌, length, flat_map, Option, Some, None, is_some, Result, Ok, refl, sym, ap, subst, ◌∙◌, arith, append_assoc, append-nil, length-append, if◌then◌else◌}
+use Rattle.std.proofs.Common.{◌≡◌, ℕ, suc, ◌+◌, Bool, true, false, List, [], ◌∷◌, ◌++◌, ◌<◌, ◌≤◌, length, flat_map, inl, inr, Option, Some, None, is_some, Result, Ok, refl, sym, ap, subst, ◌∙◌, arith, append_assoc, append-nil, length-append, if◌then◌else◌}
 use Rattle.std.proofs.lemmas.List.{map-append}
 use Rattle.std.proofs.lemmas.List.Elements.{All-nil, All-push}
 use Rattle.std.proofs.lemmas.Grind.{flat_map-append}
 use Rattle.side_base.specs.declared.message.Request.{Request}
 use Rattle.side_base.specs.declared.message.Response.{Response}
+use Rattle.side_world.specs.Told.{Told}
 use Rattle.side_world.proofs.Composed.{told_nothing, took_nothing, took_on, told_on}
 use Rattle.turn_cell.specs.declared.error.ApiErr.{ApiErr}
 use Rattle.http_frames.specs.Framing.{State, waiting, fed, grown}
 use Rattle.http_frames.specs.Written.{written, continue_bytes}
-use Rattle.http_frames.specs.Streams.{Midway, GivesRequest, GivesContinue, asks}
+use Rattle.http_frames.specs.Streams.{IsMarked, IsWholeStream, Midway, GivesRequest, GivesContinue, asks}
 use Rattle.http_frames.specs.declared.refusal.FrameErr.{FrameErr}
 use Rattle.conn_serve.specs.declared.ended.Ended.{Ended}
-use Rattle.conn_serve.specs.Exchanged.{Exchanged, AreAnswered, IsStop, request_in, is_head, answer_bytes, out_of, wholes_of}
+use Rattle.conn_serve.specs.Exchanged.{Exchanged, AreAnswered, IsMark, IsStop, request_in, is_head, answer_bytes, out_of, wholes_of}
 use Rattle.conn_serve.specs.Ends.{SinkAt, SourceAt, Sent, Cut, Passed, Read, IsFinish}
-use Rattle.conn_serve.specs.Going.{Going, mark_at}
+use Rattle.conn_serve.specs.Going.{Gathering, Going, mark_at}
+use Rattle.conn_serve.specs.Answering.{MakesRoom, keeps, sends, breaks}
+use Rattle.conn_serve.specs.Sending.{SentBeforeRead, GathersFew}
 use Rattle.conn_serve.proofs.Moved.{two_sent, sent_then_cut, finish_after}
+use Rattle.conn_serve.proofs.Sending.{nothing_read, read_on, before_on, before_more, gathers_none, gathers_beside, gathers_more, few_of, few_with}
 
 module _ {E : Type 0} (exchange : Request → List E → Result Response ApiErr → Type 0) where
   -- one more answered request
@@ -35,6 +39,8 @@ module _ {E : Type 0} (exchange : Request → List E → Result Response ApiErr 
     below = omega arith;
     acted = none-done;
     passed = record { sent = []; went = record { told = told_nothing sink.contents; no_fault = refl }; whole = refl };
+    before_read = nothing_read sink;
+    gathering = gathers_none [] [] sink sink ([], told_nothing sink.contents);
     read = record { took = took_nothing source.left; taken = told_nothing source.taken; no_fault = refl };
   }
 
@@ -44,6 +50,10 @@ out_more done x = flat_map-append answer_bytes done (x ∷ []) ∙ ap (λ l. out
 pub marks : (asking continued : Bool) → asking ≡ continued → (if asking then continue_bytes else []) ≡ mark_at continued
 marks true continued is = subst (λ b. continue_bytes ≡ mark_at b) is refl
 marks false continued is = subst (λ b. [] ≡ mark_at b) is refl
+
+pub marked_is : (rest : List ℕ) (continued : Bool) → IsMarked rest continued → IsMark rest (mark_at continued)
+marked_is rest true asking = inl (asking, refl)
+marked_is rest false asking = inr (asking, refl)
 
 module _ {E : Type 0} (exchange : Request → List E → Result Response ApiErr → Type 0) (did : List E → Type 0) (source source' : SourceAt) (sink sink' : SinkAt) (state : State) (number : ℕ) (out : List ℕ) (g : Going exchange did source source' sink sink' state number out) where
   -- all that is to be sent, where this comes behind what is gathered
@@ -61,9 +71,17 @@ module _ {E : Type 0} (exchange : Request → List E → Result Response ApiErr 
   pub cut_all : (sink'' : SinkAt) → Cut out sink' sink'' → Cut (out_of g.done ++ mark_at state.continued) sink sink''
   cut_all sink'' cut = subst (λ l. Cut l sink sink'') g.passed.whole (sent_then_cut g.passed.sent out sink sink' sink'' g.passed.went cut)
 
-  -- more bytes were read
-  pub fed_on : (piece : List ℕ) (source'' : SourceAt) → Read piece source' source'' → Midway (g.bytes ++ piece) (wholes_of g.done) (fed state piece) → Going exchange did source source'' sink sink' (fed state piece) number out
-  fed_on piece source'' read midway = record {
+  -- what the sink has of the answers, whatever it is sent then
+  pub before_still : (sink'' : SinkAt) (added : List ℕ) → Told sink'.contents sink''.contents added → SentBeforeRead g.bytes g.done sink sink''
+  before_still sink'' added told = before_on g.bytes g.done sink sink' sink'' g.before_read added told
+
+  pub few_still : (sink'' : SinkAt) (added : List ℕ) → Told sink'.contents sink''.contents added → GathersFew g.done sink sink''
+  few_still sink'' added told = few_of g.done out sink sink' sink'' g.gathering added told
+
+  -- all that was gathered was sent, and then more bytes were read
+  pub fed_on : (sink'' : SinkAt) → Sent out sink' sink'' → (piece : List ℕ) (source'' : SourceAt) → Read piece source' source'' → length piece ≤ 16384 → IsWholeStream g.bytes (wholes_of g.done) state None → Midway (g.bytes ++ piece) (wholes_of g.done) (fed state piece)
+      → Going exchange did source source'' sink sink'' (fed state piece) number []
+  fed_on sink'' sent piece source'' read short stream midway = record {
     bytes = g.bytes ++ piece;
     done = g.done;
     midway = midway;
@@ -72,7 +90,10 @@ module _ {E : Type 0} (exchange : Request → List E → Result Response ApiErr 
     count = g.count;
     below = g.below;
     acted = g.acted;
-    passed = subst (λ b. Passed (out_of g.done ++ mark_at b) out sink sink') (sym (still state.refused g.midway.waits)) g.passed;
+    passed = subst (λ b. Passed (out_of g.done ++ mark_at b) [] sink sink'') (sym (still state.refused g.midway.waits))
+        (record { sent = g.passed.sent ++ out; went = two_sent g.passed.sent out sink sink' sink'' g.passed.went sent; whole = append-nil (g.passed.sent ++ out) ∙ g.passed.whole });
+    before_read = read_on g.bytes piece g.done state.pending (mark_at state.continued) sink sink'' short stream.stream (marked_is state.pending state.continued stream.marked) (sent_all sink'' sent).told;
+    gathering = gathers_none g.done [] sink sink'' (mark_at state.continued, (sent_all sink'' sent).told);
     read = record {
       took = took_on source.left source'.left source''.left g.bytes piece g.read.took read.took;
       taken = told_on source.taken source'.taken source''.taken g.bytes piece g.read.taken read.taken;
@@ -83,21 +104,6 @@ module _ {E : Type 0} (exchange : Request → List E → Result Response ApiErr 
       still : (refused : Option FrameErr) → refused ≡ None → (grown refused state piece).continued ≡ state.continued
       still None is = refl
       still (Some error) is = absurd (cc)
-
-  -- all that was gathered was sent
-  pub flushed_on : (sink'' : SinkAt) → Sent out sink' sink'' → Going exchange did source source' sink sink'' state number []
-  flushed_on sink'' sent = record {
-    bytes = g.bytes;
-    done = g.done;
-    midway = g.midway;
-    answered = g.answered;
-    going = g.going;
-    count = g.count;
-    below = g.below;
-    acted = g.acted;
-    passed = record { sent = g.passed.sent ++ out; went = two_sent g.passed.sent out sink sink' sink'' g.passed.went sent; whole = append-nil (g.passed.sent ++ out) ∙ g.passed.whole };
-    read = g.read;
-  }
 
   -- `Continue` was gathered for what comes next
   pub continue_on : (state' : State) (out' : List ℕ) → GivesContinue g.bytes (wholes_of g.done) state state' → out' ≡ out ++ continue_bytes → Going exchange did source source' sink sink' state' number out'
@@ -115,6 +121,8 @@ module _ {E : Type 0} (exchange : Request → List E → Result Response ApiErr 
       went = g.passed.went;
       whole = ap (λ l. g.passed.sent ++ l) is ∙ behind continue_bytes ∙ ap (λ b. (out_of g.done ++ mark_at b) ++ continue_bytes) gives.untold ∙ ap (λ l. l ++ continue_bytes) (append-nil (out_of g.done)) ∙ ap (λ (z : State). out_of g.done ++ mark_at z.continued) (sym gives.told);
     };
+    before_read = g.before_read;
+    gathering = gathers_beside g.done out out' sink sink' (omega (arith, ap length is, length-append out continue_bytes)) g.gathering;
     read = g.read;
   }
 
@@ -142,25 +150,47 @@ module _ {E : Type 0} (exchange : Request → List E → Result Response ApiErr 
   pub wholes_too : (response : Response) (stop : Option Ended) → Midway g.bytes (wholes_of (g.done ++ answered_as response stop ∷ [])) state'
   wholes_too response stop = subst (λ l. Midway g.bytes l state') (sym (map-append (λ x. x.whole) g.done (answered_as response stop ∷ []))) gives.midway
 
-  pub answered_on : (fresh : state'.continued ≡ false) (response : Response) (out' : List ℕ) (sink'' : SinkAt) → exchange request trace (Ok response) → IsStop (number + 1) request None → Passed (out ++ written response (is_head request.method) false) out' sink' sink''
-      → Going exchange did' source source' sink sink'' state' (number + 1) out'
-  answered_on fresh response out' sink'' ran stops passed = record {
-    bytes = g.bytes;
-    done = g.done ++ answered_as response None ∷ [];
-    midway = wholes_too response None;
-    answered = answered_too response None ran stops;
-    going = All-push (λ (x : Exchanged E). x.stop ≡ None) g.done (answered_as response None) g.going refl;
-    count = omega (arith, g.count, length-append g.done (answered_as response None ∷ []));
-    below = omega (arith, g.below, stops.2);
-    acted = traced response None;
-    passed = record {
-      sent = g.passed.sent ++ passed.sent;
-      went = two_sent g.passed.sent passed.sent sink sink' sink'' g.passed.went passed.went;
-      whole = append_assoc g.passed.sent passed.sent out' ∙ ap (λ l. g.passed.sent ++ l) passed.whole ∙ with_response response None
-          ∙ sym (append-nil (out_of (g.done ++ answered_as response None ∷ []))) ∙ ap (λ b. out_of (g.done ++ answered_as response None ∷ []) ++ mark_at b) (sym fresh);
-    };
-    read = g.read;
-  }
+  -- what the sink has of the answers, whatever it is sent then
+  pub before_with : (response : Response) (stop : Option Ended) (sink'' : SinkAt) (added : List ℕ) → Told sink'.contents sink''.contents added → SentBeforeRead g.bytes (g.done ++ answered_as response stop ∷ []) sink sink''
+  before_with response stop sink'' added told = before_more g.bytes g.done (answered_as response stop) sink sink'' (before_still exchange did source source' sink sink' state number out g sink'' added told)
+
+  pub few_with_it : (response : Response) (stop : Option Ended) (sink'' : SinkAt) (added : List ℕ) → Told sink'.contents sink''.contents added → GathersFew (g.done ++ answered_as response stop ∷ []) sink sink''
+  few_with_it response stop sink'' added told = few_with g.done (answered_as response stop) out sink sink' sink'' g.gathering added told
+
+  module _ (fresh : state'.continued ≡ false) (response : Response) (out' : List ℕ) (ran : exchange request trace (Ok response)) (stops : IsStop (number + 1) request None) where
+    goes : (sink'' : SinkAt) (passed : Passed (out ++ written response (is_head request.method) false) out' sink' sink'') → Gathering (g.done ++ answered_as response None ∷ []) out' sink sink'' → Going exchange did' source source' sink sink'' state' (number + 1) out'
+    goes sink'' passed gathering = record {
+      bytes = g.bytes;
+      done = g.done ++ answered_as response None ∷ [];
+      midway = wholes_too response None;
+      answered = answered_too response None ran stops;
+      going = All-push (λ (x : Exchanged E). x.stop ≡ None) g.done (answered_as response None) g.going refl;
+      count = omega (arith, g.count, length-append g.done (answered_as response None ∷ []));
+      below = omega (arith, g.below, stops.2);
+      acted = traced response None;
+      passed = record {
+        sent = g.passed.sent ++ passed.sent;
+        went = two_sent g.passed.sent passed.sent sink sink' sink'' g.passed.went passed.went;
+        whole = append_assoc g.passed.sent passed.sent out' ∙ ap (λ l. g.passed.sent ++ l) passed.whole ∙ with_response response None
+            ∙ sym (append-nil (out_of (g.done ++ answered_as response None ∷ []))) ∙ ap (λ b. out_of (g.done ++ answered_as response None ∷ []) ++ mark_at b) (sym fresh);
+      };
+      before_read = before_with response None sink'' passed.sent passed.went.told;
+      gathering = gathering;
+      read = g.read;
+    }
+
+    -- what was gathered is kept, or was sent
+    pub answered_on : (sink'' : SinkAt) → MakesRoom (out ++ written response (is_head request.method) false) out' sink' sink'' None → Going exchange did' source source' sink sink'' state' (number + 1) out'
+    answered_on sink'' (keeps same kept below still) = subst (λ z. Going exchange did' source source' sink z state' (number + 1) out') (sym still)
+        (goes sink' (record { sent = []; went = record { told = told_nothing sink'.contents; no_fault = refl }; whole = kept })
+        (gathers_more g.done (answered_as response None) out out' sink sink' (kept ∙ ap (λ (r : Request). out ++ written response (is_head r.method) false) gives.is) (subst (λ (l : List ℕ). length l < 65536) (sym kept) below) g.gathering))
+    answered_on sink'' (sends same bare sent) = goes sink'' (record { sent = out ++ written response (is_head request.method) false; went = sent; whole = ap (λ l. (out ++ written response (is_head request.method) false) ++ l) bare ∙ append-nil (out ++ written response (is_head request.method) false) })
+        (gathers_none (g.done ++ answered_as response None ∷ []) out' sink sink'' (
+          [],
+          subst (λ l. Told sink.contents sink''.contents l) (with_response response None ∙ sym (append-nil (out_of (g.done ++ answered_as response None ∷ []))))
+              (two_sent g.passed.sent (out ++ written response (is_head request.method) false) sink sink' sink'' g.passed.went sent).told,
+        ))
+    answered_on sink'' (breaks same cut) = absurd (cc)
 
 pub none_of : {X : Type 0} (o : Option X) → ((x : X) → o ≡ Some x → ⊥) → o ≡ None
 none_of None never = refl

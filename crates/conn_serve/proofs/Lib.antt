@@ -1,3 +1,4 @@
 mod Moved
+mod Sending
 mod Going
 mod Over

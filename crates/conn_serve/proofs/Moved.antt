@@ -1,5 +1,6 @@
 -- What is sent and read, call after call.
-use Rattle.std.proofs.Common.{◌≡◌, ℕ, ◌==◌, ◌||◌, Bool, true, false, List, [], ◌++◌, take, Option, Some, None, refl, sym, ap, subst, ◌∙◌}
+use Rattle.std.proofs.Common.{◌≡◌, ℕ, ◌≤◌, ◌==◌, ◌||◌, Bool, true, false, List, [], ◌++◌, length, take, Option, Some, None, refl, sym, ap, subst, ◌∙◌, arith}
+use Rattle.std.proofs.lemmas.List.{length-take}
 use Rattle.side_world.specs.Faults.{Rose}
 use Rattle.side_world.specs.Told.{Told, Took, IsDrained, EndsWhereTold}
 use Rattle.side_world.proofs.Composed.{told_on, sent_after, sent_before}
@@ -39,6 +40,10 @@ read_after source hinted source' bytes left taken faults took told no_fault = re
 drained_by : (left left' : Option (List ℕ)) → EndsWhereTold left 0 → Took left left' [] → IsDrained left'
 drained_by None left' ends took = subst IsDrained (sym took) tt
 drained_by (Some bytes) left' ends took = subst IsDrained (sym took.2) (sym took.1 ∙ ends.0 refl)
+
+-- a piece is no longer than the room for it
+pub short_piece : (n : ℕ) (into room : List ℕ) → n ≤ length room → length room ≤ 16384 → length (take n into) ≤ 16384
+short_piece n into room within short = omega (arith, length-take n into, within, short)
 
 -- a read of no bytes
 pub ended_at : (source hinted source' : SourceAt) (n : ℕ) (into : List ℕ) → n ≡ 0 → hinted.left ≡ source.left → hinted.taken ≡ source.taken → hinted.faults ≡ source.faults → Took hinted.left source'.left (take n into) → Told hinted.taken source'.taken (take n into) → EndsWhereTold hinted.left n → source'.ended ≡ (hinted.ended || (n == 0)) → source'.faults ≡ hinted.faults

@@ -1,5 +1,5 @@
 -- How a session ends.
-use Rattle.std.proofs.Common.{◌≡◌, ◌≢◌, ◌⊎◌, ◌↔◌, ℕ, ◌+◌, Bool, true, false, List, [], ◌∷◌, ◌++◌, Option, Some, None, is_some, flat_map, Result, Ok, Err, refl, sym, ap, subst, ◌∙◌, inl, inr, ⊎_elim, append-nil}
+use Rattle.std.proofs.Common.{◌≡◌, ◌≢◌, ◌⊎◌, ◌↔◌, ℕ, ◌+◌, ◌≤◌, Bool, true, false, List, [], ◌∷◌, ◌++◌, length, take, Option, Some, None, is_some, flat_map, Result, Ok, Err, refl, sym, ap, subst, ◌∙◌, inl, inr, ⊎_elim, append-nil}
 use Rattle.std.proofs.lemmas.List.Elements.{All-push}
 use Rattle.side_base.specs.declared.message.Request.{Request}
 use Rattle.side_base.specs.declared.message.Response.{Response}
@@ -16,27 +16,32 @@ use Rattle.http_frames.specs.declared.step.Step.TheVariants as step
 use Rattle.http_frames.specs.Framing.{State, Kept, Stands, waiting, fed, IsNext as IsNextStep, IsRequestStep, IsContinueStep, IsNeedStep}
 use Rattle.http_frames.specs.Requests.{IsAccepted}
 use Rattle.http_frames.specs.Written.{written, continue_bytes}
-use Rattle.http_frames.specs.Streams.{GoesOn as StreamGoesOn, Whole, IsStream, Midway, GivesRequest, IsAsking, IsMarked, IsWholeStream, asks}
+use Rattle.http_frames.specs.Streams.{GoesOn as StreamGoesOn, Whole, IsStream, Midway, GivesRequest, IsAsking, IsWholeStream, asks}
 use Rattle.conn_serve.specs.declared.ended.Ended.{Ended}
 use Rattle.conn_serve.specs.declared.ended.Ended.TheVariants.{Done, Closed, Asked, ClosedByPeer, Refused, Limit, Spent, SourceFailed, SinkFailed, NoMemory}
-use Rattle.conn_serve.specs.Exchanged.{Exchanged, Unanswered, AreAnswered, IsStop, IsMark, is_head, out_of, wholes_of}
-use Rattle.conn_serve.specs.Session.{IsNext, EndsSending, EndsAfter, EndsWithoutMemory, EndsRefused, EndsSpent, EndsWith, IsSpentAnswer, refused_bytes, trace_of}
-use Rattle.conn_serve.specs.Ends.{SinkAt, SourceAt, Sent, Cut, Passed, HasEnded, HasFailed, IsFinish, wrote, failed}
-use Rattle.conn_serve.specs.Served.{Served, NoFault, IsOver}
-use Rattle.conn_serve.specs.Answering.{Wants, Went, Answers, Finishes}
+use Rattle.conn_serve.specs.Exchanged.{Exchanged, Unanswered, IsStop, IsMark, is_head, out_of, wholes_of}
+use Rattle.conn_serve.specs.Session.{IsNext, Ends, sent_at, EndsSending, EndsAfter, EndsWithoutMemory, EndsRefused, EndsSpent, EndsWith, IsSpentAnswer, refused_bytes}
+use Rattle.conn_serve.specs.Ends.{SinkAt, SourceAt, Sent, Cut, Read, HasEnded, HasFailed, IsFinish, wrote, failed}
+use Rattle.conn_serve.specs.Served.{Served, NoFault, IsOver, HasCause, IsShown}
+use Rattle.conn_serve.specs.Answering.{Wants, Went, Answers, Finishes, keeps, sends, breaks}
 use Rattle.conn_serve.specs.Answering as wants
 use Rattle.conn_serve.proofs.Moved.{finish_after, sent_then_cut}
+use Rattle.conn_serve.proofs.Sending.{finish_tells}
 use Rattle.conn_serve.specs.Going.{Going, After, Continues, EndsBy, mark_at}
-use Rattle.conn_serve.proofs.Going.{marks, finish_all, sent_all, cut_all, fed_on, flushed_on, continue_on, answered_as, answered_too, traced, wholes_too, with_response, answered_on}
+use Rattle.conn_serve.proofs.Going.{marks, marked_is, before_still, few_still, before_with, few_with_it, finish_all, sent_all, cut_all, fed_on, continue_on, answered_as, answered_too, traced, wholes_too, with_response, answered_on}
 
 -- a mark that is sent is one of what comes next
 mark_is : (rest : List ℕ) (continued : Bool) → (continued ≡ true → IsAsking rest) → (mark_at continued ≡ []) ⊎ IsMark rest (mark_at continued)
 mark_is rest true asking = inr (inl (asking refl, refl))
 mark_is rest false asking = inl refl
 
-marked_is : (rest : List ℕ) (continued : Bool) → IsMarked rest continued → IsMark rest (mark_at continued)
-marked_is rest true asking = inl (asking, refl)
-marked_is rest false asking = inr (asking, refl)
+-- both ways to finish
+elim_finish : (ended : Ended) (bytes : List ℕ) (sink sink' : SinkAt) (result : Ended) (P : Ended → Type 0) → (Sent bytes sink sink' → P ended) → (Cut bytes sink sink' → P SinkFailed) → IsFinish ended bytes sink sink' result → P result
+elim_finish ended bytes sink sink' result P one other (wrote is sent) = subst P (sym is) (one sent)
+elim_finish ended bytes sink sink' result P one other (failed is cut) = subst P (sym is) (other cut)
+
+none_shown : {E : Type 0} (shows : ℕ → Type 0) → IsShown {E = E} shows None
+none_shown shows next count is why = absurd (cc)
 
 module _ {E : Type 0} (exchange : Request → List E → Result Response ApiErr → Type 0) (did : List E → Type 0) (shows : ℕ → Type 0) (source source' : SourceAt) (sink sink' sink'' : SinkAt) (state : State) (number : ℕ) (out : List ℕ) (g : Going exchange did source source' sink sink' state number out) where
   abbrev all : List ℕ → Type 0
@@ -48,8 +53,22 @@ module _ {E : Type 0} (exchange : Request → List E → Result Response ApiErr 
   no_fault : {bytes : List ℕ} → Sent bytes sink sink'' → NoFault source source' sink sink''
   no_fault sent = record { read = g.read.no_fault; wrote = sent.no_fault }
 
-  untraced : did (trace_of g.done None)
-  untraced = subst did (sym (append-nil (flat_map (λ x. x.trace) g.done))) g.acted
+  -- it ended so, with no more requests, when this was added to what was sent
+  over_so : (source'' : SourceAt) (ended : Ended) (added : List ℕ) → Told sink'.contents sink''.contents added → Took source.left source''.left g.bytes → Told source.taken source''.taken g.bytes → Ends exchange g.bytes g.done None (sent_at ended all front) ended → HasCause source source'' sink sink'' ended
+      → Served exchange did shows source source'' sink sink'' ended
+  over_so source'' ended added told took taken ends cause = record {
+    bytes = g.bytes;
+    done = g.done;
+    more = None;
+    session = record { answered = g.answered; ends = ends };
+    took = took;
+    taken = taken;
+    before_read = before_still exchange did source source' sink sink' state number out g sink'' added told;
+    gathered = few_still exchange did source source' sink sink' state number out g sink'' added told;
+    acted = subst did (sym (append-nil (flat_map (λ x. x.trace) g.done))) g.acted;
+    shown = none_shown shows;
+    cause = cause;
+  }
 
   -- there was no memory, and no request of which steps were made
   without_memory : (sent : List ℕ → Type 0) → sent ((out_of g.done ++ mark_at state.continued) ++ no_memory_response) → EndsWithoutMemory exchange g.bytes g.done None sent
@@ -66,67 +85,26 @@ module _ {E : Type 0} (exchange : Request → List E → Result Response ApiErr 
   pub lacking : (result : Ended) → IsFinish NoMemory (out ++ no_memory_response) sink' sink'' result → Served exchange did shows source source' sink sink'' result
   lacking result how = by (finish_all exchange did source source' sink sink' state number out g NoMemory no_memory_response sink'' result how) where
     by : IsFinish NoMemory ((out_of g.done ++ mark_at state.continued) ++ no_memory_response) sink sink'' result → Served exchange did shows source source' sink sink'' result
-    by (wrote is sent) = subst (λ e. Served exchange did shows source source' sink sink'' e) (sym is) record {
-      bytes = g.bytes;
-      done = g.done;
-      more = None;
-      session = record { answered = g.answered; ends = without_memory all sent.told };
-      took = g.read.took;
-      taken = g.read.taken;
-      acted = untraced;
-      cause = no_fault sent;
-    }
-    by (failed is cut) = subst (λ e. Served exchange did shows source source' sink sink'' e) (sym is) record {
-      bytes = g.bytes;
-      done = g.done;
-      more = None;
-      session = record { answered = g.answered; ends = inr (NoMemory, without_memory front cut.front) };
-      took = g.read.took;
-      taken = g.read.taken;
-      acted = untraced;
-      cause = (cut.failed, g.read.no_fault);
-    }
+    by whole = let added = finish_tells NoMemory (out ++ no_memory_response) sink' sink'' result how in elim_finish NoMemory ((out_of g.done ++ mark_at state.continued) ++ no_memory_response) sink sink'' result (λ e. Served exchange did shows source source' sink sink'' e)
+        (λ sent. over_so source' NoMemory added.0 added.1 g.read.took g.read.taken (without_memory all sent.told) (no_fault sent))
+        (λ cut. over_so source' SinkFailed added.0 added.1 g.read.took g.read.taken (inr (NoMemory, without_memory front cut.front)) (cut.failed, g.read.no_fault)) whole
 
   -- the sink failed while what was gathered was being sent
   pub cut_off : Cut out sink' sink'' → Served exchange did shows source source' sink sink'' SinkFailed
-  cut_off cut = let whole = cut_all exchange did source source' sink sink' state number out g sink'' cut in record {
-    bytes = g.bytes;
-    done = g.done;
-    more = None;
-    session = record { answered = g.answered; ends = inl (record { going = g.going; rest = state.pending; begins = g.midway.begins; mark = mark_at state.continued; marked = mark_is state.pending state.continued g.midway.asking; no-more = refl; wrote = whole.front }) };
-    took = g.read.took;
-    taken = g.read.taken;
-    acted = untraced;
-    cause = (whole.failed, g.read.no_fault);
-  }
+  cut_off cut = let whole = cut_all exchange did source source' sink sink' state number out g sink'' cut in
+      over_so source' SinkFailed (take cut.front.0 out) cut.front.2 g.read.took g.read.taken (inl (record { going = g.going; rest = state.pending; begins = g.midway.begins; mark = mark_at state.continued; marked = mark_is state.pending state.continued g.midway.asking; no-more = refl; wrote = whole.front })) (whole.failed, g.read.no_fault)
 
   -- what comes next is refused
   pub refused : (why : FrameErr) (result : Ended) → IsWholeStream g.bytes (wholes_of g.done) state (Some why) → (IsFinish (Refused why) (out ++ refused_bytes why) sink' sink'' result ⊎ IsFinish NoMemory (out ++ no_memory_response) sink' sink'' result) → Served exchange did shows source source' sink sink'' result
-  refused why result stream how = ⊎_elim (λ said. by (finish_all exchange did source source' sink sink' state number out g (Refused why) (refused_bytes why) sink'' result said)) (lacking result) how where
+  refused why result stream how = ⊎_elim said (lacking result) how where
     ends : (sent : List ℕ → Type 0) → sent ((out_of g.done ++ mark_at state.continued) ++ refused_bytes why) → EndsRefused exchange g.bytes g.done None sent why
     ends sent was = record { going = g.going; rest = state.pending; stream = stream.stream; refused = stream.end; mark = mark_at state.continued; marked = marked_is state.pending state.continued stream.marked; no-more = refl; wrote = was }
 
-    by : IsFinish (Refused why) ((out_of g.done ++ mark_at state.continued) ++ refused_bytes why) sink sink'' result → Served exchange did shows source source' sink sink'' result
-    by (wrote is sent) = subst (λ e. Served exchange did shows source source' sink sink'' e) (sym is) record {
-      bytes = g.bytes;
-      done = g.done;
-      more = None;
-      session = record { answered = g.answered; ends = ends all sent.told };
-      took = g.read.took;
-      taken = g.read.taken;
-      acted = untraced;
-      cause = no_fault sent;
-    }
-    by (failed is cut) = subst (λ e. Served exchange did shows source source' sink sink'' e) (sym is) record {
-      bytes = g.bytes;
-      done = g.done;
-      more = None;
-      session = record { answered = g.answered; ends = inr (Refused why, ends front cut.front) };
-      took = g.read.took;
-      taken = g.read.taken;
-      acted = untraced;
-      cause = (cut.failed, g.read.no_fault);
-    }
+    said : IsFinish (Refused why) (out ++ refused_bytes why) sink' sink'' result → Served exchange did shows source source' sink sink'' result
+    said one = let added = finish_tells (Refused why) (out ++ refused_bytes why) sink' sink'' result one in elim_finish (Refused why) ((out_of g.done ++ mark_at state.continued) ++ refused_bytes why) sink sink'' result (λ e. Served exchange did shows source source' sink sink'' e)
+        (λ sent. over_so source' (Refused why) added.0 added.1 g.read.took g.read.taken (ends all sent.told) (no_fault sent))
+        (λ cut. over_so source' SinkFailed added.0 added.1 g.read.took g.read.taken (inr (Refused why, ends front cut.front)) (cut.failed, g.read.no_fault))
+        (finish_all exchange did source source' sink sink' state number out g (Refused why) (refused_bytes why) sink'' result one)
 
   module _ (stream : IsWholeStream g.bytes (wholes_of g.done) state None) (source'' : SourceAt) (sent : Sent out sink' sink'') where
     whole_sent : Sent (out_of g.done ++ mark_at state.continued) sink sink''
@@ -147,49 +125,20 @@ module _ {E : Type 0} (exchange : Request → List E → Result Response ApiErr 
 
       -- the source has ended, between two requests
       pub done_now : state ≡ waiting [] false → Served exchange did shows source source'' sink sink'' Done
-      done_now is = record {
-        bytes = g.bytes;
-        done = g.done;
-        more = None;
-        session = record {
-          answered = g.answered;
-          ends = record {
-            all = record { going = g.going; stream = subst (λ l. IsStream g.bytes (wholes_of g.done) l) (ap (λ (z : State). z.pending) is) stream.stream; accepted = subst (λ l. IsAccepted l) (ap (λ (z : State). z.pending) is) stream.end };
-            no-more = refl;
-            wrote = subst all (ap (λ (z : State). out_of g.done ++ mark_at z.continued) is ∙ append-nil (out_of g.done)) whole_sent.told;
-          };
-        };
-        took = no_more_took;
-        taken = no_more_taken;
-        acted = untraced;
-        cause = over_now;
-      }
+      done_now is = over_so source'' Done out sent.told no_more_took no_more_taken (record {
+        all = record { going = g.going; stream = subst (λ l. IsStream g.bytes (wholes_of g.done) l) (ap (λ (z : State). z.pending) is) stream.stream; accepted = subst (λ l. IsAccepted l) (ap (λ (z : State). z.pending) is) stream.end };
+        no-more = refl;
+        wrote = subst all (ap (λ (z : State). out_of g.done ++ mark_at z.continued) is ∙ append-nil (out_of g.done)) whole_sent.told;
+      }) over_now
 
       -- or inside one
       pub closed_now : state.pending ≢ [] → Served exchange did shows source source'' sink sink'' ClosedByPeer
-      closed_now some = record {
-        bytes = g.bytes;
-        done = g.done;
-        more = None;
-        session = record { answered = g.answered; ends = (state.pending, some, with_rest) };
-        took = no_more_took;
-        taken = no_more_taken;
-        acted = untraced;
-        cause = over_now;
-      }
+      closed_now some = over_so source'' ClosedByPeer out sent.told no_more_took no_more_taken (state.pending, some, with_rest) over_now
 
     -- a read failed
     pub failed_now : HasFailed source' source'' → Served exchange did shows source source'' sink sink'' SourceFailed
-    failed_now has = record {
-      bytes = g.bytes;
-      done = g.done;
-      more = None;
-      session = record { answered = g.answered; ends = (state.pending, with_rest) };
-      took = subst (λ z. Took source.left z g.bytes) (sym has.left) g.read.took;
-      taken = subst (λ z. Told source.taken z g.bytes) (sym has.taken) g.read.taken;
-      acted = untraced;
-      cause = (subst (λ n. Rose n source''.faults) g.read.no_fault has.failed, whole_sent.no_fault);
-    }
+    failed_now has = over_so source'' SourceFailed out sent.told (subst (λ z. Took source.left z g.bytes) (sym has.left) g.read.took) (subst (λ z. Told source.taken z g.bytes) (sym has.taken) g.read.taken)
+        (state.pending, with_rest) (subst (λ n. Rose n source''.faults) g.read.no_fault has.failed, whole_sent.no_fault)
 
 -- ---- the last request
 
@@ -208,11 +157,21 @@ module _ {E : Type 0} (exchange : Request → List E → Result Response ApiErr 
   calm sent = record { read = g.read.no_fault; wrote = sent.no_fault }
 
   module _ (response : Response) (ran : exchange request trace (Ok response)) where
-    all_answered : (stop : Option Ended) → IsStop (number + 1) request stop → AreAnswered exchange 1 (with response stop)
-    all_answered stop stops = answered_too exchange did did' source source' sink sink' state number out g request state' gives trace acts response stop ran stops
-
-    all_acted : (stop : Option Ended) → did' (trace_of (with response stop) None)
-    all_acted stop = subst did' (sym (append-nil (flat_map (λ x. x.trace) (with response stop)))) (traced exchange did did' source source' sink sink' state number out g request state' gives trace acts response stop)
+    -- it ended so, with the response to this request the last one, when this was added to what was sent
+    over_with : (stop : Option Ended) (ended : Ended) (added : List ℕ) → IsStop (number + 1) request stop → Told sink'.contents sink''.contents added → Ends exchange g.bytes (with response stop) None (sent_at ended told some) ended → HasCause source source' sink sink'' ended → Served exchange did' shows source source' sink sink'' ended
+    over_with stop ended added stops told ends cause = record {
+      bytes = g.bytes;
+      done = with response stop;
+      more = None;
+      session = record { answered = answered_too exchange did did' source source' sink sink' state number out g request state' gives trace acts response stop ran stops; ends = ends };
+      took = g.read.took;
+      taken = g.read.taken;
+      before_read = before_with exchange did did' source source' sink sink' state number out g request state' gives trace acts response stop sink'' added told;
+      gathered = few_with_it exchange did did' source source' sink sink' state number out g request state' gives trace acts response stop sink'' added told;
+      acted = subst did' (sym (append-nil (flat_map (λ x. x.trace) (with response stop)))) (traced exchange did did' source source' sink sink' state number out g request state' gives trace acts response stop);
+      shown = none_shown shows;
+      cause = cause;
+    }
 
     begins_with : (stop : Option Ended) → Midway g.bytes (wholes_of (with response stop)) state'
     begins_with stop = wholes_too exchange did did' source source' sink sink' state number out g request state' gives trace acts response stop
@@ -230,17 +189,17 @@ module _ {E : Type 0} (exchange : Request → List E → Result Response ApiErr 
     }
 
     -- the session ends with this response
-    stops_so : (ended : Ended) → IsStop (number + 1) request (Some ended) → Sent (out_of (with response (Some ended))) sink sink'' → Served exchange did' shows source source' sink sink'' ended
-    stops_so Asked stops sent = record { bytes = g.bytes; done = with response (Some Asked); more = None; session = record { answered = all_answered (Some Asked) stops; ends = after Asked told sent.told }; took = g.read.took; taken = g.read.taken; acted = all_acted (Some Asked); cause = calm sent }
-    stops_so Closed stops sent = record { bytes = g.bytes; done = with response (Some Closed); more = None; session = record { answered = all_answered (Some Closed) stops; ends = after Closed told sent.told }; took = g.read.took; taken = g.read.taken; acted = all_acted (Some Closed); cause = calm sent }
-    stops_so Limit stops sent = record { bytes = g.bytes; done = with response (Some Limit); more = None; session = record { answered = all_answered (Some Limit) stops; ends = after Limit told sent.told }; took = g.read.took; taken = g.read.taken; acted = all_acted (Some Limit); cause = calm sent }
-    stops_so Done stops sent = absurd stops
-    stops_so ClosedByPeer stops sent = absurd stops
-    stops_so (Refused why) stops sent = absurd stops
-    stops_so (Spent count) stops sent = absurd stops
-    stops_so SourceFailed stops sent = absurd stops
-    stops_so SinkFailed stops sent = absurd stops
-    stops_so NoMemory stops sent = absurd stops
+    stops_so : (ended : Ended) (added : List ℕ) → IsStop (number + 1) request (Some ended) → Told sink'.contents sink''.contents added → Sent (out_of (with response (Some ended))) sink sink'' → Served exchange did' shows source source' sink sink'' ended
+    stops_so Asked added stops more sent = over_with (Some Asked) Asked added stops more (after Asked told sent.told) (calm sent)
+    stops_so Closed added stops more sent = over_with (Some Closed) Closed added stops more (after Closed told sent.told) (calm sent)
+    stops_so Limit added stops more sent = over_with (Some Limit) Limit added stops more (after Limit told sent.told) (calm sent)
+    stops_so Done added stops more sent = absurd stops
+    stops_so ClosedByPeer added stops more sent = absurd stops
+    stops_so (Refused why) added stops more sent = absurd stops
+    stops_so (Spent count) added stops more sent = absurd stops
+    stops_so SourceFailed added stops more sent = absurd stops
+    stops_so SinkFailed added stops more sent = absurd stops
+    stops_so NoMemory added stops more sent = absurd stops
 
     sending : (ended : Ended) → IsStop (number + 1) request (Some ended) → some (out_of (with response (Some ended))) → EndsSending exchange g.bytes (with response (Some ended)) None some ended
     sending Asked stops was = after Asked some was
@@ -254,52 +213,31 @@ module _ {E : Type 0} (exchange : Request → List E → Result Response ApiErr 
     sending SinkFailed stops was = absurd stops
     sending NoMemory stops was = absurd stops
 
-    finished : (ended result : Ended) → IsStop (number + 1) request (Some ended) → IsFinish ended (out_of (with response (Some ended))) sink sink'' result → Served exchange did' shows source source' sink sink'' result
-    finished ended result stops (wrote is sent) = subst (λ e. Served exchange did' shows source source' sink sink'' e) (sym is) (stops_so ended stops sent)
-    finished ended result stops (failed is cut) = subst (λ e. Served exchange did' shows source source' sink sink'' e) (sym is) record {
-      bytes = g.bytes;
-      done = with response (Some ended);
-      more = None;
-      session = record { answered = all_answered (Some ended) stops; ends = inr (ended, sending ended stops cut.front) };
-      took = g.read.took;
-      taken = g.read.taken;
-      acted = all_acted (Some ended);
-      cause = (cut.failed, g.read.no_fault);
-    }
+    finished : (ended result : Ended) (added : List ℕ) → IsStop (number + 1) request (Some ended) → Told sink'.contents sink''.contents added → IsFinish ended (out_of (with response (Some ended))) sink sink'' result → Served exchange did' shows source source' sink sink'' result
+    finished ended result added stops more how = elim_finish ended (out_of (with response (Some ended))) sink sink'' result (λ e. Served exchange did' shows source source' sink sink'' e) (stops_so ended added stops more)
+        (λ cut. over_with (Some ended) SinkFailed added stops more (inr (ended, sending ended stops cut.front)) (cut.failed, g.read.no_fault)) how
 
     -- the sink failed while responses were being sent
-    unsent : IsStop (number + 1) request None → Cut (out_of (with response None)) sink sink'' → Served exchange did' shows source source' sink sink'' SinkFailed
-    unsent stops cut = record {
-      bytes = g.bytes;
-      done = with response None;
-      more = None;
-      session = record {
-        answered = all_answered None stops;
-        ends = inl (record {
-          going = All-push (λ (x : Exchanged E). x.stop ≡ None) g.done (answered_as exchange did did' source source' sink sink' state number out g request state' gives trace acts response None) g.going refl;
-          rest = state'.pending;
-          begins = (begins_with None).begins;
-          mark = [];
-          marked = inl refl;
-          no-more = refl;
-          wrote = subst some (sym (append-nil (out_of (with response None)))) cut.front;
-        });
-      };
-      took = g.read.took;
-      taken = g.read.taken;
-      acted = all_acted None;
-      cause = (cut.failed, g.read.no_fault);
-    }
+    unsent : (added : List ℕ) → IsStop (number + 1) request None → Told sink'.contents sink''.contents added → Cut (out_of (with response None)) sink sink'' → Served exchange did' shows source source' sink sink'' SinkFailed
+    unsent added stops more cut = over_with None SinkFailed added stops more (inl (record {
+      going = All-push (λ (x : Exchanged E). x.stop ≡ None) g.done (answered_as exchange did did' source source' sink sink' state number out g request state' gives trace acts response None) g.going refl;
+      rest = state'.pending;
+      begins = (begins_with None).begins;
+      mark = [];
+      marked = inl refl;
+      no-more = refl;
+      wrote = subst some (sym (append-nil (out_of (with response None)))) cut.front;
+    })) (cut.failed, g.read.no_fault)
 
     went_to : (stop : Option Ended) (out' : List ℕ) (ended : Ended) → IsStop (number + 1) request stop → Went stop (out ++ written response (is_head request.method) (is_some stop)) out' sink' sink'' (Some ended) → Served exchange did' shows source source' sink sink'' ended
-    went_to (Some stop) out' ended stops (e, same, how) = subst (λ z. Served exchange did' shows source source' sink sink'' z) (sym (some_is same)) (finished stop e stops (subst (λ l. IsFinish stop l sink sink'' e) (written_with (Some stop)) (finish_after stop g.passed.sent (out ++ written response (is_head request.method) true) sink sink' sink'' e g.passed.went how))) where
-      some_is : Some ended ≡ Some e → ended ≡ e
-      some_is is = cc
-    went_to None out' ended stops went = ⊎_elim (λ (on : (Some ended ≡ None) × Passed (out ++ written response (is_head request.method) false) out' sink' sink''). absurd (none_is on.0))
-        (λ (off : (Some ended ≡ Some SinkFailed) × Cut (out ++ written response (is_head request.method) false) sink' sink''). subst (λ z. Served exchange did' shows source source' sink sink'' z) (sym (fails off.0)) (unsent stops (subst (λ l. Cut l sink sink'') (written_with None) (sent_then_cut g.passed.sent (out ++ written response (is_head request.method) false) sink sink' sink'' g.passed.went off.1)))) went where
-          none_is : Some ended ≡ None → ⊥
-          none_is is = absurd (cc)
-
+    went_to (Some stop) out' ended stops (e, same, how) = let added = finish_tells stop (out ++ written response (is_head request.method) true) sink' sink'' e how in
+        subst (λ z. Served exchange did' shows source source' sink sink'' z) (sym (some_is same)) (finished stop e added.0 stops added.1 (subst (λ l. IsFinish stop l sink sink'' e) (written_with (Some stop)) (finish_after stop g.passed.sent (out ++ written response (is_head request.method) true) sink sink' sink'' e g.passed.went how))) where
+          some_is : Some ended ≡ Some e → ended ≡ e
+          some_is is = cc
+    went_to None out' ended stops (keeps same kept below still) = absurd (cc)
+    went_to None out' ended stops (sends same bare sent) = absurd (cc)
+    went_to None out' ended stops (breaks same cut) = subst (λ z. Served exchange did' shows source source' sink sink'' z) (sym (fails same))
+        (unsent (take cut.front.0 (out ++ written response (is_head request.method) false)) stops cut.front.2 (subst (λ l. Cut l sink sink'') (written_with None) (sent_then_cut g.passed.sent (out ++ written response (is_head request.method) false) sink sink' sink'' g.passed.went cut))) where
           fails : Some ended ≡ Some SinkFailed → ended ≡ SinkFailed
           fails is = cc
 
@@ -310,71 +248,54 @@ module _ {E : Type 0} (exchange : Request → List E → Result Response ApiErr 
   next_is : (why : ApiErr) → exchange request trace (Err why) → IsNext exchange g.bytes g.done (next_with why)
   next_is why ran = record { left = state'.pending; begins = gives.midway.begins; ran = subst (λ r. exchange r trace (Err why)) gives.is ran }
 
-  next_acted : (why : ApiErr) → did' (trace_of g.done (Some (next_with why)))
-  next_acted why = acts (flat_map (λ x. x.trace) g.done) g.acted
+  -- it ended so, with this request ended early, when this was added to what was sent
+  over_next : (why : ApiErr) (ended : Ended) (added : List ℕ) → ((count : ℕ) → why ≡ error.Exhausted count → shows count) → Told sink'.contents sink''.contents added → Ends exchange g.bytes g.done (Some (next_with why)) (sent_at ended told some) ended → HasCause source source' sink sink'' ended → Served exchange did' shows source source' sink sink'' ended
+  over_next why ended added shown told ends cause = record {
+    bytes = g.bytes;
+    done = g.done;
+    more = Some (next_with why);
+    session = record { answered = g.answered; ends = ends };
+    took = g.read.took;
+    taken = g.read.taken;
+    before_read = before_still exchange did source source' sink sink' state number out g sink'' added told;
+    gathered = few_still exchange did source source' sink sink' state number out g sink'' added told;
+    acted = acts (flat_map (λ x. x.trace) g.done) g.acted;
+    shown = λ next count is spent. shown count (early next is ∙ spent);
+    cause = cause;
+  }
+    where
+      early : (next : Unanswered E) → Some (next_with why) ≡ Some next → why ≡ next.error
+      early next is = ap (λ (n : Unanswered E). n.error) (inner is) where
+        inner : Some (next_with why) ≡ Some next → next_with why ≡ next
+        inner same = cc
 
   no_room : (result : Ended) → exchange request trace (Err error.NoMemory) → IsFinish NoMemory (out ++ no_memory_response) sink' sink'' result → Served exchange did' shows source source' sink sink'' result
-  no_room result ran how = by (finish_all exchange did source source' sink sink' state number out g NoMemory no_memory_response sink'' result how) where
-    ends : (sent : List ℕ → Type 0) → sent ((out_of g.done ++ mark_at state.continued) ++ no_memory_response) → EndsWithoutMemory exchange g.bytes g.done (Some (next_with error.NoMemory)) sent
-    ends sent was = record { going = g.going; lacks = (next_is error.NoMemory ran, refl); mark = mark_at state.continued; rest = state.pending; begins = g.midway.begins; marked = mark_is state.pending state.continued g.midway.asking; wrote = was }
+  no_room result ran how = let added = finish_tells NoMemory (out ++ no_memory_response) sink' sink'' result how in elim_finish NoMemory ((out_of g.done ++ mark_at state.continued) ++ no_memory_response) sink sink'' result (λ e. Served exchange did' shows source source' sink sink'' e)
+      (λ sent. over_next error.NoMemory NoMemory added.0 unspent added.1 (ends told sent.told) (calm sent))
+      (λ cut. over_next error.NoMemory SinkFailed added.0 unspent added.1 (inr (NoMemory, ends some cut.front)) (cut.failed, g.read.no_fault))
+      (finish_all exchange did source source' sink sink' state number out g NoMemory no_memory_response sink'' result how) where
+        ends : (sent : List ℕ → Type 0) → sent ((out_of g.done ++ mark_at state.continued) ++ no_memory_response) → EndsWithoutMemory exchange g.bytes g.done (Some (next_with error.NoMemory)) sent
+        ends sent was = record { going = g.going; lacks = (next_is error.NoMemory ran, refl); mark = mark_at state.continued; rest = state.pending; begins = g.midway.begins; marked = mark_is state.pending state.continued g.midway.asking; wrote = was }
 
-    by : IsFinish NoMemory ((out_of g.done ++ mark_at state.continued) ++ no_memory_response) sink sink'' result → Served exchange did' shows source source' sink sink'' result
-    by (wrote is sent) = subst (λ e. Served exchange did' shows source source' sink sink'' e) (sym is) record {
-      bytes = g.bytes;
-      done = g.done;
-      more = Some (next_with error.NoMemory);
-      session = record { answered = g.answered; ends = ends told sent.told };
-      took = g.read.took;
-      taken = g.read.taken;
-      acted = next_acted error.NoMemory;
-      cause = calm sent;
-    }
-    by (failed is cut) = subst (λ e. Served exchange did' shows source source' sink sink'' e) (sym is) record {
-      bytes = g.bytes;
-      done = g.done;
-      more = Some (next_with error.NoMemory);
-      session = record { answered = g.answered; ends = inr (NoMemory, ends some cut.front) };
-      took = g.read.took;
-      taken = g.read.taken;
-      acted = next_acted error.NoMemory;
-      cause = (cut.failed, g.read.no_fault);
-    }
+        unspent : (count : ℕ) → error.NoMemory ≡ error.Exhausted count → shows count
+        unspent count is = absurd (cc)
 
-  spent : (count : ℕ) (answer : List ℕ) (result : Ended) → exchange request trace (Err (error.Exhausted count)) → shows count → IsSpentAnswer (is_head request.method) count answer → IsFinish (Spent count) (out ++ answer) sink' sink'' result → Served exchange did' shows source source' sink sink'' result
-  spent count answer result ran shown is_answer how = by (finish_all exchange did source source' sink sink' state number out g (Spent count) answer sink'' result how) where
-    ends : (sent : List ℕ → Type 0) → sent ((out_of g.done ++ mark_at state.continued) ++ answer) → EndsSpent exchange g.bytes g.done (Some (next_with (error.Exhausted count))) sent count
-    ends sent was = record {
-      going = g.going;
-      next = next_with (error.Exhausted count);
-      is-next = next_is (error.Exhausted count) ran;
-      why = refl;
-      this = refl;
-      answer = answer;
-      answers = subst (λ r. IsSpentAnswer (is_head r.method) count answer) gives.is is_answer;
-      wrote = subst (λ m. sent ((out_of g.done ++ m) ++ answer)) (sym (marks (asks gives.whole.head) state.continued gives.told)) was;
-    }
-
-    by : IsFinish (Spent count) ((out_of g.done ++ mark_at state.continued) ++ answer) sink sink'' result → Served exchange did' shows source source' sink sink'' result
-    by (wrote is sent) = subst (λ e. Served exchange did' shows source source' sink sink'' e) (sym is) record {
-      bytes = g.bytes;
-      done = g.done;
-      more = Some (next_with (error.Exhausted count));
-      session = record { answered = g.answered; ends = ends told sent.told };
-      took = g.read.took;
-      taken = g.read.taken;
-      acted = next_acted (error.Exhausted count);
-      cause = (calm sent, shown);
-    }
-    by (failed is cut) = subst (λ e. Served exchange did' shows source source' sink sink'' e) (sym is) record {
-      bytes = g.bytes;
-      done = g.done;
-      more = Some (next_with (error.Exhausted count));
-      session = record { answered = g.answered; ends = inr (Spent count, ends some cut.front) };
-      took = g.read.took;
-      taken = g.read.taken;
-      acted = next_acted (error.Exhausted count);
-      cause = (cut.failed, g.read.no_fault);
-    }
+  spent : (count : ℕ) (answer : List ℕ) (result : Ended) → exchange request trace (Err (error.Exhausted count)) → ((n : ℕ) → error.Exhausted count ≡ error.Exhausted n → shows n) → IsSpentAnswer (is_head request.method) count answer → IsFinish (Spent count) (out ++ answer) sink' sink'' result → Served exchange did' shows source source' sink sink'' result
+  spent count answer result ran shown is_answer how = let added = finish_tells (Spent count) (out ++ answer) sink' sink'' result how in elim_finish (Spent count) ((out_of g.done ++ mark_at state.continued) ++ answer) sink sink'' result (λ e. Served exchange did' shows source source' sink sink'' e)
+      (λ sent. over_next (error.Exhausted count) (Spent count) added.0 shown added.1 (ends told sent.told) (calm sent))
+      (λ cut. over_next (error.Exhausted count) SinkFailed added.0 shown added.1 (inr (Spent count, ends some cut.front)) (cut.failed, g.read.no_fault))
+      (finish_all exchange did source source' sink sink' state number out g (Spent count) answer sink'' result how) where
+        ends : (sent : List ℕ → Type 0) → sent ((out_of g.done ++ mark_at state.continued) ++ answer) → EndsSpent exchange g.bytes g.done (Some (next_with (error.Exhausted count))) sent count
+        ends sent was = record {
+          going = g.going;
+          next = next_with (error.Exhausted count);
+          is-next = next_is (error.Exhausted count) ran;
+          why = refl;
+          this = refl;
+          answer = answer;
+          answers = subst (λ r. IsSpentAnswer (is_head r.method) count answer) gives.is is_answer;
+          wrote = subst (λ m. sent ((out_of g.done ++ m) ++ answer)) (sym (marks (asks gives.whole.head) state.continued gives.told)) was;
+        }
 
   -- the session ends with this request
   pub ends_with : (out' : List ℕ) (reply : Result Response ApiErr) (ended : Ended) → exchange request trace reply → ((count : ℕ) → reply ≡ Err (error.Exhausted count) → shows count) → Answers (number + 1) request out out' sink' sink'' reply (Some ended) → Served exchange did' shows source source' sink sink'' ended
@@ -382,7 +303,7 @@ module _ {E : Type 0} (exchange : Request → List E → Result Response ApiErr 
   ends_with out' (Err error.NoMemory) ended ran shown (e, same, how) = subst (λ z. Served exchange did' shows source source' sink sink'' z) (sym (some_is same)) (no_room e ran how) where
     some_is : Some ended ≡ Some e → ended ≡ e
     some_is is = cc
-  ends_with out' (Err (error.Exhausted count)) ended ran shown (answer, is_answer, (e, same, how)) = subst (λ z. Served exchange did' shows source source' sink sink'' z) (sym (some_is same)) (spent count answer e ran (shown count refl) is_answer how) where
+  ends_with out' (Err (error.Exhausted count)) ended ran shown (answer, is_answer, (e, same, how)) = subst (λ z. Served exchange did' shows source source' sink sink'' z) (sym (some_is same)) (spent count answer e ran (λ n is. shown n (ap (λ (z : ApiErr). Err z) is)) is_answer how) where
     some_is : Some ended ≡ Some e → ended ≡ e
     some_is is = cc
 
@@ -391,10 +312,7 @@ module _ {E : Type 0} (exchange : Request → List E → Result Response ApiErr 
   goes_with fresh out' (Ok response) ran said = by said.stop said.stops said.went where
     by : (stop : Option Ended) → IsStop (number + 1) request stop → Went stop (out ++ written response (is_head request.method) (is_some stop)) out' sink' sink'' None → Going exchange did' source source' sink sink'' state' (number + 1) out'
     by (Some stop) stops (e, same, how) = absurd (cc)
-    by None stops went = ⊎_elim (λ (on : (None ≡ None) × Passed (out ++ written response (is_head request.method) false) out' sink' sink''). answered_on exchange did did' source source' sink sink' state number out g request state' gives trace acts fresh response out' sink'' ran stops on.1)
-        (λ (off : (None ≡ Some SinkFailed) × Cut (out ++ written response (is_head request.method) false) sink' sink''). absurd (fails off.0)) went where
-          fails : None ≡ Some SinkFailed → ⊥
-          fails is = absurd (cc)
+    by None stops went = answered_on exchange did did' source source' sink sink' state number out g request state' gives trace acts fresh response out' ran stops sink'' went
   goes_with fresh out' (Err error.NoMemory) ran (e, same, how) = absurd (cc)
   goes_with fresh out' (Err (error.Exhausted count)) ran (answer, is_answer, (e, same, how)) = absurd (cc)
 
@@ -403,23 +321,26 @@ module _ {E : Type 0} (exchange : Request → List E → Result Response ApiErr 
 module _ {E : Type 0} (exchange : Request → List E → Result Response ApiErr → Type 0) (did : List E → Type 0) (shows : ℕ → Type 0) (source source' source'' : SourceAt) (sink sink' sink'' : SinkAt) (state : State) (number : ℕ) (out out' : List ℕ) (kept : Kept) (g : Going exchange did source source' sink sink' state number out)
     (stream : IsWholeStream g.bytes (wholes_of g.done) state None)
     (feeds : (bytes piece : List ℕ) (wholes : List Whole) (at : State) → Midway bytes wholes at → Midway (bytes ++ piece) wholes (fed at piece)) where
+  -- all was sent, and then this piece was read
+  fed_now : (piece : List ℕ) (between : SinkAt) → Sent out sink' between → Read piece source' source'' → length piece ≤ 16384 → Going exchange did source source'' sink between (fed state piece) number []
+  fed_now piece between sent read short = fed_on exchange did source source' sink sink' state number out g between sent piece source'' read short stream (feeds g.bytes piece (wholes_of g.done) state g.midway)
+
   pub wanted_on : Wants state out out' kept source' source'' sink' sink'' None → (piece : List ℕ) × Stands (fed state piece) kept × Going exchange did source source'' sink sink'' (fed state piece) number out'
-  wanted_on (wants.more piece same bare sent read stands) = (
+  wanted_on (wants.more piece same bare sent read short stands) = (
     piece,
     stands,
-    subst (λ l. Going exchange did source source'' sink sink'' (fed state piece) number l) (sym bare)
-        (let f = flushed_on exchange did source source' sink sink' state number out g sink'' sent in fed_on exchange did source source' sink sink'' state number [] f piece source'' read (feeds f.bytes piece (wholes_of f.done) state f.midway)),
+    subst (λ l. Going exchange did source source'' sink sink'' (fed state piece) number l) (sym bare) (fed_now piece sink'' sent read short),
   )
-  wanted_on (wants.lacks piece lacks read) = absurd (let same : None ≡ Some lacks.0 = lacks.1 in cc)
+  wanted_on (wants.lacks piece between sent read short lacks) = absurd (let same : None ≡ Some lacks.0 = lacks.1 in cc)
   wanted_on (wants.cut same cut kept-source) = absurd (cc)
   wanted_on (wants.done same is sent has) = absurd (cc)
   wanted_on (wants.closed same is sent has) = absurd (cc)
   wanted_on (wants.failed same sent has) = absurd (cc)
 
   pub wanted_end : (between : state.pending ≡ [] → state ≡ waiting [] false) (ended : Ended) → Wants state out out' kept source' source'' sink' sink'' (Some ended) → Served exchange did shows source source'' sink sink'' ended
-  wanted_end between ended (wants.more piece same bare sent read stands) = absurd (cc)
-  wanted_end between ended (wants.lacks piece (e, same, how) read) = subst (λ z. Served exchange did shows source source'' sink sink'' z) (sym (some_is same))
-      (lacking exchange did shows source source'' sink sink' sink'' (fed state piece) number out (fed_on exchange did source source' sink sink' state number out g piece source'' read (feeds g.bytes piece (wholes_of g.done) state g.midway)) e how) where
+  wanted_end between ended (wants.more piece same bare sent read short stands) = absurd (cc)
+  wanted_end between ended (wants.lacks piece middle sent read short (e, same, how)) = subst (λ z. Served exchange did shows source source'' sink sink'' z) (sym (some_is same))
+      (lacking exchange did shows source source'' sink middle sink'' (fed state piece) number [] (fed_now piece middle sent read short) e how) where
         some_is : Some ended ≡ Some e → ended ≡ e
         some_is is = cc
   wanted_end between ended (wants.cut same cut same-source) = subst (λ z. Served exchange did shows source z sink sink'' ended) (sym same-source) (subst (λ z. Served exchange did shows source source' sink sink'' z) (sym (some_is same)) (cut_off exchange did shows source source' sink sink' sink'' state number out g cut)) where

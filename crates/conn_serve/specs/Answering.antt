@@ -1,5 +1,5 @@
 -- What the parts of a session do: one request is answered, and more bytes are wanted.
-use Rattle.std.specs.Prelude.{◌≡◌, ◌≢◌, ◌⊎◌, ℕ, false, List, [], ◌++◌, Option, Some, None, is_some, Result, Ok, Err}
+use Rattle.std.specs.Prelude.{◌≡◌, ◌≢◌, ℕ, ◌<◌, ◌≤◌, false, List, [], ◌++◌, length, Option, Some, None, is_some, Result, Ok, Err}
 use Rattle.side_base.specs.declared.message.Request.{Request}
 use Rattle.side_base.specs.declared.message.Response.{Response}
 use Rattle.turn_cell.specs.declared.error.ApiErr.{ApiErr}
@@ -11,16 +11,22 @@ use Rattle.conn_serve.specs.declared.ended.Ended.{Ended}
 use Rattle.conn_serve.specs.declared.ended.Ended.TheVariants.{Done, ClosedByPeer, Spent, SourceFailed, SinkFailed, NoMemory}
 use Rattle.conn_serve.specs.Exchanged.{IsStop, is_head}
 use Rattle.conn_serve.specs.Session.{IsSpentAnswer}
-use Rattle.conn_serve.specs.Ends.{SinkAt, SourceAt, Sent, Cut, Passed, IsFinish, Read, HasEnded, HasFailed}
+use Rattle.conn_serve.specs.Ends.{SinkAt, SourceAt, Sent, Cut, IsFinish, Read, HasEnded, HasFailed}
 
 -- the session is over, and ended so
 abbrev pub Finishes : Ended → List ℕ → SinkAt → SinkAt → Option Ended → Type 0
 Finishes ended bytes sink sink' result = (e : Ended) × (result ≡ Some e) × IsFinish ended bytes sink sink' e
 
--- after a response: the session ends with it, or goes on, with all that was gathered sent or still kept, or the sink fails
+-- after a response with which the session goes on: what was gathered is kept where it has fewer than 65,536 bytes, or was sent, or the sink fails
+pub data MakesRoom (bytes kept : List ℕ) (sink sink' : SinkAt) (result : Option Ended) : Type 0 where
+  keeps : result ≡ None → kept ≡ bytes → length bytes < 65536 → sink' ≡ sink → MakesRoom bytes kept sink sink' result
+  sends : result ≡ None → kept ≡ [] → Sent bytes sink sink' → MakesRoom bytes kept sink sink' result
+  breaks : result ≡ Some SinkFailed → Cut bytes sink sink' → MakesRoom bytes kept sink sink' result
+
+-- after a response: the session ends with it, or goes on
 abbrev pub Went : Option Ended → List ℕ → List ℕ → SinkAt → SinkAt → Option Ended → Type 0
 Went (Some ended) bytes kept sink sink' result = Finishes ended bytes sink sink' result
-Went None bytes kept sink sink' result = ((result ≡ None) × Passed bytes kept sink sink') ⊎ ((result ≡ Some SinkFailed) × Cut bytes sink sink')
+Went None bytes kept sink sink' result = MakesRoom bytes kept sink sink' result
 
 -- there was no memory, and the response that takes none was sent behind what was gathered
 abbrev pub LacksRoom : List ℕ → SinkAt → SinkAt → Option Ended → Type 0
@@ -39,10 +45,10 @@ Answers number request out out' sink sink' (Err error.NoMemory) result = LacksRo
 Answers number request out out' sink sink' (Err (error.Exhausted count)) result =
     (answer : List ℕ) × IsSpentAnswer (is_head request.method) count answer × Finishes (Spent count) (out ++ answer) sink sink' result
 
--- More bytes are wanted: what was gathered is sent, and then the source is read, whose bytes the framer takes
+-- More bytes are wanted: what was gathered is sent, and then the source is read, whose bytes the framer takes, 16,384 at most
 pub data Wants (state : State) (out out' : List ℕ) (kept : Kept) (source source' : SourceAt) (sink sink' : SinkAt) (result : Option Ended) : Type 0 where
-  more : (piece : List ℕ) → result ≡ None → out' ≡ [] → Sent out sink sink' → Read piece source source' → Stands (fed state piece) kept → Wants state out out' kept source source' sink sink' result
-  lacks : (piece : List ℕ) → LacksRoom out sink sink' result → Read piece source source' → Wants state out out' kept source source' sink sink' result
+  more : (piece : List ℕ) → result ≡ None → out' ≡ [] → Sent out sink sink' → Read piece source source' → length piece ≤ 16384 → Stands (fed state piece) kept → Wants state out out' kept source source' sink sink' result
+  lacks : (piece : List ℕ) (between : SinkAt) → Sent out sink between → Read piece source source' → length piece ≤ 16384 → LacksRoom [] between sink' result → Wants state out out' kept source source' sink sink' result
   cut : result ≡ Some SinkFailed → Cut out sink sink' → source' ≡ source → Wants state out out' kept source source' sink sink' result
   done : result ≡ Some Done → state ≡ waiting [] false → Sent out sink sink' → HasEnded source source' → Wants state out out' kept source source' sink sink' result
   closed : result ≡ Some ClosedByPeer → state ≢ waiting [] false → Sent out sink sink' → HasEnded source source' → Wants state out out' kept source source' sink sink' result

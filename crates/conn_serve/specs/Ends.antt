@@ -30,6 +30,10 @@ pub record Sent (bytes : List ℕ) (sink sink' : SinkAt) : Type 0 where
   pub told : Told sink.contents sink'.contents bytes
   pub no_fault : sink'.faults ≡ sink.faults
 
+-- these bytes were sent, and maybe more behind them
+abbrev pub SentFirst : List ℕ → SinkAt → SinkAt → Type 0
+SentFirst bytes sink sink' = (more : List ℕ) × Told sink.contents sink'.contents (bytes ++ more)
+
 -- a front of these bytes was sent, and then the sink failed
 pub record Cut (bytes : List ℕ) (sink sink' : SinkAt) : Type 0 where
   pub front : SentSome sink.contents sink'.contents bytes

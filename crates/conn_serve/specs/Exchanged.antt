@@ -63,12 +63,20 @@ abbrev pub is_head : Method → Bool
 is_head method.Head = true
 is_head _ = false
 
--- an answered request; a response with which the session ends says so
+-- the response to an answered request; one with which the session ends says so
+abbrev pub response_bytes : {E : Type 0} → Exchanged E → List ℕ
+response_bytes x = written x.response (is_head (request_in x.whole).method) (is_some x.stop)
+
+-- an answered request
 abbrev pub answer_bytes : {E : Type 0} → Exchanged E → List ℕ
-answer_bytes x = mark_of x.whole ++ written x.response (is_head (request_in x.whole).method) (is_some x.stop)
+answer_bytes x = mark_of x.whole ++ response_bytes x
 
 abbrev pub out_of : {E : Type 0} → List (Exchanged E) → List ℕ
 out_of done = flat_map answer_bytes done
+
+-- of answered requests the responses alone
+abbrev pub responses_of : {E : Type 0} → List (Exchanged E) → List ℕ
+responses_of done = flat_map response_bytes done
 
 abbrev pub wholes_of : {E : Type 0} → List (Exchanged E) → List Whole
 wholes_of done = map (λ x. x.whole) done

@@ -1,5 +1,5 @@
 -- A session that goes on, and one turn of it: what the bytes that were read hold next.
-use Rattle.std.specs.Prelude.{◌≡◌, ◌⊎◌, ℕ, ◌<◌, Bool, true, false, List, [], ◌++◌, length, flat_map, Option, Some, None, Result}
+use Rattle.std.specs.Prelude.{◌≡◌, ◌⊎◌, ℕ, ◌<◌, ◌≤◌, Bool, true, false, List, [], ◌++◌, length, flat_map, Option, Some, None, Result}
 use Rattle.side_base.specs.declared.message.Request.{Request}
 use Rattle.side_base.specs.declared.message.Response.{Response}
 use Rattle.turn_cell.specs.declared.error.ApiErr.{ApiErr}
@@ -11,9 +11,10 @@ use Rattle.http_frames.specs.Written.{continue_bytes}
 use Rattle.http_frames.specs.Streams.{Midway}
 use Rattle.conn_serve.specs.declared.ended.Ended.{Ended}
 use Rattle.conn_serve.specs.declared.ended.Ended.TheVariants.{Refused, NoMemory}
-use Rattle.conn_serve.specs.Exchanged.{Exchanged, AreAnswered, GoesOn, out_of, wholes_of}
+use Rattle.conn_serve.specs.Exchanged.{Exchanged, AreAnswered, GoesOn, out_of, responses_of, wholes_of}
 use Rattle.conn_serve.specs.Session.{refused_bytes}
-use Rattle.conn_serve.specs.Ends.{SinkAt, SourceAt, Passed, Read, IsFinish}
+use Rattle.conn_serve.specs.Ends.{SinkAt, SourceAt, Passed, Read, IsFinish, SentFirst}
+use Rattle.conn_serve.specs.Sending.{SentBeforeRead}
 use Rattle.conn_serve.specs.Answering.{LacksRoom}
 use Rattle.conn_serve.specs.Served.{Served}
 
@@ -21,6 +22,15 @@ use Rattle.conn_serve.specs.Served.{Served}
 abbrev pub mark_at : Bool → List ℕ
 mark_at true = continue_bytes
 mark_at false = []
+
+-- what is gathered has the responses to the late requests, of fewer than 65,536 bytes; the answers to the earlier ones were sent
+pub record Gathering {E : Type 0} (done : List (Exchanged E)) (out : List ℕ) (sink sink' : SinkAt) : Type 0 where
+  pub earlier : List (Exchanged E)
+  pub late : List (Exchanged E)
+  pub whole : done ≡ earlier ++ late
+  pub sent : SentFirst (out_of earlier) sink sink'
+  pub within : length (responses_of late) ≤ length out
+  pub few : length (responses_of late) < 65536
 
 -- so far: these bytes were read, and these requests answered, whose responses were sent or are kept in `out`
 pub record Going {E : Type 0} (exchange : Request → List E → Result Response ApiErr → Type 0) (did : List E → Type 0) (source source' : SourceAt) (sink sink' : SinkAt) (state : State) (number : ℕ) (out : List ℕ) : Type 0 where
@@ -33,6 +43,8 @@ pub record Going {E : Type 0} (exchange : Request → List E → Result Response
   pub below : number < 100000
   pub acted : did (flat_map (λ x. x.trace) done)
   pub passed : Passed (out_of done ++ mark_at state.continued) out sink sink'
+  pub before_read : SentBeforeRead bytes done sink sink'
+  pub gathering : Gathering done out sink sink'
   pub read : Read bytes source source'
 
 -- what a turn leaves: the session goes on, or it is over

@@ -1,15 +1,17 @@
 -- What serving a connection does: a session, and what it was to the source, the sink and the handler of requests.
-use Rattle.std.specs.Prelude.{◌≡◌, ℕ, true, List, Option, Result}
+use Rattle.std.specs.Prelude.{◌≡◌, ℕ, true, List, Option, Some, Result}
 use Rattle.side_base.specs.declared.message.Request.{Request}
 use Rattle.side_base.specs.declared.message.Response.{Response}
 use Rattle.side_world.specs.Told.{Told, Took, SentSome, IsDrained}
 use Rattle.side_world.specs.Faults.{Rose}
 use Rattle.turn_cell.specs.declared.error.ApiErr.{ApiErr}
+use Rattle.turn_cell.specs.declared.error.ApiErr.TheVariants as error
 use Rattle.conn_serve.specs.declared.ended.Ended.{Ended}
 use Rattle.conn_serve.specs.declared.ended.Ended.TheVariants.{Done, Closed, Asked, ClosedByPeer, Refused, Limit, Spent, SourceFailed, SinkFailed, NoMemory}
 use Rattle.conn_serve.specs.Exchanged.{Exchanged, Unanswered}
 use Rattle.conn_serve.specs.Session.{Session, trace_of}
 use Rattle.conn_serve.specs.Ends.{SinkAt, SourceAt}
+use Rattle.conn_serve.specs.Sending.{SentBeforeRead, GathersFew}
 
 -- no read and no write failed
 pub record NoFault (source source' : SourceAt) (sink sink' : SinkAt) : Type 0 where
@@ -23,17 +25,21 @@ pub record IsOver (source source' : SourceAt) (sink sink' : SinkAt) : Type 0 whe
   pub drained : IsDrained source'.left
 
 -- why a session ended so: of a fault the count rose, and otherwise none did
-abbrev pub HasCause : (ℕ → Type 0) → SourceAt → SourceAt → SinkAt → SinkAt → Ended → Type 0
-HasCause shows source source' sink sink' Done = IsOver source source' sink sink'
-HasCause shows source source' sink sink' ClosedByPeer = IsOver source source' sink sink'
-HasCause shows source source' sink sink' (Spent count) = NoFault source source' sink sink' × shows count
-HasCause shows source source' sink sink' SourceFailed = Rose source.faults source'.faults × (sink'.faults ≡ sink.faults)
-HasCause shows source source' sink sink' SinkFailed = Rose sink.faults sink'.faults × (source'.faults ≡ source.faults)
-HasCause shows source source' sink sink' Closed = NoFault source source' sink sink'
-HasCause shows source source' sink sink' Asked = NoFault source source' sink sink'
-HasCause shows source source' sink sink' Limit = NoFault source source' sink sink'
-HasCause shows source source' sink sink' (Refused why) = NoFault source source' sink sink'
-HasCause shows source source' sink sink' NoMemory = NoFault source source' sink sink'
+abbrev pub HasCause : SourceAt → SourceAt → SinkAt → SinkAt → Ended → Type 0
+HasCause source source' sink sink' Done = IsOver source source' sink sink'
+HasCause source source' sink sink' ClosedByPeer = IsOver source source' sink sink'
+HasCause source source' sink sink' (Spent count) = NoFault source source' sink sink'
+HasCause source source' sink sink' SourceFailed = Rose source.faults source'.faults × (sink'.faults ≡ sink.faults)
+HasCause source source' sink sink' SinkFailed = Rose sink.faults sink'.faults × (source'.faults ≡ source.faults)
+HasCause source source' sink sink' Closed = NoFault source source' sink sink'
+HasCause source source' sink sink' Asked = NoFault source source' sink sink'
+HasCause source source' sink sink' Limit = NoFault source source' sink sink'
+HasCause source source' sink sink' (Refused why) = NoFault source source' sink sink'
+HasCause source source' sink sink' NoMemory = NoFault source source' sink sink'
+
+-- where the request that ended early met an exhausted cell, a seat shows its count, however the session ended
+abbrev pub IsShown : {E : Type 0} → (ℕ → Type 0) → Option (Unanswered E) → Type 0
+IsShown {E} shows more = (next : Unanswered E) (count : ℕ) → more ≡ Some next → next.error ≡ error.Exhausted count → shows count
 
 -- A connection was served: these bytes were read, and their session was written. `did` is what was done for requests, `shows` what the handler's seats show
 pub record Served {E : Type 0} (exchange : Request → List E → Result Response ApiErr → Type 0) (did : List E → Type 0) (shows : ℕ → Type 0) (source source' : SourceAt) (sink sink' : SinkAt) (ended : Ended) : Type 0 where
@@ -43,5 +49,8 @@ pub record Served {E : Type 0} (exchange : Request → List E → Result Respons
   pub session : Session exchange bytes done more (λ out. Told sink.contents sink'.contents out) (λ out. SentSome sink.contents sink'.contents out) ended
   pub took : Took source.left source'.left bytes
   pub taken : Told source.taken source'.taken bytes
+  pub before_read : SentBeforeRead bytes done sink sink'
+  pub gathered : GathersFew done sink sink'
   pub acted : did (trace_of done more)
-  pub cause : HasCause shows source source' sink sink' ended
+  pub shown : IsShown shows more
+  pub cause : HasCause source source' sink sink' ended

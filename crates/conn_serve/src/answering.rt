@@ -1,12 +1,11 @@
-ghost use Rattle.std.specs.Prelude.{◌≡◌, ◌<◌, ◌⊎◌, ◌++◌, ℕ, List, length, None, Some, Result, Ok, Err};
+ghost use Rattle.std.specs.Prelude.{◌≡◌, ◌⊎◌, ℕ, List, Result, Err};
 ghost use Rattle.http.specs.StatusCode.{IsStatusCode};
 ghost use Rattle.side_base.specs.declared.message.Response.{Response as ResponseRecord};
 ghost use Rattle.turn_cell.specs.declared.error.ApiErr.{ApiErr as ApiErrRecord};
 ghost use Rattle.turn_cell.specs.declared.error.ApiErr.TheVariants as error;
-ghost use Rattle.http_frames.specs.Written.{written};
 ghost use Rattle.conn_serve.specs.Exchanged.{IsStop, is_head};
-ghost use Rattle.conn_serve.specs.Ends.{Passed, Cut, sink_at};
-ghost use Rattle.conn_serve.specs.Answering.{Answers, IsSaid, LacksRoom, Went};
+ghost use Rattle.conn_serve.specs.Ends.{sink_at};
+ghost use Rattle.conn_serve.specs.Answering.{Answers, IsSaid, LacksRoom, MakesRoom, Went};
 
 use crate::ending::{finish, finish_spent, finish_without_memory, flush};
 use crate::{Ended, Handler};
@@ -80,8 +79,7 @@ fn go_on<N: Sink>(stop: Option<Ended>, out: &mut Blob, sink: &mut N) -> Option<E
 
 /// Sends what is gathered where it is much.
 fn make_room<N: Sink>(out: &mut Blob, sink: &mut N) -> Option<Ended>
-    ensures went { ((result ≡ None) × Passed out.old out.new (sink_at N.Sink sink.old) (sink_at N.Sink sink.new)) ⊎ ((result ≡ Some Ended.SinkFailed) × Cut out.old (sink_at N.Sink sink.old) (sink_at N.Sink sink.new)) }
-    ensures room { result ≡ None → length out.new < 65536 }
+    ensures { MakesRoom out.old out.new (sink_at N.Sink sink.old) (sink_at N.Sink sink.new) result }
 {
     if out.len() < GATHERED {
         return None;

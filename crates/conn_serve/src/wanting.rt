@@ -1,4 +1,4 @@
-ghost use Rattle.std.specs.Prelude.{◌≡◌, ◌<◌, length};
+ghost use Rattle.std.specs.Prelude.{◌<◌, ◌≤◌, length};
 ghost use Rattle.http_frames.specs.Framing.{State, Stands};
 ghost use Rattle.conn_serve.specs.Ends.{sink_at, source_at};
 ghost use Rattle.conn_serve.specs.Answering.{Wants, IsEnd};
@@ -17,7 +17,8 @@ pub(crate) fn want<S: Source, N: Sink>(
     source: &mut S,
     sink: &mut N,
 ) -> Option<Ended>
-    requires { 0 < length piece.old }
+    requires some { 0 < length piece.old }
+    requires short { length piece.old ≤ 16384 }
     ensures { (state : State) → Stands state framer.old → Wants state out.old out.new framer.new (source_at S.Source source.old) (source_at S.Source source.new) (sink_at N.Sink sink.old) (sink_at N.Sink sink.new) result }
 {
     if let Err(Failed) = flush(out, sink) {

@@ -14,7 +14,7 @@ returns-clause-served g c =
     let same_rng = s.acted.same_rng in
     let desk = c.serve.new.handler in
     served_at g.L.Link g.C.Clock g.R.Rng.stream desk.pass.now c.pass-1.given.0 desk.link.now c.link-1.given.0 desk.clock.now c.clock-1.given.0 desk.rng.now c.rng-1.given.0 (search rules) (search rules) (search rules) (search rules)
-    (record { bytes = s.bytes; done = s.done; more = s.more; session = s.session; took = s.took; taken = s.taken; acted = s.acted.went; cause = s.cause })
+    (record { bytes = s.bytes; done = s.done; more = s.more; session = s.session; took = s.took; taken = s.taken; before_read = s.before_read; gathered = s.gathered; acted = s.acted.went; shown = s.shown; cause = s.cause })
 
 pub returns-clause-pass : goal.returns-clause-pass
 returns-clause-pass g c =
