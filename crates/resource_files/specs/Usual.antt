@@ -1,11 +1,19 @@
--- The file that is as if read where no folder is named.
-use Rattle.std.specs.Prelude.{ℕ, List, ◌++◌, codes}
+-- What there is where no folder is named.
+use Rattle.std.specs.Prelude.{ℕ, List, [], ◌∷◌, codes}
+use Rattle.resource_spec.specs.declared.component.ComponentKind.{ComponentKind}
+use Rattle.resource_spec.specs.declared.component.ComponentKind.TheVariants.{StateMemory, PubsubMemory}
+use Rattle.resource_spec.specs.Component.{Loaded}
+use Rattle.policy_spec.specs.Resiliency.{nothing_bound}
+use Rattle.resource_files.specs.declared.resources.Resources.{Resources}
 
--- a component of this name and type, of version `v1`
-abbrev pub usual_document : List ℕ → List ℕ → List ℕ
-usual_document name type =
-    codes "apiVersion: dapr.io/v1alpha1\nkind: Component\nmetadata:\n  name: " ++ (name ++ (codes "\nspec:\n  type: " ++ (type ++ codes "\n  version: v1\n")))
+-- a component of version `v1` without settings
+abbrev pub plain_component : List ℕ → ComponentKind → Loaded
+plain_component name kind = record { name = name; kind = kind; version = codes "v1"; settings = [] }
 
--- a store, and a broker
-abbrev pub usual_file : List ℕ
-usual_file = usual_document (codes "statestore") (codes "state.in-memory") ++ (codes "---\n" ++ usual_document (codes "pubsub") (codes "pubsub.in-memory"))
+-- a store `statestore` and a broker `pubsub`, both in memory
+abbrev pub usual_components : List Loaded
+usual_components = plain_component (codes "statestore") StateMemory ∷ plain_component (codes "pubsub") PubsubMemory ∷ []
+
+-- these components, and nothing is bound
+abbrev pub usual : Resources
+usual = record { components = usual_components; policies = nothing_bound }

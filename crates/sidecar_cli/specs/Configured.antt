@@ -3,23 +3,22 @@ use Rattle.std.specs.Prelude.{◌≡◌, ◌⊎◌, ℕ, List, ◌++◌, Option,
 use Rattle.resource_files.specs.declared.resources.Resources.{Resources}
 use Rattle.resource_files.specs.declared.resources.ResourcesErr.{ResourcesErr}
 use Rattle.resource_files.specs.declared.resources.ResourcesErr.TheVariants as fault
-use Rattle.resource_files.specs.Added.{nothing_said, Adds}
 use Rattle.resource_files.specs.Read.{IsReadFrom}
 use Rattle.resource_files.specs.Refusals.{told_as}
-use Rattle.resource_files.specs.Usual.{usual_file}
+use Rattle.resource_files.specs.Usual.{usual}
 use Rattle.sidecar_cli.specs.World.{FilesAt}
 use Rattle.sidecar_cli.specs.declared.status.Status.{Status}
 use Rattle.sidecar_cli.specs.declared.status.Status.TheVariants.{BadResources, OutsideFailed, NoMemory}
 use Rattle.sidecar_cli.specs.declared.status.Device.TheVariants.{Files}
 
--- without a folder no file is read, and a store and a broker in memory are there
-abbrev pub IsUsual : List ℕ → Result Resources ResourcesErr → Type 0
-IsUsual app (Ok resources) = Adds app usual_file nothing_said resources
-IsUsual app (Err e) = e ≡ fault.NoMemory
+-- a store and a broker in memory are there, or there is no memory for them
+abbrev pub IsUsual : Result Resources ResourcesErr → Type 0
+IsUsual (Ok resources) = resources ≡ usual
+IsUsual (Err e) = e ≡ fault.NoMemory
 
--- the resources for an app, with what was read for them
+-- the resources for an app, with what was read for them; without a folder no file is read
 abbrev pub IsConfigured : Option (List ℕ) → List ℕ → FilesAt → FilesAt → Result Resources ResourcesErr → Type 0
-IsConfigured None app files files' result = (files' ≡ files) × IsUsual app result
+IsConfigured None app files files' result = (files' ≡ files) × IsUsual result
 IsConfigured (Some folder) app files files' result = (files'.folders ≡ files.folders) × IsReadFrom files.folders files.calls files'.calls files.faults files'.faults folder app result
 
 -- how a run ends that has no resources: the file and its refusal are told, where there is memory for it
