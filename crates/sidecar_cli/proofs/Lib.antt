@@ -1,3 +1,4 @@
 mod Counted
 mod Countings
 mod Fitting
+mod Serves

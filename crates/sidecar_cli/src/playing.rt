@@ -57,7 +57,7 @@ fn start_numbers<O: Outside>(outside: &mut O) -> (u64, [u8; 16])
 }
 
 /// The random words that begin from a number.
-pub(crate) fn words_from(seed: u64) -> Pcg64
+fn words_from(seed: u64) -> Pcg64
     ensures { ⟦<Pcg64 as Rng>⟧.stream result ≡ ⟦<Pcg64 as Rng>⟧.stream (⟦<Pcg64 as SeedableRng>⟧.of_seed (⟦<Pcg64 as SeedableRng>⟧.seed_of_u64 seed)) }
 {
     Pcg64::seed_from_u64(seed)

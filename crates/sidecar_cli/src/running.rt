@@ -1,3 +1,4 @@
+ghost use Rattle.std.specs.Prelude.{◌<◌};
 ghost use Rattle.sidecar_cli.specs.Run.{IsCommand, IsMain, IsRun};
 ghost use Rattle.sidecar_cli.specs.World.{world_at};
 
@@ -70,6 +71,7 @@ fn command<
     O: Outside,
     W: Threads + Wait + Sync,
 >(rt: &W, alloc: Global, given: Words, world: &mut World<S, N, E, F, L, C, O>) -> Status
+    requires { given.workers < 65535 }
     ensures { IsCommand O.Disk.Disk ⟦<AnyKeeper<O::Disk> as Keeper>⟧ ⟦<Store<AnyKeeper<O::Disk>> as ObjectKinds>⟧.kinds (λ n. ⟦<Pcg64 as Rng>⟧.stream (⟦<Pcg64 as SeedableRng>⟧.of_seed (⟦<Pcg64 as SeedableRng>⟧.seed_of_u64 n))) given (world_at S.Source N.Sink E.Sink F.Files L.Link C.Clock O.Outside world.old) (world_at S.Source N.Sink E.Sink F.Files L.Link C.Clock O.Outside world.new) result }
 {
     match given.mode {

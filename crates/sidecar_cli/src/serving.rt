@@ -13,7 +13,7 @@ ghost use Rattle.sidecar_cli.specs.Serve.{IsBegunServing, IsKeptServing, IsServe
 ghost use Rattle.sidecar_cli.specs.World.{outside_at, world_at};
 
 use crate::configuring::{configured, without_resources};
-use crate::playing::{close, finish, secret, words_from};
+use crate::playing::{close, finish, secret};
 use crate::starting::{Started, start_objects};
 use crate::{Device, Status, World};
 use keeper_core::Keeper;
@@ -70,16 +70,33 @@ fn worker_numbers<O: Outside>(
     ensures faults { O.faults outside.new ≡ O.faults outside.old }
     ensures lacks { OnErr result (O.numbers outside.new ≡ O.numbers outside.old) }
 {
-    let mut rngs = Vec::with_capacity(alloc, workers as usize)?;
-    for _ in 0..workers {
-        rngs.push_reserved(words_from(outside.start_number()));
-    }
+    let rngs = draw_all(alloc, workers, outside)?;
     let one = outside.start_number();
     let other = outside.start_number();
     Ok(Numbers {
         rngs,
         secret: secret(one, other),
     })
+}
+
+/// So many generators of random words, of a number each.
+fn draw_all<O: Outside, R: Rng + SeedableRng + Drop>(
+    alloc: Global,
+    count: u32,
+    outside: &mut O,
+) -> Result<Vec<R>, NoMemory>
+    ensures drawn { IfOk result (λ rngs. (seeds : List ℕ) × (length seeds ≡ count) × (map R.stream rngs.items ≡ map (λ n. R.stream (R.of_seed (R.seed_of_u64 n))) seeds) × Tells (O.numbers outside.old) (O.numbers outside.new) seeds) }
+    ensures disks { O.disks outside.new ≡ O.disks outside.old }
+    ensures calls { O.calls outside.new ≡ O.calls outside.old }
+    ensures backs { O.backs outside.new ≡ O.backs outside.old }
+    ensures faults { O.faults outside.new ≡ O.faults outside.old }
+    ensures lacks { OnErr result (O.numbers outside.new ≡ O.numbers outside.old) }
+{
+    let mut rngs = Vec::with_capacity(alloc, count as usize)?;
+    for _ in 0..count {
+        rngs.push_reserved(R::seed_from_u64(outside.start_number()));
+    }
+    Ok(rngs)
 }
 
 /// Reads the resources, and serves over them.

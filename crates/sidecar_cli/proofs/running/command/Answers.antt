@@ -9,3 +9,6 @@ returns-in-Check g c = checked c.in-Check.is c.check.ensures
 
 pub returns-in-Serve : goal.returns-in-Serve
 returns-in-Serve g c = served c.in-Serve.is c.serve_port.ensures
+
+pub serve_port-requires-after_bounds : goal.serve_port-requires-after_bounds
+serve_port-requires-after_bounds g c κs within = c.requires
