@@ -17,7 +17,7 @@ use Rattle.resource_spec.specs.Load.{journal_of}
 use Rattle.sidecar_keepers.specs.declared.starting.KeepersErr.{KeepersErr}
 use Rattle.sidecar_keepers.specs.declared.starting.KeepersErr.TheVariants.{NoMemory}
 use Rattle.sidecar_keepers.specs.Made.{AreMade}
-use Rattle.sidecar_keepers.specs.Refused.{Counts, IsAnswerTo, IsReturned, IsNoJournalAt, HasFailed, IsCause, IsRefused}
+use Rattle.sidecar_keepers.specs.Refused.{Counts, IsAnswerTo, IsReturned, IsNoJournalAt, IsUnread, HasFailed, IsCause, IsRefused}
 use Rattle.sidecar_keepers.specs.Stores.{stores_of, takes_of}
 use Rattle.sidecar_keepers.proofs.Counting.{rose_from_zero}
 use Rattle.sidecar_keepers.proofs.Makings.{made_on}
@@ -43,8 +43,8 @@ module _ {D : Type 0} (disking : Ghosts D) where
     returned : (fact : D → D → Type 0) → fact disk back → IsReturned disking c before after fact
     returned fact is = record { kind = kind; path = path; named = named; disk = disk; back = back; mid = mid; new = new; taken = taken; given = given; is_so = is }
 
-    unheard : (error : JournalErr) → IsOther error → ((error ≡ journals.Failed → ⊥) → disking.faults back ≡ disking.faults disk) → IsCause disking NoMemory c before after
-    unheard error other no_fault = returned (λ disk back. disking.faults back ≡ 0) (no_fault (λ same. subst IsOther same other) ∙ new.no_faults)
+    unheard : (error : JournalErr) → IsOther error → (disking.size disk ≡ 0 → error ≡ journals.Failed) → (disking.size disk ≢ 0 → ChangesNothing disking disk back) → ((error ≡ journals.Failed → ⊥) → disking.faults back ≡ disking.faults disk) → IsCause disking NoMemory c before after
+    unheard error other fresh unchanged no_fault = returned (IsUnread disking) (record { no_fault = no_fault (λ same. subst IsOther same other) ∙ new.no_faults; unchanged = unchanged (λ none. subst IsOther (fresh none) other) })
 
     pub cause_of : (error : JournalErr) (e : KeepersErr) → IsAnswerTo c error e
         → (disking.size disk ≢ 0 → (at : ℕ) → error ≡ journals.NotAJournal at → Reads disking disk (λ bytes. IsRefusedAt bytes at))
@@ -53,13 +53,13 @@ module _ {D : Type 0} (disking : Ghosts D) where
         → (error ≡ journals.Failed → Rose (disking.faults disk) (disking.faults back))
         → ((error ≡ journals.Failed → ⊥) → disking.faults back ≡ disking.faults disk)
         → IsCause disking e c before after
-    cause_of journals.Failed e is refused fresh unchanged failed no_fault = subst (λ (answer : KeepersErr). IsCause disking answer c before after) (sym is) (returned (HasFailed disking) (subst (λ (n : ℕ). Rose n (disking.faults back)) new.no_faults (failed refl)))
+    cause_of journals.Failed e is refused fresh unchanged failed no_fault = subst (λ (answer : KeepersErr). IsCause disking answer c before after) (sym is) (returned (HasFailed disking) (record { failed = subst (λ (n : ℕ). Rose n (disking.faults back)) new.no_faults (failed refl); unchanged = unchanged }))
     cause_of (journals.NotAJournal at) e (inl is) refused fresh unchanged failed no_fault =
         let some : disking.size disk ≢ 0 = λ none. subst IsOther (fresh none) tt in
         subst (λ (answer : KeepersErr). IsCause disking answer c before after) (sym is) (refl, returned (IsNoJournalAt disking at) (record { refused = refused some at refl; unchanged = unchanged some }))
-    cause_of (journals.NotAJournal at) e (inr is) refused fresh unchanged failed no_fault = subst (λ (answer : KeepersErr). IsCause disking answer c before after) (sym is) (unheard (journals.NotAJournal at) tt no_fault)
+    cause_of (journals.NotAJournal at) e (inr is) refused fresh unchanged failed no_fault = subst (λ (answer : KeepersErr). IsCause disking answer c before after) (sym is) (unheard (journals.NotAJournal at) tt fresh unchanged no_fault)
     cause_of (journals.Full len) e is refused fresh unchanged failed no_fault = absurd is
-    cause_of journals.NoMemory e is refused fresh unchanged failed no_fault = subst (λ (answer : KeepersErr). IsCause disking answer c before after) (sym is) (unheard journals.NoMemory tt no_fault)
+    cause_of journals.NoMemory e is refused fresh unchanged failed no_fault = subst (λ (answer : KeepersErr). IsCause disking answer c before after) (sym is) (unheard journals.NoMemory tt fresh unchanged no_fault)
 
   module _ (components : List Loaded) (place : ℕ) (c : Loaded) (low : place < length components) (is : c ≡ slice_index_or components place c) where
     -- the keeper of one more component, or none

@@ -1,5 +1,5 @@
 -- Why a start is refused, and what it leaves of the outside then.
-use Rattle.std.specs.Prelude.{◌≡◌, ◌⊎◌, ℕ, List, [], ◌∷◌, ◌++◌, Option, Some}
+use Rattle.std.specs.Prelude.{◌≡◌, ◌≢◌, ◌⊎◌, ℕ, List, [], ◌∷◌, ◌++◌, Option, Some}
 use Rattle.side_world.specs.declared.disk.Disk.{Ghosts}
 use Rattle.side_world.specs.declared.outside.OutsideCall.{OutsideCall}
 use Rattle.side_world.specs.Faults.{Rose}
@@ -33,7 +33,7 @@ IsAnswerTo c (journals.Full len) answer = ⊥
 IsAnswerTo c journals.NoMemory answer = answer ≡ NoMemory
 
 module _ {D : Type 0} (disking : Ghosts D) where
-  -- the disk at the path of a journal was taken, and came back to that path: as it was, but where it failed
+  -- the disk at the path of a journal was taken, and came back to that path
   pub record IsReturned (c : Loaded) (before after : Option Disks) (fact : D → D → Type 0) : Type 0 where
     pub kind : c.kind ≡ StateJournal
     pub path : List ℕ
@@ -51,16 +51,22 @@ module _ {D : Type 0} (disking : Ghosts D) where
     pub refused : Reads disking disk (λ bytes. IsRefusedAt bytes at)
     pub unchanged : ChangesNothing disking disk back
 
-  -- it failed
-  abbrev pub HasFailed : D → D → Type 0
-  HasFailed disk back = Rose 0 (disking.faults back)
+  -- it failed; one that had bytes came back as it was
+  pub record HasFailed (disk back : D) : Type 0 where
+    pub failed : Rose 0 (disking.faults back)
+    pub unchanged : disking.size disk ≢ 0 → ChangesNothing disking disk back
+
+  -- there was no memory for it, and it came back as it was
+  pub record IsUnread (disk back : D) : Type 0 where
+    pub no_fault : disking.faults back ≡ 0
+    pub unchanged : ChangesNothing disking disk back
 
   -- the cause of an answer at a component, and what it does to the disks
   abbrev pub IsCause : KeepersErr → Loaded → Option Disks → Option Disks → Type 0
   IsCause (NotAJournal component at) c before after = (component ≡ c.name) × IsReturned c before after (IsNoJournalAt at)
   IsCause OutsideFailed c before after = (c.kind ≡ StateJournal) × (after ≡ before)
   IsCause DiskFailed c before after = IsReturned c before after HasFailed
-  IsCause NoMemory c before after = IsReturned c before after (λ disk back. disking.faults back ≡ 0)
+  IsCause NoMemory c before after = IsReturned c before after IsUnread
 
   -- keepers were made for the components before one of them, at which the start was refused; the disks that were taken up to it are those
   -- of the journals up to it, in order
