@@ -14,6 +14,7 @@ use case_text::{CASE, pieces};
 use side_base::{NoMemory, Text};
 use std::alloc::Global;
 use std::sync::Wait;
+use std::thread::Threads;
 use std::{env, fs, io};
 
 /// How many cases were played, how many of them differ, and what is said of these.
@@ -43,7 +44,7 @@ impl Tally {
 }
 
 // Plays the cases of a file of this text.
-fn play_all<W: Wait>(
+fn play_all<W: Threads + Wait + Sync>(
     rt: &W,
     alloc: Global,
     text: &[u8],

@@ -10,6 +10,7 @@ use side_base::Text;
 use sidecar_cli::sidecar_main;
 use std::alloc::Global;
 use std::sync::Wait;
+use std::thread::Threads;
 
 fn compare(lines: &mut Lines, word: &str, wanted: &[u8], got: &[u8]) {
     if wanted != got {
@@ -78,7 +79,7 @@ fn compare_all(alloc: Global, sections: &[Section<'_>], world: &Made, status: u8
 }
 
 // What is wrong of a case whose sections are these.
-fn report<W: Wait>(rt: &W, alloc: Global, sections: &[Section<'_>]) -> Text {
+fn report<W: Threads + Wait + Sync>(rt: &W, alloc: Global, sections: &[Section<'_>]) -> Text {
     let mut world = world(alloc, sections);
     let words = words(alloc, sections);
     let status = sidecar_main(rt, alloc, words.as_slice(), &mut world);
@@ -95,7 +96,7 @@ fn with_title(alloc: Global, case: &Piece<'_>, report: &Text) -> Text {
     lines.done()
 }
 
-fn play<W: Wait>(rt: &W, alloc: Global, case: &Piece<'_>) -> Text {
+fn play<W: Threads + Wait + Sync>(rt: &W, alloc: Global, case: &Piece<'_>) -> Text {
     match sections(alloc, case) {
         Ok(sections) => with_title(alloc, case, &report(rt, alloc, sections.as_slice())),
         Err(_) => Text::from_static(alloc, "no memory\n"),
@@ -103,7 +104,7 @@ fn play<W: Wait>(rt: &W, alloc: Global, case: &Piece<'_>) -> Text {
 }
 
 /// What is wrong of a case; nothing where it is right. One that differs is played again, as it may have found no memory.
-pub(crate) fn played<W: Wait>(rt: &W, alloc: Global, case: &Piece<'_>) -> Text {
+pub(crate) fn played<W: Threads + Wait + Sync>(rt: &W, alloc: Global, case: &Piece<'_>) -> Text {
     let report = play(rt, alloc, case);
     if report.is_empty() {
         report

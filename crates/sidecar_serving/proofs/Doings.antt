@@ -1,7 +1,10 @@
 -- What a worker has done, answer after answer.
-use Rattle.std.specs.Prelude.{◌≡◌, ◌≤◌, ℕ, true, false, List, [], ◌∷◌, ◌++◌, length, take, is_some, Option, Some, None, refl}
+use Rattle.std.specs.Prelude.{◌≡◌, ◌≤◌, ℕ, true, false, List, [], ◌∷◌, ◌++◌, length, take, is_some, Option, Some, None, Result, refl}
 use Rattle.std.proofs.Common.{◌∙◌, ap, sym, subst, append-nil}
 use Rattle.std.proofs.lemmas.List.{append_cancel_right}
+use Rattle.side_base.specs.declared.message.Request.{Request}
+use Rattle.side_base.specs.declared.message.Response.{Response}
+use Rattle.turn_cell.specs.declared.error.ApiErr.{ApiErr}
 use Rattle.side_world.specs.declared.source.Source.{Ghosts as Reads}
 use Rattle.side_world.specs.declared.sink.Sink.{Ghosts as Writes}
 use Rattle.side_world.specs.Answer.{Answer, Back, ComesBack, IsNew, Returns, conn, idle}
@@ -10,7 +13,7 @@ use Rattle.conn_serve.specs.declared.ended.Ended.{Ended}
 use Rattle.conn_serve.specs.declared.ended.Ended.TheVariants as ends
 use Rattle.conn_serve.specs.Ends.{SinkAt, SourceAt, sink_at, source_at}
 use Rattle.conn_serve.specs.Session.{Session, trace_of}
-use Rattle.conn_serve.specs.Served.{HasCause, Served}
+use Rattle.conn_serve.specs.Served.{Served}
 use Rattle.sidecar_core.specs.declared.config.Config.{Config}
 use Rattle.sidecar_core.specs.declared.delivering.Turn.{Turn}
 use Rattle.sidecar_core.specs.declared.delivering.Turn.TheVariants as turns
@@ -31,20 +34,20 @@ use Rattle.sidecar_serving.specs.Worker.{Adds, Connected, HasDone, IsNewDue, Rea
 use Rattle.sidecar_serving.proofs.Sessions.{told_fresh, session_by, cause_by}
 
 -- the seat of a cell shows the count that ended a connection
-shown_by : (shows : ℕ → Type 0) (source source' : SourceAt) (sink sink' : SinkAt) (ended : Ended) (count : ℕ) → HasCause shows source source' sink sink' ended → exit_of_served (served_of ended) ≡ Some (exits.Spent count) → shows count
-shown_by shows source source' sink sink' (ends.Spent n) count cause is = subst shows (spent is) cause.1
+shown_by : {E : Type 0} (exchange : Request → List E → Result Response ApiErr → Type 0) (did : List E → Type 0) (shows : ℕ → Type 0) (source source' : SourceAt) (sink sink' : SinkAt) (ended : Ended) (count : ℕ) → Served exchange did shows source source' sink sink' ended → exit_of_served (served_of ended) ≡ Some (exits.Spent count) → shows count
+shown_by exchange did shows source source' sink sink' (ends.Spent n) count served is = subst shows (spent is) (served.shown served.session.ends.next n served.session.ends.this served.session.ends.why)
   where
     spent : Some (exits.Spent n) ≡ Some (exits.Spent count) → n ≡ count
     spent e = cc
-shown_by shows source source' sink sink' ends.Asked count cause is = absurd (cc)
-shown_by shows source source' sink sink' ends.Done count cause is = absurd (cc)
-shown_by shows source source' sink sink' ends.Closed count cause is = absurd (cc)
-shown_by shows source source' sink sink' ends.ClosedByPeer count cause is = absurd (cc)
-shown_by shows source source' sink sink' (ends.Refused why) count cause is = absurd (cc)
-shown_by shows source source' sink sink' ends.Limit count cause is = absurd (cc)
-shown_by shows source source' sink sink' ends.SourceFailed count cause is = absurd (cc)
-shown_by shows source source' sink sink' ends.SinkFailed count cause is = absurd (cc)
-shown_by shows source source' sink sink' ends.NoMemory count cause is = absurd (cc)
+shown_by exchange did shows source source' sink sink' ends.Asked count served is = absurd (cc)
+shown_by exchange did shows source source' sink sink' ends.Done count served is = absurd (cc)
+shown_by exchange did shows source source' sink sink' ends.Closed count served is = absurd (cc)
+shown_by exchange did shows source source' sink sink' ends.ClosedByPeer count served is = absurd (cc)
+shown_by exchange did shows source source' sink sink' (ends.Refused why) count served is = absurd (cc)
+shown_by exchange did shows source source' sink sink' ends.Limit count served is = absurd (cc)
+shown_by exchange did shows source source' sink sink' ends.SourceFailed count served is = absurd (cc)
+shown_by exchange did shows source source' sink sink' ends.SinkFailed count served is = absurd (cc)
+shown_by exchange did shows source source' sink sink' ends.NoMemory count served is = absurd (cc)
 
 goes_on : (exit : Option Exit) → is_some exit ≡ false → exit ≡ None
 goes_on None on = refl
@@ -103,7 +106,7 @@ module _ {O S N : Type 0} (config : Config) (kinds : Kinds O) (cells : CellsAt O
             subst (λ l. Worked config l (done.events ++ trace_of served.done served.more) (exit_of_served (served_of ended))) (ap (λ l. l ++ conn (Some r.1) ∷ []) (sym (append_cancel_right r.0 w.0 (conn None ∷ []) w.1)) ∙ sym r.3)
             (further w.0 done.events (trace_of served.done served.more) (conn (Some r.1)) (exit_of_served (served_of ended)) w.3 (connected done.new r.1 r.4));
         new = tt;
-        shown = λ count shows. shown_by (Shows after.seats) (source_at reads source) (source_at reads source') (sink_at writes sink) (sink_at writes sink') ended count served.cause shows;
+        shown = λ count shows. shown_by (Exchange config) (λ events. Went kinds cells at events after) (Shows after.seats) (source_at reads source) (source_at reads source') (sink_at writes sink) (sink_at writes sink') ended count served shows;
       })
     where
       connected : IsNew reads writes source sink → (back : Back) → ComesBack reads writes source' sink' back → Connected config back (trace_of served.done served.more) (exit_of_served (served_of ended))
@@ -115,7 +118,7 @@ module _ {O S N : Type 0} (config : Config) (kinds : Kinds O) (cells : CellsAt O
             (session_by (Exchange config) served.bytes served.done served.more (λ out. Told (writes.contents sink) (writes.contents sink') out) (λ out. SentSome (writes.contents sink) (writes.contents sink') out) (λ out. back.written ≡ out) (λ out. (k : ℕ) × (k ≤ length out) × (back.written ≡ take k out)) ended
             (λ out told. told_fresh (writes.contents sink) (writes.contents sink') out back.written new.unwritten told came.written) (λ out some. (some.0, some.1, told_fresh (writes.contents sink) (writes.contents sink') (take some.0 out) back.written new.unwritten some.2 came.written)) served.session);
         whole = refl;
-        cause = cause_by (Shows after.seats) (source_at reads source) (source_at reads source') (sink_at writes sink) (sink_at writes sink') back ended new.no_faults new.no_sink_faults came.faults came.sink_faults came.ended served.cause;
+        cause = cause_by (source_at reads source) (source_at reads source') (sink_at writes sink) (sink_at writes sink') back ended new.no_faults new.no_sink_faults came.faults came.sink_faults came.ended served.cause;
         exit_is = refl;
       }
 

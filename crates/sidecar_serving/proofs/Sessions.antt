@@ -78,14 +78,14 @@ risen n (inl less) e = absurd (omega (arith, less, e))
 risen n (inr top) e = absurd (omega (arith, top, e))
 
 -- why it ended so, by what came back
-pub cause_by : (shows : ℕ → Type 0) (source source' : SourceAt) (sink sink' : SinkAt) (back : Back) (ended : Ended) → source.faults ≡ 0 → sink.faults ≡ 0 → source'.faults ≡ back.faults → sink'.faults ≡ back.sink_faults → source'.ended ≡ back.ended
-    → HasCause shows source source' sink sink' ended → IsCause back ended
-cause_by shows source source' sink sink' back ended none none' faults faults' over = by ended
+pub cause_by : (source source' : SourceAt) (sink sink' : SinkAt) (back : Back) (ended : Ended) → source.faults ≡ 0 → sink.faults ≡ 0 → source'.faults ≡ back.faults → sink'.faults ≡ back.sink_faults → source'.ended ≡ back.ended
+    → HasCause source source' sink sink' ended → IsCause back ended
+cause_by source source' sink sink' back ended none none' faults faults' over = by ended
   where
     plain : NoFault source source' sink sink' → (back.faults ≡ 0) × (back.sink_faults ≡ 0)
     plain n = (sym faults ∙ n.read ∙ none, sym faults' ∙ n.wrote ∙ none')
 
-    by : (ended : Ended) → HasCause shows source source' sink sink' ended → IsCause back ended
+    by : (ended : Ended) → HasCause source source' sink sink' ended → IsCause back ended
     by ends.Done c = (plain c.no_fault, sym over ∙ c.ended)
     by ends.ClosedByPeer c = (plain c.no_fault, sym over ∙ c.ended)
     by ends.SourceFailed c = (risen back.faults (subst (λ n. Rose 0 n) faults (subst (λ n. Rose n source'.faults) none c.0)), sym faults' ∙ c.1 ∙ none')
@@ -94,5 +94,5 @@ cause_by shows source source' sink sink' back ended none none' faults faults' ov
     by ends.Asked c = plain c
     by ends.Limit c = plain c
     by (ends.Refused why) c = plain c
-    by (ends.Spent count) c = plain c.0
+    by (ends.Spent count) c = plain c
     by ends.NoMemory c = plain c
