@@ -1,7 +1,7 @@
 -- The text of the usual file says a store and a broker.
 use Rattle.std.proofs.Common.{◌≡◌, ◌≢◌, ◌+◌, ◌<◌, arith, ℕ, true, false, List, [], None, Result, Ok, refl, sym, ap, subst}
 use Rattle.std.specs.Prelude.{IsUtf8, bytes_eq, codes}
-use Rattle.core.specs.Str.{is_utf8, chars}
+use Rattle.std.specs.Str.{is_utf8, chars}
 use Rattle.std.proofs.lemmas.Bool.Decides.{not_from_Decides}
 use Rattle.std.proofs.lemmas.Slice.Eq.{bytes_eq-Decides}
 use lib.Utf8.{encode}

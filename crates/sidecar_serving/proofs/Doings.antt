@@ -1,5 +1,5 @@
 -- What a worker has done, answer after answer.
-use Rattle.std.specs.Prelude.{◌≡◌, ◌≤◌, ℕ, true, false, List, [], ◌∷◌, ◌++◌, length, take, is_some, Option, Some, None, Result, refl}
+use Rattle.std.specs.Prelude.{◌≡◌, ◌≤◌, ℕ, false, List, [], ◌∷◌, ◌++◌, length, take, is_some, Option, Some, None, Result, refl}
 use Rattle.std.proofs.Common.{◌∙◌, ap, sym, subst, append-nil}
 use Rattle.std.proofs.lemmas.List.{append_cancel_right}
 use Rattle.side_base.specs.declared.message.Request.{Request}
@@ -16,7 +16,6 @@ use Rattle.conn_serve.specs.Session.{Session, trace_of}
 use Rattle.conn_serve.specs.Served.{Served}
 use Rattle.sidecar_core.specs.declared.config.Config.{Config}
 use Rattle.sidecar_core.specs.declared.delivering.Turn.{Turn}
-use Rattle.sidecar_core.specs.declared.delivering.Turn.TheVariants as turns
 use Rattle.sidecar_core.specs.declared.doing.Doing.{Doing}
 use Rattle.sidecar_core.specs.Composed.{went_on}
 use Rattle.sidecar_core.specs.Delivery.{Delivers}
@@ -30,7 +29,7 @@ use Rattle.sidecar_workers.specs.Works.{exit_of_served, exit_of_turned}
 use Rattle.sidecar_serving.specs.Ending.{served_of, turned_of}
 use Rattle.sidecar_serving.specs.declared.due.Due.{Due}
 use Rattle.sidecar_serving.specs.declared.due.Due.TheVariants as dues
-use Rattle.sidecar_serving.specs.Worker.{Adds, Connected, HasDone, IsNewDue, Reached, Worked, WorkedSoFar, further, owed_of}
+use Rattle.sidecar_serving.specs.Worker.{Adds, Connected, HasDone, IsNewDue, Worked, WorkedSoFar, further, owed_of}
 use Rattle.sidecar_serving.proofs.Sessions.{told_fresh, session_by, cause_by}
 
 -- the seat of a cell shows the count that ended a connection

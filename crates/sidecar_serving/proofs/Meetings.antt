@@ -1,5 +1,5 @@
 -- Workers that are met one after the other, the last one first.
-use Rattle.std.specs.Prelude.{◌≡◌, ◌≤◌, ◌<◌, ◌+◌, ◌-◌, ◌||◌, ℕ, suc, Bool, true, false, List, [], ◌∷◌, ◌++◌, length, map, is_some, All, IsSome, Option, Some, None, refl}
+use Rattle.std.specs.Prelude.{◌≡◌, ◌<◌, ◌||◌, ℕ, suc, Bool, true, false, List, [], ◌∷◌, ◌++◌, length, map, is_some, All, Option, Some, None, refl}
 use Rattle.std.specs.Option.{option_or}
 use Rattle.std.proofs.Common.{◌∙◌, ap, sym, subst, arith, append_assoc, length-append}
 use Rattle.std.proofs.lemmas.List.{append-nil, length-map, map-append}
@@ -7,7 +7,7 @@ use Rattle.std.proofs.lemmas.List.Elements.{All-pop}
 use Rattle.atomic_table.specs.Seated.{TableId}
 use Rattle.sidecar_workers.specs.declared.exit.Exit.{Exit}
 use Rattle.sidecar_core.specs.Did.{CellsAt, IsSoundPass, Kinds}
-use Rattle.sidecar_workers.specs.StopSeat.{HasEnded, HasFound, HasMet, IsAlone, Standing, joined, looked_as, root_of}
+use Rattle.sidecar_workers.specs.StopSeat.{HasEnded, HasFound, HasMet, Standing, joined, looked_as, root_of}
 use Rattle.sidecar_serving.specs.Ending.{has_reason, is_failed, is_stopped, spent_by}
 use Rattle.sidecar_serving.specs.Met.{AreMet, HubAt, IsMet, failed_in, nobody, one, reason_in, spent_in, stopped_in}
 use Rattle.sidecar_serving.specs.Opened.{WorkerAt}

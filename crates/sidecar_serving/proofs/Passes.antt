@@ -1,16 +1,14 @@
 -- Passes that workers begin with, and passes that are met.
-use Rattle.std.specs.Prelude.{◌≡◌, ◌<◌, ◌+◌, ℕ, true, false, List, [], ◌∷◌, length, map, Result, Ok, Err, IfOk, OnOk, refl}
+use Rattle.std.specs.Prelude.{◌≡◌, ◌<◌, ◌+◌, ℕ, true, List, [], ◌∷◌, map, Result, Ok, Err, IfOk, OnOk, refl}
 use Rattle.std.proofs.Common.{◌∙◌, ap, sym, subst, arith}
 use Rattle.std.proofs.lemmas.List.{length-map}
-use mathlib.Core.Option.{some}
-use lib.ListN.{get_elem?}
 use Rattle.atomic_table.proofs.Lists.{at_map}
 use Rattle.turn_cell.specs.Sitting.{Begun, IsSeatOf, Sitting, child_of, parent_of}
-use Rattle.turn_cell.specs.Passes.{EachMet, EachRoot, EachSeat, EachSeated, EachSound, EachSplit, EachSplitOff, IsRootOf, IsSplitOff}
+use Rattle.turn_cell.specs.Passes.{EachRoot, EachSeat, EachSplit, EachSplitOff, IsRootOf, IsSplitOff}
 use Rattle.turn_cell.proofs.Lists.{one_place}
 use Rattle.turn_cell.proofs.Growing.{still_of}
 use Rattle.turn_cell.proofs.Passes.{each_weaker, met_roots, still_split_off}
-use Rattle.turn_pass.specs.Pass.{EachMayMeet, MayEachSplit}
+use Rattle.turn_pass.specs.Pass.{MayEachSplit}
 use Rattle.std.specs.List.{flat_map}
 use Rattle.sidecar_core.specs.declared.doing.Doing.{Doing}
 use Rattle.sidecar_core.specs.Doing.{broke_at, entered_at, noted_in, stored_at}

@@ -1,5 +1,5 @@
 -- Workers that were opened and have run.
-use Rattle.std.specs.Prelude.{◌≡◌, ◌≢◌, ◌<◌, ◌+◌, ℕ, suc, true, false, List, [], ◌∷◌, length, map, slice_index_or, is_some, All, IsSome, Option, Some, None, refl}
+use Rattle.std.specs.Prelude.{◌≡◌, ◌≢◌, ◌<◌, ℕ, suc, true, false, List, [], ◌∷◌, length, map, slice_index_or, is_some, All, IsSome, Option, Some, None, refl}
 use Rattle.std.proofs.Common.{◌∙◌, ap, sym, subst, arith}
 use Rattle.std.proofs.lemmas.List.Elements.{All-cons, All-nil}
 use Rattle.atomic_table.specs.Seated.{TableId}
@@ -18,7 +18,7 @@ use Rattle.sidecar_core.specs.declared.config.Config.{Config}
 use Rattle.sidecar_core.specs.declared.shared.Shared.{Shared}
 use Rattle.sidecar_core.specs.Composed.{went_nowhere}
 use Rattle.sidecar_core.specs.Did.{CellsAt, Kinds, Standing}
-use Rattle.sidecar_core.specs.Pass.{cells_of, seats_of}
+use Rattle.sidecar_core.specs.Pass.{cells_of}
 use Rattle.sidecar_workers.specs.declared.exit.Exit.{Exit}
 use Rattle.sidecar_workers.specs.declared.exit.Exit.TheVariants as exits
 use Rattle.sidecar_workers.specs.declared.slot.Slot.{Slot}
@@ -26,14 +26,13 @@ use Rattle.sidecar_workers.specs.declared.work.Work.{Ghosts as Works}
 use Rattle.sidecar_workers.specs.Slots.{HasRun}
 use Rattle.sidecar_workers.specs.declared.work.Owed.{Owed}
 use Rattle.sidecar_workers.specs.declared.work.Owed.TheVariants as owed
-use Rattle.sidecar_workers.specs.StopSeat.{Standing as Sitting, child_of}
 use Rattle.sidecar_workers.specs.Works.{reason_of}
 use Rattle.sidecar_serving.specs.declared.due.Due.{Due}
 use Rattle.sidecar_serving.specs.declared.due.Due.TheVariants as dues
 use Rattle.sidecar_serving.specs.declared.serving.Serving.{Serving}
 use Rattle.sidecar_serving.specs.Ending.{has_reason, is_stopped}
 use Rattle.sidecar_serving.specs.Opened.{AreWorkers, HasWorked, IsOpened, WorkerAt}
-use Rattle.sidecar_serving.specs.Passes.{IsSplitOffPass, worker_pass}
+use Rattle.sidecar_serving.specs.Passes.{IsSplitOffPass}
 use Rattle.sidecar_serving.specs.Slots.{IsOpenedSlot, IsReadySlot, worker_at}
 use Rattle.sidecar_serving.specs.Worker.{HasDone, HasExit, IsNewDue, Reached, Worked, nothing, owed_of}
 use Rattle.sidecar_serving.proofs.Passes.{split_off_stays, worker_pass_is}

@@ -1,18 +1,18 @@
 -- A session whose connection has come back: what was read and written, and why it ended so.
-use Rattle.std.specs.Prelude.{◌≡◌, ◌≢◌, ◌⊎◌, ◌≤◌, ℕ, List, [], ◌∷◌, ◌++◌, length, take, Option, Some, None, Result, refl}
+use Rattle.std.specs.Prelude.{◌≡◌, ◌≢◌, ℕ, List, ◌++◌, Option, Some, None, Result}
 use Rattle.std.proofs.Common.{◌∙◌, ap, sym, subst, inl, inr, arith}
 use Rattle.side_base.specs.declared.message.Request.{Request}
 use Rattle.side_base.specs.declared.message.Response.{Response}
 use Rattle.side_world.specs.Answer.{Back}
 use Rattle.side_world.specs.Faults.{Rose}
-use Rattle.side_world.specs.Told.{IsFresh, Told, SentSome}
+use Rattle.side_world.specs.Told.{IsFresh, Told}
 use Rattle.turn_cell.specs.declared.error.ApiErr.{ApiErr}
 use Rattle.conn_serve.specs.declared.ended.Ended.{Ended}
 use Rattle.conn_serve.specs.declared.ended.Ended.TheVariants as ends
 use Rattle.conn_serve.specs.Ends.{SinkAt, SourceAt}
 use Rattle.conn_serve.specs.Exchanged.{Exchanged, Unanswered}
 use Rattle.conn_serve.specs.Served.{HasCause, NoFault}
-use Rattle.conn_serve.specs.Session.{CutWhileGoing, Ends, EndsAfter, EndsBetween, EndsCut, EndsRefused, EndsSending, EndsSpent, EndsWith, EndsWithoutMemory, Session, sent_at}
+use Rattle.conn_serve.specs.Session.{Ends, EndsSending, EndsWith, Session, sent_at}
 use Rattle.sidecar_serving.specs.Worker.{IsCause}
 
 -- what was told of something that told nothing before

@@ -1,5 +1,5 @@
 -- Serving as a whole.
-use Rattle.std.specs.Prelude.{◌≡◌, ◌≤◌, ◌<◌, ◌+◌, ℕ, true, List, [], ◌∷◌, ◌++◌, length, map, take, drop, All, IsSome, Option, Some, None, refl}
+use Rattle.std.specs.Prelude.{◌≡◌, ◌≤◌, ◌<◌, ℕ, true, List, [], ◌∷◌, length, map, All, IsSome, Option, None, refl}
 use Rattle.std.proofs.Common.{◌∙◌, ap, sym, subst, inl, inr, arith}
 use Rattle.std.proofs.Math.Nat.{eq-or-lt_of_le}
 use Rattle.std.proofs.lemmas.List.{length-map}
@@ -10,7 +10,7 @@ use Rattle.side_world.specs.Faults.{Rose}
 use Rattle.side_world.specs.Told.{Tells}
 use Rattle.side_world.proofs.Composed.{tells_nothing}
 use Rattle.sidecar_core.specs.declared.config.Config.{Config}
-use Rattle.sidecar_core.specs.Did.{CellsAt, IsSoundPass, Kinds, SeatsAt}
+use Rattle.sidecar_core.specs.Did.{CellsAt, IsSoundPass, Kinds}
 use Rattle.sidecar_serving.specs.declared.end.End.{End}
 use Rattle.sidecar_serving.specs.declared.end.End.TheVariants as ended
 use Rattle.sidecar_serving.specs.declared.opening.Unopened.{Unopened}

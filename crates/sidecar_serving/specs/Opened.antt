@@ -1,5 +1,5 @@
 -- Workers that were opened, and workers that have run.
-use Rattle.std.specs.Prelude.{◌≡◌, ℕ, zero, suc, List, [], ◌∷◌, ◌++◌, length, All, IsSome, Option, Some, None}
+use Rattle.std.specs.Prelude.{◌≡◌, ℕ, zero, suc, List, [], ◌∷◌, ◌++◌, Option, Some, None}
 use Rattle.rand_core.specs.Stream.{Stream}
 use Rattle.side_world.specs.declared.outside.OutsideCall.{OutsideCall}
 use Rattle.side_world.specs.declared.outside.OutsideCall.TheVariants as call

@@ -1,5 +1,5 @@
 -- Whole passes of all objects: what workers begin with, and what meeting them does to the pass of the root seats.
-use Rattle.std.specs.Prelude.{◌≡◌, ◌+◌, ℕ, true, false, List, [], map, Some, None}
+use Rattle.std.specs.Prelude.{◌≡◌, ◌+◌, ℕ, true, false, [], map, Some, None}
 use Rattle.turn_cell.specs.Sitting.{Begun, IsSeatOf, Meets, Sitting}
 use Rattle.turn_cell.specs.Passes.{EachMet, EachRoot, EachSplitOff, IsRootOf, IsSplitOff}
 use Rattle.turn_pass.specs.Pass.{EachMayMeet}

@@ -1,5 +1,5 @@
 -- Serving as a whole: workers are opened, run, and met.
-use Rattle.std.specs.Prelude.{◌≡◌, ◌≢◌, ◌⊎◌, ◌≤◌, ◌<◌, ℕ, true, List, [], length, All, IsSome, None, Option}
+use Rattle.std.specs.Prelude.{◌≡◌, ◌⊎◌, ◌≤◌, ◌<◌, ℕ, true, List, length, All, IsSome, None, Option}
 use Rattle.rand_core.specs.Stream.{Stream}
 use Rattle.side_world.specs.declared.outside.OutsideCall.{OutsideCall}
 use Rattle.side_world.specs.Faults.{Rose}

@@ -1,10 +1,5 @@
-use Rattle.std.proofs.Common.{◌∙◌, arith, refl, sym}
-use Rattle.std.specs.Prelude.{Some}
-use Rattle.std.proofs.lemmas.List.Elements.{All-pop}
-use Rattle.sidecar_core.specs.contracts.kinds.StoreObjectKinds.TheImpl.{ghosts}
-use Rattle.sidecar_core.specs.Pass.{cells_of, seats_of}
+use Rattle.std.proofs.Common.{◌∙◌, arith, refl}
 use Rattle.sidecar_serving.specs.Ending.{end_of}
-use Rattle.sidecar_serving.specs.Slots.{IsReadySlot, worker_at}
 use Rattle.sidecar_serving.proofs.Meetings.{all_met, empty_of, may_be_met, none_met, one_met_as, ready_last}
 use Rattle.sidecar_serving.proofs.meeting.meet_all.Goals as goal
 

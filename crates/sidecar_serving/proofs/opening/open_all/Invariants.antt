@@ -1,4 +1,4 @@
-use Rattle.std.proofs.Common.{◌≡◌, ◌≤◌, length, vec_len}
+use Rattle.std.proofs.Common.{◌≡◌, ◌≤◌, length}
 use Rattle.std.specs.Vec.{vec_capacity}
 use Rattle.sidecar_core.specs.Pass.{cells_of, seats_of}
 use Rattle.sidecar_serving.specs.Slots.{IsOpenedSlot}

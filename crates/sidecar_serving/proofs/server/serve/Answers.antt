@@ -1,5 +1,5 @@
 use Rattle.std.proofs.Common.{sym, subst}
-use Rattle.sidecar_core.specs.Pass.{cells_of, seats_of}
+use Rattle.sidecar_core.specs.Pass.{cells_of}
 use Rattle.sidecar_serving.specs.Passes.{IsRootPass}
 use Rattle.sidecar_serving.proofs.Passes.{lone_pass, lone_root, root_pass_is}
 use Rattle.sidecar_serving.proofs.Whole.{none_served}

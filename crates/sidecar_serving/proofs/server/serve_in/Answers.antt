@@ -1,12 +1,11 @@
 use Rattle.std.specs.Prelude.{ℕ, Err}
-use Rattle.side_world.specs.Told.{Tells}
-use Rattle.sidecar_serving.specs.Opened.{AreWorkers, worker_calls}
-use Rattle.std.proofs.Common.{◌∙◌, ◌≡◌, ◌++◌, All, arith, ap, drop, length, map, refl, sym, subst, take}
+use Rattle.sidecar_serving.specs.Opened.{AreWorkers}
+use Rattle.std.proofs.Common.{◌∙◌, ◌≡◌, ◌++◌, All, arith, ap, drop, length, map, sym, subst, take}
 use Rattle.std.proofs.Math.Seq.{take-append_seam}
 use Rattle.std.proofs.lemmas.List.{length-map}
 use Rattle.sidecar_core.specs.Pass.{cells_of, seats_of}
 use Rattle.sidecar_workers.specs.StopSeat.{root_of}
-use Rattle.sidecar_serving.specs.Passes.{IsRootPass, root_pass}
+use Rattle.sidecar_serving.specs.Passes.{IsRootPass}
 use Rattle.sidecar_serving.specs.Slots.{IsOpenedSlot, IsReadySlot, worker_at}
 use Rattle.sidecar_serving.proofs.Passes.{root_pass_is}
 use Rattle.sidecar_serving.proofs.Ran.{all_of, mapped_of, opened_ready, opened_worked}
