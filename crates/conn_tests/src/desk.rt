@@ -17,6 +17,7 @@ pub struct Desk {
 }
 
 impl Desk {
+    /// A desk whose responses take their memory from this allocator.
     pub fn new(alloc: Global) -> Desk {
         Desk { alloc }
     }

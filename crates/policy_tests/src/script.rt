@@ -11,6 +11,7 @@ pub struct Script {
 }
 
 impl Script {
+    /// An operation of which no attempt was made.
     pub fn new(answers: &'static [u8]) -> Script {
         Script { answers, made: 0 }
     }
