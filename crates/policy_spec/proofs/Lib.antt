@@ -3,3 +3,4 @@ pub mod Said
 pub mod Sound
 pub mod Refused
 pub mod Joined
+pub mod Reading

@@ -3,6 +3,7 @@
 
 mod choice;
 mod joining;
+pub mod laws;
 mod load;
 mod millis;
 mod named;
