@@ -9,20 +9,20 @@ const OTHER_DESCRIPTORS: u64 = 64;
 
 /// How long a door waits, in milliseconds, and how many connections it may have.
 #[derive(Clone, Copy)]
-pub(crate) struct DoorLimits {
+pub struct DoorLimits {
     /// One past the greatest descriptor of a connection.
-    pub(crate) places: usize,
+    pub places: usize,
     /// A connection on which nothing comes for so long between two requests is closed.
-    pub(crate) idle_ms: u64,
+    pub idle_ms: u64,
     /// A peer may take so long for a whole request, and so long to read any of a response.
-    pub(crate) patience_ms: u64,
+    pub patience_ms: u64,
     /// The same where all workers wait for slow peers, and for an idle connection where there is no room for a new one.
-    pub(crate) pressed_ms: u64,
+    pub pressed_ms: u64,
 }
 
 impl DoorLimits {
     /// The limits of the program.
-    pub(crate) fn standard() -> Self {
+    pub fn standard() -> Self {
         DoorLimits {
             places: places(),
             idle_ms: 60_000,

@@ -21,6 +21,7 @@ mod tcp_sink;
 mod tcp_source;
 mod waiting;
 
+pub use door_limits::DoorLimits;
 pub use host_clock::HostClock;
 pub use host_disk::HostDisk;
 pub use host_files::HostFiles;

@@ -28,7 +28,8 @@ impl TcpDoor {
         TcpDoor::open_within(rt, port, DoorLimits::standard())
     }
 
-    pub(crate) fn open_within<R: Net<Listener = TcpListener, Stream = TcpStream> + AllocGlobal>(
+    /// The same within these limits in place of the program's.
+    pub fn open_within<R: Net<Listener = TcpListener, Stream = TcpStream> + AllocGlobal>(
         rt: &R,
         port: u16,
         limits: DoorLimits,

@@ -1,0 +1,158 @@
+use crate::scene::{Given, Scene, connect, next_of, piece_of};
+use net_edge::{DoorLimits, TcpAcceptor, TcpDoor};
+use std::io::{self, Write};
+use std::net::{Net, TcpListener, TcpStream};
+use std::process::Abort;
+use std::sync::Wait;
+use std::test::Fail;
+use std::thread::{Threads, for_each_mut, join, sleep};
+use std::time::{Clock, Duration};
+
+/// Limits of a door that is soon out of patience.
+fn short() -> DoorLimits {
+    DoorLimits {
+        places: 200,
+        idle_ms: 60_000,
+        patience_ms: 60,
+        pressed_ms: 20,
+    }
+}
+
+#[test]
+fn a_connection_comes_back_with_each_request_to_any_worker(rt: HostRuntime) -> Result<(), Fail> {
+    let mut scene = Scene::open(rt, DoorLimits::standard())?;
+    scene.play("0+ 0>first. a=6 0<6 0>second. b=7 0<6 0>third. b=6 0<6 0>last. a=5 0<6")?;
+    Ok(())
+}
+
+#[test]
+fn two_connections_are_served_by_one_worker(rt: HostRuntime) -> Result<(), Fail> {
+    let mut scene = Scene::open(rt, DoorLimits::standard())?;
+    scene.play("0+ 1+ 0>first. a=6 1>second. a=7 1>third. a=6 0>last. a=5 0<12 1<12")?;
+    Ok(())
+}
+
+#[test]
+fn a_connection_that_its_client_closed_comes_to_its_end(rt: HostRuntime) -> Result<(), Fail> {
+    let mut scene = Scene::open(rt, DoorLimits::standard())?;
+    scene.play("0+ 0>first. a=6 0<6 0x b=0 1+ 1>second. b=7 1<6")?;
+    Ok(())
+}
+
+#[test]
+fn the_rest_of_a_request_is_not_awaited_for_ever(rt: HostRuntime) -> Result<(), Fail> {
+    let mut scene = Scene::open(rt, short())?;
+    scene.play("0+ 0>half a=4 0<0 1+ 1>half b=4 1<0 2+ 2>whole. a=6 2<6")?;
+    Ok(())
+}
+
+#[test]
+fn other_work_is_told_but_not_twice_in_a_row(rt: HostRuntime) -> Result<(), Fail> {
+    let mut scene = Scene::open(rt, DoorLimits::standard())?;
+    scene.play("0+ 0>first. a^ b~ a^ b=6 b~ 0<6")?;
+    Ok(())
+}
+
+#[test]
+fn a_shut_door_is_told_to_all(rt: HostRuntime) -> Result<(), Fail> {
+    let mut scene = Scene::open(rt, DoorLimits::standard())?;
+    scene.play("0+ 0>first. a=6 0<6 ! a# b# b# a#")?;
+    Ok(())
+}
+
+#[test]
+fn what_idles_too_long_is_closed(rt: HostRuntime) -> Result<(), Fail> {
+    let limits = DoorLimits {
+        idle_ms: 1,
+        ..short()
+    };
+    let mut scene = Scene::open(rt, limits)?;
+    scene.play("0+ 0>first. a=6 0<6 a~ a~ a~ a~ 0<0")?;
+    Ok(())
+}
+
+/// Connects so many clients, each of which says nothing, and has a worker look at each.
+fn crowd<
+    R: Net<Listener = TcpListener, Stream = TcpStream> + Abort + Wait + AllocGlobal + Copy + Drop,
+>(rt: R, port: u16, worker: &mut TcpAcceptor<R>) -> io::Result<Vec<TcpStream>> {
+    let mut clients = Vec::new(rt.alloc());
+    for _ in 0..40u32 {
+        clients.push(connect(&rt, port)?)?;
+        assert_eq!(rt; next_of(worker), Given::Idle);
+    }
+    Ok(clients)
+}
+
+/// Has a worker serve until a client has its answer, which may be refused at first.
+fn is_answered_at_last<R: Wait + AllocGlobal>(worker: &mut TcpAcceptor<R>) -> bool {
+    (0..400u32).any(|_| next_of(worker) == Given::Conn(6))
+}
+
+#[test]
+fn there_are_more_connections_than_places(rt: HostRuntime) -> Result<(), Fail> {
+    let limits = DoorLimits {
+        places: 40,
+        ..short()
+    };
+    let door = TcpDoor::open_within(&rt, 0, limits)?;
+    let mut worker = door.acceptor(rt)?;
+    let clients = crowd(rt, door.port()?, &mut worker)?;
+    drop(clients);
+    let mut last = connect(&rt, door.port()?)?;
+    last.write_all(b"first.")?;
+    assert!(rt; is_answered_at_last(&mut worker));
+    assert_eq!(rt; piece_of(&mut last)?, 6);
+    Ok(())
+}
+
+/// Serves until the door is shut.
+fn serve_to_the_end<R: Wait + AllocGlobal>(worker: &mut TcpAcceptor<R>) {
+    for _ in 0..100_000u32 {
+        if matches!(next_of(worker), Given::Closed | Given::Failed) {
+            return;
+        }
+    }
+}
+
+/// How many bytes a client is answered while four others have sent half a request each.
+fn answered_beside_halves<R: Net<Listener = TcpListener, Stream = TcpStream> + Clock + AllocGlobal>(
+    rt: &R,
+    port: u16,
+) -> io::Result<usize> {
+    let mut halves = Vec::new(rt.alloc());
+    for _ in 0..4u32 {
+        let mut half = connect(rt, port)?;
+        half.write_all(b"half")?;
+        halves.push(half)?;
+    }
+    sleep(rt, Duration::from_millis(300));
+    let mut whole = connect(rt, port)?;
+    whole.write_all(b"whole.")?;
+    piece_of(&mut whole)
+}
+
+/// The same with a door that is shut afterwards.
+fn answered_at<R: Net<Listener = TcpListener, Stream = TcpStream> + Clock + AllocGlobal>(
+    rt: &R,
+    door: &TcpDoor,
+) -> io::Result<usize> {
+    let answered = answered_beside_halves(rt, door.port()?);
+    door.shut();
+    answered
+}
+
+#[test]
+fn four_half_requests_leave_a_worker_to_a_fifth_client(rt: HostRuntime) -> Result<(), Fail> {
+    let door = TcpDoor::open(&rt, 0)?;
+    let mut workers = Vec::new(rt.alloc());
+    for _ in 0..4u32 {
+        workers.push(door.acceptor(rt)?)?;
+    }
+    let (_, answered) = join(
+        &rt,
+        || for_each_mut(&rt, &mut workers, 4, &|_, worker| serve_to_the_end(worker)),
+        || answered_at(&rt, &door),
+    );
+    assert_eq!(rt; answered?, 6);
+    Ok(())
+}

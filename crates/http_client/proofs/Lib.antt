@@ -1,0 +1,4 @@
+mod AheadLemmas
+mod ChunksLemmas
+mod FramingLemmas
+mod ReplyLemmas

@@ -1,0 +1,126 @@
+//! Content in chunks.
+ghost use Rattle.std.specs.Prelude.{◌≡◌, ◌+◌, ◌≤◌, ◌<◌, ◌++◌, ◌∷◌, [], ℕ, List, length, take, IfOk, IfSome, IsTrue, OnOk};
+ghost use Rattle.side_world.specs.Told.{Took};
+ghost use Rattle.http_client.specs.Replies.{ahead, AreChunks, BODY_LIMIT};
+ghost use Rattle.http_client.specs.Taken.{IsLine, AreTrailers};
+
+use crate::head::HEAD_LIMIT;
+use crate::incoming::{Incoming, ReplyErr};
+use httparse::spans::{EMPTY_HEADER_SPAN, parse_headers};
+use httparse::{Status, parse_chunk_size};
+use side_base::Blob;
+use side_world::Source;
+use std::alloc::Global;
+
+/// The most bytes of a reply's content.
+pub(crate) const BODY_LIMIT: usize = 4_194_304;
+/// The most trailers.
+const TRAILER_LIMIT: usize = 128;
+
+const LINE_END: &[u8] = b"\r\n";
+
+impl<S: Source> Incoming<S> {
+    /// Takes all chunks and what ends them, and gives the chunks' bytes.
+    pub(crate) fn take_chunks(&mut self, alloc: Global) -> Result<Blob, ReplyErr>
+        ensures took { IfOk result (λ body. (text : List ℕ) × Took (ahead self.old.pending (S.left self.old.source)) (ahead self.new.pending (S.left self.new.source)) text × AreChunks text body) }
+        ensures short { IfOk result (λ body. length body ≤ BODY_LIMIT) }
+    {
+        let mut body = Blob::new(alloc);
+        loop {
+            let size = self.take_chunk_line()?;
+            if size > (BODY_LIMIT - body.len()) as u64 {
+                return Err(ReplyErr::Bad);
+            }
+            if size == 0 {
+                self.take_trailers()?;
+                return Ok(body);
+            }
+            self.take_chunk_data(size as usize, &mut body)?;
+        }
+    }
+
+    /// Takes a chunk line, and gives how many bytes it counts.
+    fn take_chunk_line(&mut self) -> Result<u64, ReplyErr>
+        ensures { IfOk result (λ size. (text : List ℕ) × Took (ahead self.old.pending (S.left self.old.source)) (ahead self.new.pending (S.left self.new.source)) text × IsLine text size) }
+    {
+        while self.pending.bytes().len() < HEAD_LIMIT {
+            match parse_chunk_size(self.pending.bytes()) {
+                Ok(Status::Complete((len, size))) => {
+                    self.skip(len);
+                    return Ok(size);
+                }
+                Ok(Status::Partial) => {
+                    let came = self.fill()?;
+                    if !came {
+                        return Err(ReplyErr::Bad);
+                    }
+                }
+                Err(_) => return Err(ReplyErr::Bad),
+            }
+        }
+        Err(ReplyErr::Bad)
+    }
+
+    /// Takes the bytes of a chunk, of which there are so many, with the line end behind them, and appends them to `body`.
+    fn take_chunk_data(&mut self, len: usize, body: &mut Blob) -> Result<(), ReplyErr>
+        requires { len ≤ BODY_LIMIT }
+        ensures { OnOk result ((bytes : List ℕ) × Took (ahead self.old.pending (S.left self.old.source)) (ahead self.new.pending (S.left self.new.source)) (bytes ++ 13 ∷ 10 ∷ []) × (length bytes ≡ len) × (body.new ≡ body.old ++ bytes)) }
+    {
+        let there = self.fill_to(len + LINE_END.len())?;
+        if !there {
+            return Err(ReplyErr::Bad);
+        }
+        match data_of(self.pending.bytes(), len) {
+            Some(bytes) => {
+                body.push(bytes)?;
+                self.skip(len + LINE_END.len());
+                Ok(())
+            }
+            None => Err(ReplyErr::Bad),
+        }
+    }
+
+    /// Takes the trailers, which are let go, and the empty line that ends them.
+    fn take_trailers(&mut self) -> Result<(), ReplyErr>
+        ensures { OnOk result ((text : List ℕ) × Took (ahead self.old.pending (S.left self.old.source)) (ahead self.new.pending (S.left self.new.source)) text × AreTrailers text) }
+    {
+        while self.pending.bytes().len() < HEAD_LIMIT {
+            let mut headers = [EMPTY_HEADER_SPAN; TRAILER_LIMIT];
+            match parse_headers(self.pending.bytes(), &mut headers) {
+                Ok(Status::Complete((len, _))) => {
+                    self.skip(len);
+                    return Ok(());
+                }
+                Ok(Status::Partial) => {
+                    let came = self.fill()?;
+                    if !came {
+                        return Err(ReplyErr::Bad);
+                    }
+                }
+                Err(_) => return Err(ReplyErr::Bad),
+            }
+        }
+        Err(ReplyErr::Bad)
+    }
+}
+
+/// The first `len` bytes, where a line end follows them.
+#[tactic(auto, using(crate::proofs::ChunksLemmas::data_found))]
+fn data_of(bytes: &[u8], len: usize) -> Option<&[u8]>
+    requires { len + 2 ≤ length bytes.now }
+    ensures counts { IfSome result (λ d. length d.now ≡ len) }
+    ensures ends { IfSome result (λ d. take (len + 2) bytes.now ≡ d.now ++ 13 ∷ 10 ∷ []) }
+{
+    let (front, behind) = bytes.split_at(len);
+    if is_line_end(&behind[..LINE_END.len()]) {
+        Some(front)
+    } else {
+        None
+    }
+}
+
+fn is_line_end(bytes: &[u8]) -> bool
+    ensures { IsTrue result → bytes.now ≡ 13 ∷ 10 ∷ [] }
+{
+    bytes == LINE_END
+}

@@ -1,0 +1,126 @@
+//! The head of a reply.
+ghost use Rattle.std.specs.Prelude.{◌≡◌, ◌≤◌, ℕ, List, length, map, All, IfOk, OnOk};
+ghost use Rattle.side_world.specs.Told.{Took};
+ghost use Rattle.httparse.specs.Spans.{IsHeaderWithin, IsResponseWithin, IsResponseOf};
+ghost use Rattle.http_client.specs.Replies.{ahead};
+ghost use Rattle.http_client.specs.Taken.{header_field, is_interim, IsHead, IsFinal};
+
+use crate::incoming::{Incoming, ReplyErr};
+use httparse::Status;
+use httparse::spans::{EMPTY_HEADER_SPAN, HeaderSpan, ResponseSpans, parse_response};
+use side_base::{Blob, Field, Fields, Sequence, Text, TextErr};
+use side_world::Source;
+use std::alloc::Global;
+
+/// The most bytes of a head.
+pub(crate) const HEAD_LIMIT: usize = 16_384;
+/// The most fields of a head.
+const FIELD_LIMIT: usize = 128;
+/// The most heads of a reply, its own and the interim ones before it.
+const HEADS_LIMIT: usize = 16;
+
+/// The head of a reply.
+#[derive(Debug, Drop)]
+pub(crate) struct Head {
+    pub(crate) status: u16,
+    pub(crate) minor: u8,
+    pub(crate) fields: Fields,
+}
+
+impl<S: Source> Incoming<S> {
+    /// Takes the head of a reply whose status is from 200 to 599, and all interim heads before it.
+    pub(crate) fn take_final_head(&mut self, alloc: Global) -> Result<Head, ReplyErr>
+        ensures took { IfOk result (λ head. (text : List ℕ) × Took (ahead self.old.pending (S.left self.old.source)) (ahead self.new.pending (S.left self.new.source)) text × IsFinal text head) }
+        ensures from { IfOk result (λ head. 200 ≤ head.status) }
+        ensures known { IfOk result (λ head. head.status ≤ 599) }
+    {
+        let mut headers = [EMPTY_HEADER_SPAN; FIELD_LIMIT];
+        for _ in 0..HEADS_LIMIT {
+            let spans = self.fill_head(&mut headers)?;
+            if !is_interim(spans.code) {
+                return self.take_head(alloc, &spans, &headers);
+            }
+            self.skip(spans.len);
+        }
+        Err(ReplyErr::Bad)
+    }
+
+    /// Reads until a whole head is there, and gives where its parts are.
+    fn fill_head(&mut self, headers: &mut [HeaderSpan]) -> Result<ResponseSpans, ReplyErr>
+        ensures same { OnOk result (ahead self.new.pending (S.left self.new.source) ≡ ahead self.old.pending (S.left self.old.source)) }
+        ensures within { IfOk result (λ spans. IsResponseWithin self.new.pending headers.new spans) }
+        ensures head { IfOk result (λ spans. IsResponseOf self.new.pending headers.new spans) }
+    {
+        while self.pending.bytes().len() < HEAD_LIMIT {
+            match parse_response(self.pending.bytes(), headers) {
+                Ok(Status::Complete(spans)) => return Ok(spans),
+                Ok(Status::Partial) => {
+                    let came = self.fill()?;
+                    if !came {
+                        return Err(ReplyErr::Bad);
+                    }
+                }
+                Err(_) => return Err(ReplyErr::Bad),
+            }
+        }
+        Err(ReplyErr::Bad)
+    }
+
+    /// Takes the head that is there, where its status is from 200 to 599.
+    fn take_head(
+        &mut self,
+        alloc: Global,
+        spans: &ResponseSpans,
+        headers: &[HeaderSpan],
+    ) -> Result<Head, ReplyErr>
+        requires within { IsResponseWithin self.old.pending headers.now spans.now }
+        requires head { IsResponseOf self.old.pending headers.now spans.now }
+        ensures took { IfOk result (λ head. (text : List ℕ) × Took (ahead self.old.pending (S.left self.old.source)) (ahead self.new.pending (S.left self.new.source)) text × IsHead text head) }
+        ensures from { IfOk result (λ head. 200 ≤ head.status) }
+        ensures known { IfOk result (λ head. head.status ≤ 599) }
+    {
+        if spans.code < 200 || spans.code > 599 {
+            return Err(ReplyErr::Bad);
+        }
+        let fields = fields_of(alloc, self.pending.bytes(), &headers[..spans.headers])?;
+        self.skip(spans.len);
+        Ok(Head {
+            status: spans.code,
+            minor: spans.version,
+            fields,
+        })
+    }
+}
+
+/// Whether the reply follows behind a head with this status.
+fn is_interim(status: u16) -> bool
+    ensures { result ≡ is_interim status }
+{
+    100 <= status && status < 200 && status != 101
+}
+
+/// The fields that the spans cover.
+fn fields_of(alloc: Global, text: &[u8], headers: &[HeaderSpan]) -> Result<Fields, ReplyErr>
+    requires { All (IsHeaderWithin (length text.now)) headers.now }
+    ensures { IfOk result (λ fields. fields ≡ map (header_field text.now) headers.now) }
+{
+    let mut fields = Sequence::new(alloc);
+    for header in headers {
+        fields.push(field_of(alloc, text, header)?)?;
+    }
+    Ok(fields)
+}
+
+/// The field that a span's two parts cover. A name is a token, and so a text.
+fn field_of(alloc: Global, text: &[u8], header: &HeaderSpan) -> Result<Field, ReplyErr>
+    requires { IsHeaderWithin (length text.now) header.now }
+    ensures { IfOk result (λ field. field ≡ header_field text.now header.now) }
+{
+    let name = match Text::from_bytes(alloc, header.name.of(text)) {
+        Ok(name) => name,
+        Err(TextErr::NotUtf8 { at: _ }) => return Err(ReplyErr::Bad),
+        Err(TextErr::NoMemory) => return Err(ReplyErr::NoMemory),
+    };
+    let value = Blob::from_bytes(alloc, header.value.of(text))?;
+    Ok(Field { name, value })
+}

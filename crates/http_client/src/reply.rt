@@ -1,0 +1,112 @@
+//! A reply, out of the bytes that come.
+ghost use Rattle.std.specs.Prelude.{◌≡◌, ◌≤◌, ◌<◌, ℕ, List, length, take, IfOk, OnOk};
+ghost use Rattle.side_world.specs.Told.{Took, IsDrained};
+ghost use Rattle.side_world.specs.Link.{IsReply};
+ghost use Rattle.http_client.specs.Replies.{ahead, IsReplyOf, IsReplyText, IsContent, BODY_LIMIT};
+
+use crate::chunks::BODY_LIMIT;
+use crate::framing::{Framing, framing_of, kept};
+use crate::incoming::{Incoming, Pending, ReplyErr};
+use side_base::{Blob, Response};
+use side_world::Source;
+use std::alloc::Global;
+
+/// Reads a reply from the front of a source: interim heads, which are let go, its head, and its content of at most 4,194,304
+/// bytes. `to_head`: it replies to HEAD. The source comes back with it; what was read behind the reply is let go.
+///
+/// Its status is from 200 to 599. Of its fields, those that speak of the connection alone are left out.
+pub fn read_reply<S: Source>(
+    alloc: Global,
+    source: S,
+    to_head: bool,
+) -> (Result<Response, ReplyErr>, S)
+    ensures is { IfOk result.0 (IsReplyOf to_head (S.left source) (S.left result.1)) }
+    ensures reply { IfOk result.0 IsReply }
+{
+    let mut incoming = Incoming {
+        source,
+        pending: Pending::new(alloc),
+    };
+    let reply = incoming.take_reply(alloc, to_head);
+    (reply, incoming.source)
+}
+
+impl<S: Source> Incoming<S> {
+    /// Takes a reply: interim heads, which are let go, its head, and its content of at most 4,194,304 bytes. `to_head`: it replies to HEAD.
+    ///
+    /// Its status is from 200 to 599, and the fields that speak of the connection alone are left out.
+    fn take_reply(&mut self, alloc: Global, to_head: bool) -> Result<Response, ReplyErr>
+        ensures took { IfOk result (λ response. (text : List ℕ) × Took (ahead self.old.pending (S.left self.old.source)) (ahead self.new.pending (S.left self.new.source)) text × IsReplyText to_head text (ahead self.new.pending (S.left self.new.source)) response) }
+        ensures reply { IfOk result IsReply }
+    {
+        let head = self.take_final_head(alloc)?;
+        match framing_of(to_head, head.status, head.minor, &head.fields) {
+            Some(framing) => {
+                let body = self.take_content(alloc, framing)?;
+                let fields = kept(alloc, head.fields)?;
+                Ok(Response {
+                    status: head.status,
+                    fields,
+                    body,
+                })
+            }
+            None => Err(ReplyErr::Bad),
+        }
+    }
+
+    /// Takes the content that is framed so.
+    fn take_content(&mut self, alloc: Global, framing: Framing) -> Result<Blob, ReplyErr>
+        ensures took { IfOk result (λ body. (text : List ℕ) × Took (ahead self.old.pending (S.left self.old.source)) (ahead self.new.pending (S.left self.new.source)) text × IsContent framing text body) }
+        ensures short { IfOk result (λ body. length body ≤ BODY_LIMIT) }
+        ensures all { OnOk result (framing ≡ Framing.ToEnd → IsDrained (ahead self.new.pending (S.left self.new.source))) }
+    {
+        match framing {
+            Framing::Nothing => Ok(Blob::new(alloc)),
+            Framing::Length { len } => self.take_length(alloc, len),
+            Framing::Chunks => self.take_chunks(alloc),
+            Framing::ToEnd => self.take_to_end(alloc),
+        }
+    }
+
+    /// Takes so many bytes.
+    fn take_length(&mut self, alloc: Global, len: u64) -> Result<Blob, ReplyErr>
+        ensures took { IfOk result (λ body. Took (ahead self.old.pending (S.left self.old.source)) (ahead self.new.pending (S.left self.new.source)) body) }
+        ensures counts { IfOk result (λ body. length body ≡ len) }
+        ensures short { OnOk result (len ≤ BODY_LIMIT) }
+    {
+        if len > BODY_LIMIT as u64 {
+            return Err(ReplyErr::Bad);
+        }
+        let there = self.fill_to(len as usize)?;
+        if !there {
+            return Err(ReplyErr::Bad);
+        }
+        self.take_front(alloc, len as usize)
+    }
+
+    /// Takes all bytes to the end of the input.
+    fn take_to_end(&mut self, alloc: Global) -> Result<Blob, ReplyErr>
+        ensures took { IfOk result (λ body. Took (ahead self.old.pending (S.left self.old.source)) (ahead self.new.pending (S.left self.new.source)) body) }
+        ensures short { IfOk result (λ body. length body ≤ BODY_LIMIT) }
+        ensures all { OnOk result (IsDrained (ahead self.new.pending (S.left self.new.source))) }
+    {
+        let more = self.fill_to(BODY_LIMIT + 1)?;
+        if more {
+            return Err(ReplyErr::Bad);
+        }
+        let len = self.pending.bytes().len();
+        self.take_front(alloc, len)
+    }
+
+    /// Takes so many bytes, which are there.
+    fn take_front(&mut self, alloc: Global, len: usize) -> Result<Blob, ReplyErr>
+        requires { len ≤ length self.old.pending }
+        ensures took { IfOk result (λ body. Took (ahead self.old.pending (S.left self.old.source)) (ahead self.new.pending (S.left self.new.source)) body) }
+        ensures counts { IfOk result (λ body. length body ≡ len) }
+        ensures left { OnOk result (S.left self.new.source ≡ S.left self.old.source) }
+    {
+        let body = Blob::from_bytes(alloc, &self.pending.bytes()[..len])?;
+        self.skip(len);
+        Ok(body)
+    }
+}
