@@ -6,10 +6,8 @@ pub mod Ends
 pub mod Found
 pub mod Lapsed
 pub mod Least
-pub mod Locating
 pub mod Overlay
-pub mod PlacedRows
-pub mod Places
+pub mod Hashed
 pub mod Renewed
 pub mod Shapes
 pub mod Sizes

@@ -6,7 +6,6 @@ pub mod Growth
 pub mod MemoryKeeper
 pub mod Prepared
 pub mod Faults
-pub mod Places
 pub mod Rows
 pub mod Table
 pub mod Tree

@@ -9,7 +9,7 @@ use Rattle.std.specs.declared.vec.Vec.{Vec}
 
 -- the change that a step makes
 abbrev pub change_of : Step → Change
-change_of (Place key row end) = Put key row.value row.version row.until
+change_of (Place key row end) = Put key.items row.value row.version row.until
 change_of (TakeOut key) = Remove key
 
 abbrev pub changes_of : List Step → List Change
@@ -22,5 +22,5 @@ IsEndOf key until (Some end) = (until ≢ 0) × (end.items ≡ key)
 
 -- a step has the key that its end needs
 abbrev pub IsReady : Step → Type 0
-IsReady (Place key row end) = IsEndOf key row.until end
+IsReady (Place key row end) = IsEndOf key.items row.until end
 IsReady (TakeOut key) = Unit {0}

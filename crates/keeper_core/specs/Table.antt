@@ -1,7 +1,8 @@
 -- What a table of rows shows, and how it keeps the rows.
-use Rattle.std.specs.Prelude.{ℕ, List, IsTrue, refl}
+use Rattle.std.specs.Prelude.{ℕ, List, [], ◌∷◌, Vec, IsTrue, refl}
 use Rattle.std.specs.Coded.{Coded, code_by, coded×, coded_ℕ, coded_list}
-use Rattle.std.specs.FinMap.{code, is_sorted}
+use Rattle.std.specs.FinMap.{code, empty, insert, is_sorted}
+use Rattle.std.specs.declared.alloc.Global.{Global}
 use Rattle.keeper_core.specs.Rows.{Row, Rows, Entry, row_code, byte_order}
 use Rattle.keeper_core.specs.Ends.{HasEnds}
 use Rattle.keeper_core.specs.declared.prepared.StoredRow.{StoredRow}
@@ -18,6 +19,11 @@ table_code = code_by (Rows × ℕ) (coded× (code (coded_list coded_ℕ) row_cod
 -- the row that is stored
 abbrev pub row_of : StoredRow → Row
 row_of stored = record { value = stored.value; version = stored.version; until = stored.until }
+
+-- the rows of these entries; of two entries of one key the first counts
+abbrev pub rows_of : List (Vec ℕ Global × StoredRow) → Rows
+rows_of [] = empty
+rows_of (entry ∷ entries) = insert (rows_of entries) entry.0.items (row_of entry.1)
 
 -- the ends are in order, and those of the rows
 pub record Keeps (rows : Rows) (ends : List Entry) : Type 0 where

@@ -10,12 +10,12 @@ mod insertion;
 mod keeper;
 mod links;
 mod memory_keeper;
-mod place;
 mod prepared;
 mod retiming;
 mod rotation;
 mod row;
 mod row_table;
+mod secret_state;
 mod seeking;
 
 pub use changes::{Change, ChangeList, Changes};

@@ -16,7 +16,6 @@ pub struct MemoryKeeper {
     size: u64,
     limit: u64,
     failing: FailingCommits,
-    secret: [u8; 16],
     ghost sized: { size ≡ bytes_in table.rows },
     ghost counted: { IsCounted table.rows next },
 }
@@ -38,7 +37,7 @@ impl MemoryKeeper {
     {
         MemoryKeeper {
             alloc,
-            table: RowTable::new(alloc),
+            table: RowTable::new(alloc, secret),
             next: 1,
             size: 0,
             limit,
@@ -47,7 +46,6 @@ impl MemoryKeeper {
                 commits: 0,
                 faults: 0,
             },
-            secret,
         }
     }
 }

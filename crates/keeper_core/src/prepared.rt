@@ -23,7 +23,7 @@ pub(crate) struct StoredRow {
 pub(crate) enum Step {
     /// The row of a key, with the key once more where the row has an end.
     Place {
-        key: Blob,
+        key: Vec<u8>,
         row: StoredRow,
         end: Option<Vec<u8>>,
     },
@@ -52,7 +52,7 @@ impl Model for Prepared {
 }
 
 impl Prepared {
-    /// Takes the memory for these changes; keys and values are moved.
+    /// Takes the memory for these changes; values are moved.
     pub(crate) fn new(alloc: Global, mut list: ChangeList) -> Result<Self, NoMemory>
         ensures { IfOk result (λ prepared. prepared ≡ list) }
     {
@@ -82,7 +82,11 @@ fn step_of(alloc: Global, change: Change) -> Result<Step, NoMemory>
                 until,
                 end: NONE,
             };
-            Ok(Step::Place { key, row, end })
+            Ok(Step::Place {
+                key: key.bytes().to_vec(alloc)?,
+                row,
+                end,
+            })
         }
         Change::Remove { key } => Ok(Step::TakeOut(key)),
     }

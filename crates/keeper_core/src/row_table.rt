@@ -12,7 +12,7 @@ use crate::hashed_rows::HashedRows;
 use crate::links::NONE;
 use crate::prepared::{Step, StoredRow};
 use crate::{ChangeList, Prepared, RowView};
-use side_base::{Blob, NoMemory};
+use side_base::NoMemory;
 use std::alloc::Global;
 use std::marker::Model;
 
@@ -43,13 +43,13 @@ impl Model for RowTable {
 }
 
 impl RowTable {
-    /// No rows; takes no memory.
-    pub fn new(alloc: Global) -> RowTable
+    /// No rows; takes no memory. `secret` are random bytes, for the hash of keys.
+    pub fn new(alloc: Global, secret: [u8; 16]) -> RowTable
         ensures rows { result.rows ≡ empty }
         ensures counted { IsCounted result.rows 1 }
     {
         RowTable {
-            rows: HashedRows::new(alloc),
+            rows: HashedRows::new(alloc, secret),
             ends: EndTree::new(alloc),
         }
     }
@@ -76,13 +76,13 @@ impl RowTable {
         self.ends.next_lapsed(after, moment)
     }
 
-    /// Takes the memory for changes; keys and values are moved.
+    /// Takes the memory for changes; values are moved.
     pub fn prepare(&mut self, alloc: Global, list: ChangeList) -> Result<Prepared, NoMemory>
         ensures rows { self.new.rows ≡ self.old.rows }
         ensures prepared { IfOk result (λ prepared. prepared ≡ list) }
         ensures room { IfOk result (λ prepared. length prepared ≤ self.new.room) }
     {
-        self.rows.reserve(alloc, list.len())?;
+        self.rows.reserve(list.len())?;
         self.ends.reserve(alloc, list.len())?;
         Prepared::new(alloc, list)
     }
@@ -115,15 +115,15 @@ impl RowTable {
     }
 
     /// Gives a key a row, whatever it had.
-    fn place(&mut self, key: Blob, row: StoredRow, end: Option<Vec<u8>>)
+    fn place(&mut self, key: Vec<u8>, row: StoredRow, end: Option<Vec<u8>>)
         requires room { 0 < self.old.room }
-        requires ready { IsEndOf key row.until end }
-        ensures rows { self.new.rows ≡ insert self.old.rows key (row_of row) }
+        requires ready { IsEndOf key.items row.until end }
+        ensures rows { self.new.rows ≡ insert self.old.rows key.items (row_of row) }
         ensures room { self.old.room ≤ self.new.room + 1 }
     {
-        let kept = kept_end(&self.rows, key.bytes());
+        let kept = kept_end(&self.rows, &key);
         let mut row = row;
-        row.end = with_end(&mut self.ends, kept, key.bytes(), row.until, end);
+        row.end = with_end(&mut self.ends, kept, &key, row.until, end);
         self.rows.insert(key, row);
     }
 

@@ -496,7 +496,7 @@ fn thin(alloc: Global, table: &mut RowTable, count: u32) -> Result<(), NoMemory>
 #[test]
 fn the_tree_of_ends_stays_balanced(rt: HostRuntime) -> Result<(), Fail> {
     let alloc = rt.alloc();
-    let mut table = RowTable::new(alloc);
+    let mut table = RowTable::new(alloc, SECRET);
     put_up_to(alloc, &mut table, 20_000)?;
     assert!(rt; table.height() <= 20);
     thin(alloc, &mut table, 20_000)?;

@@ -85,7 +85,7 @@ module _ {D : Type 0} (disking : Ghosts D) (old new : Journal D disking) (rows :
 
 -- a keeper made again of its parts is the same
 pub made_again : {D : Type 0} {disking : Ghosts D} (keeper : JournalKeeper D disking) (counted : IsCounted keeper.table.rows keeper.next) (short : limit_of keeper.journal < 2 ^ 32)
-    → (let again : JournalKeeper D disking = record { alloc = keeper.alloc; journal = keeper.journal; table = keeper.table; next = keeper.next; secret = keeper.secret; counted = counted; short = short } in again ≡ keeper)
+    → (let again : JournalKeeper D disking = record { alloc = keeper.alloc; journal = keeper.journal; table = keeper.table; next = keeper.next; counted = counted; short = short } in again ≡ keeper)
 made_again keeper counted short =
     let counted_prop : IsProp (IsCounted keeper.table.rows keeper.next) = hlevel props in
     let short_prop : IsProp (limit_of keeper.journal < 2 ^ 32) = hlevel props in
@@ -94,7 +94,6 @@ made_again keeper counted short =
       journal = keeper.journal;
       table = keeper.table;
       next = keeper.next;
-      secret = keeper.secret;
       counted = counted_prop counted keeper.counted i;
       short = short_prop short keeper.short i;
     }

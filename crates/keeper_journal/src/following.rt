@@ -24,13 +24,13 @@ impl Replay {
     ghost use Rattle.keeper_journal.specs.Following.{Follows, SaysNoneAfter};
     ghost use Rattle.keeper_journal.specs.declared.decoding.BodyErr.TheVariants.{NotABody};
 
-    /// Before the first commit.
-    pub(crate) fn new(alloc: Global) -> Replay
+    /// Before the first commit. `secret` are random bytes, for the hash of keys.
+    pub(crate) fn new(alloc: Global, secret: [u8; 16]) -> Replay
         ensures rows { result.table.rows ≡ empty }
         ensures next { result.next ≡ 1 }
     {
         Replay {
-            table: RowTable::new(alloc),
+            table: RowTable::new(alloc, secret),
             next: 1,
         }
     }

@@ -18,7 +18,6 @@ pub struct JournalKeeper<D: Disk> {
     pub(crate) journal: Journal<D>,
     pub(crate) table: RowTable,
     pub(crate) next: u64,
-    pub(crate) secret: [u8; 16],
     ghost counted: { IsCounted table.rows next },
     ghost short: { limit_of journal < 2 ^ 32 },
 }
@@ -69,7 +68,7 @@ impl<D: Disk> JournalKeeper<D> {
     {
         match disk.len() {
             Ok(0) => match Journal::create(disk, limit) {
-                Ok(journal) => Ok(JournalKeeper::over(alloc, journal, Replay::new(alloc), secret)),
+                Ok(journal) => Ok(JournalKeeper::over(alloc, journal, Replay::new(alloc, secret))),
                 Err(refused) => Err(refused),
             },
             Ok(_) => opened(alloc, disk, limit, secret),
@@ -78,12 +77,7 @@ impl<D: Disk> JournalKeeper<D> {
     }
 
     /// A keeper over a journal, with the rows and the next version of its bodies.
-    pub(crate) fn over(
-        alloc: Global,
-        journal: Journal<D>,
-        replay: Replay,
-        secret: [u8; 16],
-    ) -> JournalKeeper<D>
+    pub(crate) fn over(alloc: Global, journal: Journal<D>, replay: Replay) -> JournalKeeper<D>
         requires { limit_of journal < 2 ^ 32 }
         ensures journal { result.journal ≡ journal }
         ensures rows { rows_in result ≡ replay.table.rows }
@@ -94,7 +88,6 @@ impl<D: Disk> JournalKeeper<D> {
             journal,
             table: replay.table,
             next: replay.next,
-            secret,
         }
     }
 

@@ -38,8 +38,8 @@ pub(crate) fn opened<D: Disk>(
         Ok(loaded) => loaded,
         Err(error) => return Err(error),
     };
-    match replay(alloc, bodies) {
-        Ok(replay) => Ok(JournalKeeper::over(alloc, journal, replay, secret)),
+    match replay(alloc, bodies, secret) {
+        Ok(replay) => Ok(JournalKeeper::over(alloc, journal, replay)),
         Err(error) => Err((journal.into_disk(), error)),
     }
 }

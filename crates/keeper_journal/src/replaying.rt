@@ -14,15 +14,20 @@ const FIRST_GATE: u64 = 16;
 /// What a record has beside its body.
 const RECORD_BYTES: u64 = 9;
 
-/// What the commits leave that these bodies say, or the gate of the first body that says none which may follow.
-pub(crate) fn replay(alloc: Global, mut bodies: Bodies) -> Result<Replay, JournalErr>
+/// What the commits leave that these bodies say, or the gate of the first body that says none which may follow. `secret` are random
+/// bytes, for the hash of keys.
+pub(crate) fn replay(
+    alloc: Global,
+    mut bodies: Bodies,
+    secret: [u8; 16],
+) -> Result<Replay, JournalErr>
     requires { end_of bodies < 2 ^ 64 }
     ensures replayed { IfOk result (λ replay. (commits : List Changes) × Say bodies commits × (replay.table.rows ≡ rows_of commits) × (replay.next ≡ next_of commits)) }
     ensures faulty { (at : ℕ) → IsErrOf result (NotAJournal at) → IsFaultyAt bodies at }
     ensures not_failed { IsErrOf result Failed → ⊥ }
     ensures not_full { (len : ℕ) → IsErrOf result (Full len) → ⊥ }
 {
-    let mut replay = Replay::new(alloc);
+    let mut replay = Replay::new(alloc, secret);
     let mut at = FIRST_GATE;
     while let Some(body) = bodies.take_first() {
         match replay.follow(alloc, body.bytes()) {
