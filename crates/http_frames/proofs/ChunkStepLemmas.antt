@@ -1,5 +1,5 @@
 -- What stands where a chunk or the end of the chunks is due.
-use Rattle.std.proofs.Common.{◌≡◌, ℕ, ◌+◌, ◌<◌, ◌≤◌, zero, suc, List, [], ◌∷◌, ◌++◌, length, take, drop, lit≤, refl, sym, ap, ◌∙◌, subst, arith, append_assoc, append-nil, length-append}
+use Rattle.std.proofs.Common.{◌≡◌, ℕ, ◌+◌, ◌<◌, ◌≤◌, zero, suc, List, [], ◌∷◌, ◌++◌, length, drop, lit≤, refl, sym, ap, ◌∙◌, subst, arith, append_assoc, append-nil, length-append}
 use Rattle.std.specs.List.{flat_map}
 use Rattle.std.proofs.lemmas.List.{drop_at}
 use Rattle.std.proofs.lemmas.List.Elements.{All-nil, All-cons, All-head}
@@ -8,8 +8,7 @@ use Rattle.httparse.proofs.ChunkLemmas.{chunk_line_unique}
 use Rattle.http_frames.specs.HeadRules.{BODY_LIMIT}
 use Rattle.http_frames.specs.Chunked.{Chunk, print_chunk, IsChunk, IsLine, Ending, print_ending, IsEnding, ReadsChunked, NeverChunked}
 use Rattle.http_frames.specs.ChunkReading.{ReadsLine, HasNoLine, NeverHasLine, MayBecomeLine, IsLineOf, HasNoTrailers, NeverHasTrailers, MayBecomeTrailers, AreTrailersOf}
-use Rattle.http_frames.specs.ChunkSteps.{ReadsData, HasNoData, IsDataRead, IsStuck, MayEnd, IsChunkAt, IsEndAt}
-use Rattle.http_frames.specs.declared.chunks.DataRead.TheVariants.{Whole}
+use Rattle.http_frames.specs.ChunkSteps.{ReadsData, HasNoData, IsStuck, MayEnd, IsEndAt}
 use Rattle.http_frames.proofs.LineLemmas.{zero_line, zero_line_is}
 use Rattle.http_frames.proofs.DataLemmas.{filled, length-filled}
 
@@ -206,19 +205,6 @@ chunk_from text start len is bytes some counts = record {
   size = sym is.size_is ∙ sym counts;
   some = omega (arith, counts);
 }
-
-pub chunk_whole : (text : List ℕ) (sum start len : ℕ) → 0 < len → sum + len ≤ BODY_LIMIT → (is : IsLineOf text start len)
-    → IsDataRead is.after len Whole → IsChunkAt text sum start len
-chunk_whole text sum start len some fits is (after, reads) =
-    let c : Chunk = record { line = is.line; bytes = take len is.after } in record {
-      chunk = c;
-      after = after;
-      valid = chunk_from text start len is (take len is.after) some reads.counts;
-      whole = is.reads.1 ∙ ap (λ (t : List ℕ). print_chunk_line is.line ++ t) reads.whole ∙ sym (chunk_parts c after);
-      start_is = is.len_is;
-      len_is = sym reads.counts;
-      fits = fits;
-    }
 
 pub chunk_partial : (text : List ℕ) (start len : ℕ) → 0 < len → (is : IsLineOf text start len) (more bytes : List ℕ)
     → ReadsData (is.after ++ more) len bytes [] → MayEnd text

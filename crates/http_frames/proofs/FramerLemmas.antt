@@ -1,10 +1,12 @@
 -- What a framer's calls do to what it holds.
-use Rattle.std.proofs.Common.{◌≡◌, ℕ, ◌<◌, ◌≤◌, Bool, true, false, List, [], ◌∷◌, ◌++◌, length, drop, None, Result, Ok, Err, ◌⊎◌, inl, inr, refl, sym, ap, ◌∙◌, subst, arith, length-append, length-drop, cond}
+use Rattle.std.proofs.Common.{◌≡◌, ℕ, ◌<◌, ◌≤◌, Bool, true, false, List, [], ◌++◌, length, drop, Option, Some, None, Result, Ok, Err, ◌⊎◌, inl, inr, refl, sym, ap, ◌∙◌, subst, arith, length-append, length-drop, cond}
 use Rattle.std.proofs.lemmas.List.{drop_all}
+use Rattle.std.specs.Prelude.{OnOk, OnErr}
+use Rattle.std.specs.Result.{is_ok}
 use Rattle.std.specs.declared.alloc.AllocError.{AllocError}
 use Rattle.httparse.specs.Grammar.{RequestHead, print_request}
 use Rattle.side_base.specs.declared.message.Request.{Request}
-use Rattle.http_frames.specs.declared.step.Step.{Step}
+use Rattle.http_frames.specs.declared.step.Step.TheVariants as step
 use Rattle.http_frames.specs.declared.refusal.FrameErr.{FrameErr}
 use Rattle.http_frames.specs.declared.refusal.FrameErr.TheVariants.{HeadTooLong, BadHead, TooManyHeaders, BadHost, BothLengths, TransferCoding, BadLength, Coding, TooLong, BadChunk, NoMemory}
 use Rattle.http_frames.specs.declared.framer.Stage.{Stage}
@@ -12,61 +14,102 @@ use Rattle.http_frames.specs.declared.framer.Stage.TheVariants as stage
 use Rattle.http_frames.specs.declared.turn.Turn.{Turn}
 use Rattle.http_frames.specs.declared.turn.Turn.TheVariants as turn
 use Rattle.http_frames.specs.declared.progress.Content.{Content}
-use Rattle.http_frames.specs.Framing.{State, Stands, Answers, waiting, ended, IsRequestStep, IsNeedStep, IsRefusal, IsNext}
-use Rattle.http_frames.specs.Framer.{state_at, kept_of, IsStage}
+use Rattle.http_frames.specs.Framing.{State, Kept, Stands, Answers, waiting, ended, grown, fed, IsRefusal, IsNext}
+use Rattle.http_frames.specs.Framer.{kept_at, IsStage}
 use Rattle.http_frames.specs.Lines.{beginning}
+use Rattle.http_frames.specs.declared.lines.Place.{Place}
 use Rattle.http_frames.specs.Progress.{HoldsContent}
-use Rattle.http_frames.specs.Turns.{IsOpen, IsRequestTo, TakesTurn}
-use Rattle.http_frames.proofs.ProgressLemmas.{head_within}
+use Rattle.http_frames.specs.Turns.{IsOpen, Holds, IsTurn, TakesTurn}
 use Rattle.http_frames.proofs.PlaceLemmas.{place_more}
 use Rattle.http_frames.proofs.TurnLemmas.{grown_content}
 
-open_state : (pending : List ℕ) (continued : Bool) (next : Stage) → IsOpen next → state_at pending continued next ≡ waiting pending continued
-open_state pending continued (stage.Head place) open_ = refl
-open_state pending continued (stage.Content content) open_ = refl
-open_state pending continued (stage.Refused error) open_ = absurd open_
+-- what is kept of an open stream stands for these bytes exactly where they are those that were read and the rest
+pub stands_so : (pending rest : List ℕ) (continued : Bool) (next : Stage) → Holds pending rest next → Stands (waiting pending continued) (kept_at rest continued next)
+stands_so pending rest continued (stage.Head place) is = record { pending = is; continued = refl; refused = refl }
+stands_so pending rest continued (stage.Content content) is = record { pending = is; continued = refl; refused = refl }
+stands_so pending rest continued (stage.Refused error) is = absurd is
 
-request_step : (pending : List ℕ) (continued : Bool) (request : Request) (end : ℕ) (next : Stage) → IsRequestTo pending continued request end
-    → next ≡ stage.Head beginning → IsRequestStep (waiting pending continued) request (state_at (drop end pending) false next)
-request_step pending continued request end next is head = record {
-  waits = refl;
-  head = is.head;
-  body = is.body;
-  rest = drop end pending;
-  whole = is.whole;
-  is = is.is;
-  told = is.told;
-  after = ap (λ (s : Stage). state_at (drop end pending) false s) head;
-}
+-- the state for which a framer stands that is open
+open_is : (state : State) (continued : Bool) → state.continued ≡ continued → state.refused ≡ None → state ≡ waiting state.pending continued
+open_is state continued same none = λ i. record { pending = state.pending; continued = same i; refused = none i }
 
-pub gives_request : (pending : List ℕ) (continued : Bool) (old next : Stage) (request : Request) (end : ℕ)
-    → TakesTurn pending continued old (next, Ok (turn.Request request end))
-    → IsRequestStep (state_at pending continued old) request (state_at (drop end pending) false next)
-gives_request pending continued (stage.Head place) next request end is = request_step pending continued request end next is.0 is.1
-gives_request pending continued (stage.Content content) next request end is = request_step pending continued request end next is.0 is.1
-gives_request pending continued (stage.Refused error) next request end is =
-    let same = ap (λ (x : Stage × Result Turn AllocError). x.1) is in
-    absurd (cc)
+none_left : (state : State) (error : FrameErr) → Stands state (record { begun = None; buffered = []; continued = false; refused = Some error }) → state ≡ ended error
+none_left state error is = λ i. record { pending = is.pending i; continued = is.continued i; refused = is.refused i }
 
-pub gives_need : (pending : List ℕ) (continued : Bool) (old next : Stage) → TakesTurn pending continued old (next, Ok turn.Need)
-    → IsNeedStep (state_at pending continued old) (state_at pending continued next)
-gives_need pending continued (stage.Head place) next is = record {
-  waits = refl;
-  none = is.0;
-  accepted = is.1;
-  quiet = is.2;
-  same = open_state pending continued next is.3.0;
-}
-gives_need pending continued (stage.Content content) next is = record {
-  waits = refl;
-  none = is.0;
-  accepted = is.1;
-  quiet = is.2;
-  same = open_state pending continued next is.3.0;
-}
-gives_need pending continued (stage.Refused error) next is =
-    let same = ap (λ (x : Stage × Result Turn AllocError). x.1) is in
-    absurd (cc)
+-- what a call of `next` gives is given by a turn: at once where the stream is refused, else from what is pending
+pub gives : (P : State → Type 0) (state : State) (rest rest' : List ℕ) (continued : Bool) (old : Stage) (result : Stage × Result Turn AllocError)
+    → Stands state (kept_at rest continued old) → TakesTurn state.pending rest rest' continued old result
+    → (IsTurn state.pending rest' continued result → P (waiting state.pending continued))
+    → ((error : FrameErr) → old ≡ stage.Refused error → result ≡ (stage.Refused error, Ok (turn.Refused error)) → P (ended error)) → P state
+gives P state rest rest' continued (stage.Head place) result is took open_ refused =
+    subst P (sym (open_is state continued is.continued is.refused)) (open_ (took is.pending))
+gives P state rest rest' continued (stage.Content content) result is took open_ refused =
+    subst P (sym (open_is state continued is.continued is.refused)) (open_ (took is.pending))
+gives P state rest rest' continued (stage.Refused error) result is took open_ refused =
+    subst P (sym (none_left state error is)) (refused error refl took)
+
+pub gives_request : (state : State) (rest rest' : List ℕ) (continued : Bool) (old next : Stage) (request : Request) (end : ℕ)
+    → Stands state (kept_at rest continued old) → TakesTurn state.pending rest rest' continued old (next, Ok (turn.Request request end))
+    → next ≡ stage.Head beginning → Answers state (Ok (step.Request request)) (kept_at (drop end rest') false next)
+gives_request state rest rest' continued old next request end is took head =
+    let K : Kept = kept_at (drop end rest') false next in
+    gives (λ s. Answers s (Ok (step.Request request)) K) state rest rest' continued old (next, Ok (turn.Request request end)) is took
+    (λ turned. record {
+      new = waiting (drop end rest') false;
+      next = record {
+        waits = refl;
+        head = turned.head;
+        body = turned.body;
+        rest = drop end rest';
+        whole = turned.whole;
+        is = turned.is;
+        told = turned.told;
+        after = refl;
+      };
+      stands = stands_so (drop end rest') (drop end rest') false next (let P : Stage → Type 0 = λ s. Holds (drop end rest') (drop end rest') s in subst P (sym head) refl);
+    })
+    (λ error was same. let both = ap (λ (x : Stage × Result Turn AllocError). x.1) same in absurd (cc))
+
+pub gives_continue : (state : State) (rest rest' : List ℕ) (continued : Bool) (old next : Stage) → Stands state (kept_at rest continued old)
+    → TakesTurn state.pending rest rest' continued old (next, Ok turn.Continue) → Answers state (Ok step.Continue) (kept_at rest' true next)
+gives_continue state rest rest' continued old next is took =
+    let K : Kept = kept_at rest' true next in
+    gives (λ s. Answers s (Ok step.Continue) K) state rest rest' continued old (next, Ok turn.Continue) is took
+    (λ turned. record {
+      new = waiting state.pending true;
+      next = record {
+        waits = refl;
+        head = turned.0.head;
+        after = turned.0.after;
+        heads = turned.0.heads;
+        asks = turned.0.asks;
+        untold = turned.1;
+        told = refl;
+      };
+      stands = stands_so state.pending rest' true next turned.2;
+    })
+    (λ error was same. let both = ap (λ (x : Stage × Result Turn AllocError). x.1) same in absurd (cc))
+
+pub gives_need : (state : State) (rest rest' : List ℕ) (continued : Bool) (old next : Stage) → Stands state (kept_at rest continued old)
+    → TakesTurn state.pending rest rest' continued old (next, Ok turn.Need) → Answers state (Ok step.Need) (kept_at rest' continued next)
+gives_need state rest rest' continued old next is took =
+    let K : Kept = kept_at rest' continued next in
+    gives (λ s. Answers s (Ok step.Need) K) state rest rest' continued old (next, Ok turn.Need) is took
+    (λ turned. record {
+      new = waiting state.pending continued;
+      next = record { waits = refl; none = turned.0; accepted = turned.1; quiet = turned.2; same = refl };
+      stands = stands_so state.pending rest' continued next turned.3;
+    })
+    (λ error was same. let both = ap (λ (x : Stage × Result Turn AllocError). x.1) same in absurd (cc))
+
+-- without memory it is as before
+pub gives_nothing : (state : State) (rest rest' : List ℕ) (continued : Bool) (old next : Stage) (error : AllocError) → Stands state (kept_at rest continued old)
+    → TakesTurn state.pending rest rest' continued old (next, Err error) → Answers state (Err NoMemory) (kept_at rest' continued next)
+gives_nothing state rest rest' continued old next error is took =
+    let K : Kept = kept_at rest' continued next in
+    gives (λ s. Answers s (Err NoMemory) K) state rest rest' continued old (next, Err error) is took
+    (λ turned. record { new = waiting state.pending continued; next = refl; stands = stands_so state.pending rest' continued next turned })
+    (λ e was same. let both = ap (λ (x : Stage × Result Turn AllocError). x.1) same in absurd (cc))
 
 -- a refusal, as `next` gives it
 gives_error : (e : FrameErr) (old new : State) → new ≡ ended e → (old ≡ ended e) ⊎ IsRefusal old e → IsNext old (Err e) new
@@ -83,41 +126,72 @@ gives_error Coding old new is was = (is, was)
 gives_error TooLong old new is was = (is, was)
 gives_error BadChunk old new is was = (is, was)
 
-pub gives_refusal : (pending others : List ℕ) (continued flag : Bool) (old next : Stage) (e : FrameErr)
-    → TakesTurn pending continued old (next, Ok (turn.Refused e)) → IsNext (state_at pending continued old) (Err e) (state_at others flag next)
-gives_refusal pending others continued flag (stage.Head place) next e is =
-    gives_error e _ _ (ap (λ (s : Stage). state_at others flag s) is.0) (inr (record { waits = refl; refused = is.1; quiet = is.2 }))
-gives_refusal pending others continued flag (stage.Content content) next e is =
-    gives_error e _ _ (ap (λ (s : Stage). state_at others flag s) is.0) (inr (record { waits = refl; refused = is.1; quiet = is.2 }))
-gives_refusal pending others continued flag (stage.Refused error) next e is =
-    let same : e ≡ error = let both = ap (λ (x : Stage × Result Turn AllocError). x.1) is in cc in
-    let kept : next ≡ stage.Refused error = ap (λ (x : Stage × Result Turn AllocError). x.0) is in
-    gives_error e _ _ (ap (λ (s : Stage). state_at others flag s) kept ∙ ap ended (sym same)) (inl (ap ended (sym same)))
+pub gives_refusal : (state : State) (rest rest' others : List ℕ) (continued flag : Bool) (old next : Stage) (e : FrameErr)
+    → Stands state (kept_at rest continued old) → TakesTurn state.pending rest rest' continued old (next, Ok (turn.Refused e)) → next ≡ stage.Refused e
+    → Answers state (Err e) (kept_at others flag next)
+gives_refusal state rest rest' others continued flag old next e is took head =
+    let K : Kept = kept_at others flag next in
+    let S : Stage → Type 0 = λ s. Stands (ended e) (kept_at others flag s) in
+    let stands = subst S (sym head) (record { pending = refl; continued = refl; refused = refl }) in
+    gives (λ s. Answers s (Err e) K) state rest rest' continued old (next, Ok (turn.Refused e)) is took
+    (λ turned. record {
+      new = ended e;
+      next = gives_error e (waiting state.pending continued) (ended e) refl (inr (record { waits = refl; refused = turned.0; quiet = turned.1 }));
+      stands = stands;
+    })
+    (λ error was same.
+    let again : e ≡ error = let both = ap (λ (x : Stage × Result Turn AllocError). x.1) same in cc in
+    record { new = ended e; next = gives_error e (ended error) (ended e) refl (inl (ap ended (sym again))); stands = stands })
 
--- the stage is held as the bytes go on
-pub grown_stage : (pending more : List ℕ) (continued : Bool) (old : Stage) → IsStage pending continued old → IsStage (pending ++ more) continued old
-grown_stage pending more continued (stage.Head place) is = (is.0, place_more pending more place is.1)
-grown_stage pending more continued (stage.Content content) is = grown_content pending more content (head_within pending content is) is
-grown_stage pending more continued (stage.Refused error) is = is
+-- ---- the stage is held as the bytes go on
 
-head_some : (h : RequestHead) → 0 < length h.method → 0 < length (print_request h)
-unfolding print_request
-head_some h some = simp length-append (omega arith)
+pub grown_stage : (rest more : List ℕ) (continued : Bool) (old : Stage) → IsStage rest continued old → IsStage (rest ++ more) continued old
+grown_stage rest more continued (stage.Head place) is = (is.0, place_more rest more place is.1)
+grown_stage rest more continued (stage.Content content) is = is
+grown_stage rest more continued (stage.Refused error) is = is
 
--- while a head is held so are bytes
-pub content_bytes : (pending : List ℕ) (content : Content) → HoldsContent pending content → pending ≡ [] → ⊥
-content_bytes pending content is none =
-    let token = is.heads.reads.0.method.0 in
-    omega (arith, ap length none, ap length is.heads.reads.1, length-append (print_request is.head) is.after, head_some is.head token)
+pub grown_stands : (state : State) (rest more : List ℕ) (continued : Bool) (old : Stage) → IsOpen old → Stands state (kept_at rest continued old)
+    → Stands (fed state more) (kept_at (rest ++ more) continued old)
+grown_stands state rest more continued (stage.Head place) open_ is =
+    let P : Option FrameErr → Type 0 = λ r. Stands (grown r state more) (kept_at (rest ++ more) continued (stage.Head place)) in
+    subst P (sym is.refused) (record { pending = ap (λ (t : List ℕ). t ++ more) is.pending; continued = is.continued; refused = refl })
+grown_stands state rest more continued (stage.Content content) open_ is =
+    let P : Option FrameErr → Type 0 = λ r. Stands (grown r state more) (kept_at (rest ++ more) continued (stage.Content content)) in
+    subst P (sym is.refused) (record { pending = grown_content state.pending rest more content is.pending; continued = is.continued; refused = refl })
+grown_stands state rest more continued (stage.Refused error) open_ is = absurd open_
 
--- between requests
-pub between : (bytes : List ℕ) (start : ℕ) (continued : Bool) → start ≤ length bytes → continued ≡ false
-    → ((start ≡ length bytes) → waiting (drop start bytes) continued ≡ waiting [] false)
-    × (waiting (drop start bytes) continued ≡ waiting [] false → start ≡ length bytes)
-between bytes start continued within told = (
-  λ all. λ i. record { pending = drop_all start bytes (omega arith) i; continued = told i; refused = None },
-  λ same. omega (arith, ap (λ (s : State). length s.pending) same, length-drop start bytes),
-)
+-- a refused stream takes none
+pub refused_stands : (state : State) (piece rest : List ℕ) (continued : Bool) (old : Stage) (error : FrameErr) → old ≡ stage.Refused error
+    → Stands state (kept_at rest continued old) → Stands (fed state piece) (kept_at rest continued old)
+refused_stands state piece rest continued old error is stands =
+    let K : Stage → Type 0 = λ s. Stands state (kept_at rest continued s) in
+    let was = subst K is stands in
+    let P : Option FrameErr → Type 0 = λ r. Stands (grown r state piece) (kept_at rest continued old) in
+    subst P (sym was.refused) stands
+
+pub open_of : (old : Stage) → ((error : FrameErr) → ¬ (old ≡ stage.Refused error)) → IsOpen old
+open_of (stage.Head place) other = tt
+open_of (stage.Content content) other = tt
+open_of (stage.Refused error) other = other error refl
+
+-- a piece is fed, or there is no memory
+pub fed_ok : {T : Type 0} (result : Result T AllocError) (bytes old piece : List ℕ) (continued : Bool) (at : Stage) (kept : Kept) → IsOpen at
+    → kept_at old continued at ≡ kept → bytes ≡ cond (is_ok result) (old ++ piece) old
+    → OnOk result ((state : State) → Stands state kept → Stands (fed state piece) (kept_at bytes continued at))
+fed_ok (Ok x) bytes old piece continued at kept open_ was same = λ state is.
+    let V : Kept → Type 0 = λ k. Stands state k in
+    let P : List ℕ → Type 0 = λ t. Stands (fed state piece) (kept_at t continued at) in
+    subst P (sym same) (grown_stands state old piece continued at open_ (subst V (sym was) is))
+fed_ok (Err e) bytes old piece continued at kept open_ was same = tt
+
+pub fed_err : {T : Type 0} (result : Result T AllocError) (bytes old piece : List ℕ) (continued : Bool) (at : Stage) (kept : Kept)
+    → kept_at old continued at ≡ kept → bytes ≡ cond (is_ok result) (old ++ piece) old
+    → OnErr result ((state : State) → Stands state kept → Stands state (kept_at bytes continued at))
+fed_err (Ok x) bytes old piece continued at kept was same = tt
+fed_err (Err e) bytes old piece continued at kept was same = λ state is.
+    let V : Kept → Type 0 = λ k. Stands state k in
+    let P : List ℕ → Type 0 = λ t. Stands state (kept_at t continued at) in
+    subst P (sym same) (subst V (sym was) is)
 
 pub grown_bytes : (bytes old piece : List ℕ) (continued : Bool) (old_stage : Stage) (ok : Bool) → IsStage old continued old_stage
     → bytes ≡ cond ok (old ++ piece) old → IsStage bytes continued old_stage
@@ -126,22 +200,26 @@ grown_bytes bytes old piece continued old_stage true is same =
 grown_bytes bytes old piece continued old_stage false is same =
     let P : List ℕ → Type 0 = λ t. IsStage t continued old_stage in subst P (sym same) is
 
--- ---- what a framer stands for, which has dropped nothing
+-- ---- between requests
 
-no_bytes : (bytes : List ℕ) → length bytes ≡ 0 → bytes ≡ []
-no_bytes [] e = refl
-no_bytes (b ∷ bytes) e = absurd (omega (arith, e))
+head_some : (h : RequestHead) → 0 < length h.method → 0 < length (print_request h)
+unfolding print_request
+head_some h some = simp length-append (omega arith)
 
-pub stands_is : (state kept : State) → Stands state (kept_of kept) → state ≡ kept
-stands_is state kept is =
-    let pending = is.pending ∙ ap (λ (t : List ℕ). t ++ kept.pending) (no_bytes is.read is.count) in
-    λ i. record { pending = pending i; continued = is.continued i; refused = is.refused i }
+-- while a head is held so are bytes
+pub content_bytes : (pending rest : List ℕ) (content : Content) → HoldsContent pending rest content → pending ≡ [] → ⊥
+content_bytes pending rest content is none =
+    let token = is.heads.reads.0.method.0 in
+    omega (arith, ap length none, ap length is.heads.reads.1, length-append (print_request is.head) is.after, head_some is.head token)
 
-pub stands_for : (state : State) → Stands state (kept_of state)
-stands_for state = record { read = []; count = refl; pending = refl; continued = refl; refused = refl }
-
-pub stands_next : (old new : State) (answer : Result Step FrameErr) → IsNext old answer new → (state : State) → Stands state (kept_of old)
-    → Answers state answer (kept_of new)
-stands_next old new answer next state is =
-    let P : State → Type 0 = λ s. IsNext s answer new in
-    record { new = new; next = subst P (sym (stands_is state old is)) next; stands = stands_for new }
+pub between_head : (state : State) (bytes : List ℕ) (start : ℕ) (continued : Bool) (place : Place) → start ≤ length bytes → continued ≡ false
+    → Stands state (kept_at (drop start bytes) continued (stage.Head place))
+    → ((start ≡ length bytes) → state ≡ waiting [] false) × (state ≡ waiting [] false → start ≡ length bytes)
+between_head state bytes start continued place within told is = (
+  λ all. λ i. record {
+    pending = (is.pending ∙ drop_all start bytes (omega arith)) i;
+    continued = (is.continued ∙ told) i;
+    refused = is.refused i;
+  },
+  λ same. omega (arith, ap length (sym is.pending ∙ ap (λ (s : State). s.pending) same), length-drop start bytes),
+)

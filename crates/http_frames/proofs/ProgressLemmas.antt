@@ -1,20 +1,21 @@
 -- What the content that came so far leads to.
-use Rattle.std.proofs.Common.{◌≡◌, ℕ, ◌+◌, ◌-◌, ◌<◌, ◌≤◌, Bool, true, false, cond, List, ◌++◌, length, take, drop, slice_range, Option, Some, None, refl, sym, ap, ◌∙◌, subst, arith, length-append, length-drop, length-take, take-append-drop, drop-drop}
-use Rattle.std.proofs.lemmas.List.{drop_at}
-use Rattle.httparse.specs.Grammar.{print_request}
+use Rattle.std.proofs.Common.{◌≡◌, ℕ, ◌<◌, ◌≤◌, Bool, true, false, cond, List, ◌++◌, length, drop, slice_range, Option, Some, None, refl, sym, ap, ◌∙◌, subst, arith, nat_lt, append_assoc, length-append}
+use Rattle.std.proofs.lemmas.Bool.Decides.{nat_tests}
 use Rattle.side_base.specs.declared.message.Field.{Field}
 use Rattle.http_frames.specs.declared.refusal.FrameErr.{FrameErr}
-use Rattle.http_frames.specs.declared.refusal.FrameErr.TheVariants.{TooManyHeaders, BadHost, BothLengths, TransferCoding, BadLength, TooLong, BadChunk}
+use Rattle.http_frames.specs.declared.refusal.FrameErr.TheVariants.{TooManyHeaders, BadHost, BothLengths, TransferCoding, BadLength, Coding, TooLong, BadChunk}
 use Rattle.http_frames.specs.declared.head.Head.{Head}
+use Rattle.http_frames.specs.declared.content.Body.{Body}
 use Rattle.http_frames.specs.declared.progress.Content.{Content}
-use Rattle.http_frames.specs.HeadRules.{fields_of, fields_refusal, is_chunked, is_bad_length, content_length}
+use Rattle.http_frames.specs.HeadRules.{BODY_LIMIT, fields_of, fields_refusal, is_chunked, is_bad_length, content_length}
 use Rattle.http_frames.specs.Chunked.{NeverChunked}
 use Rattle.http_frames.specs.ChunkSteps.{MayEnd}
-use Rattle.http_frames.specs.ContentSteps.{IsInChunks, IsCalm, IsFlooded}
+use Rattle.http_frames.specs.ContentSteps.{IsInChunks, IsTaken, IsCalm, IsFlooded}
 use Rattle.http_frames.specs.Requests.{ReadsChunks, HasNoWhole, IsRefused, IsAccepted}
-use Rattle.http_frames.specs.Progress.{HoldsContent, IsWholeAt}
+use Rattle.http_frames.specs.Progress.{IsInLength, IsBody, HoldsContent, IsWholeAt}
 use Rattle.http_frames.proofs.RequestLemmas.{whole_chunks, whole_length, need_chunks, need_length, bad_content, long_content}
 use Rattle.http_frames.proofs.RowLemmas.{none_is_some}
+use Rattle.http_frames.proofs.InChunksLemmas.{split_range, range_len}
 
 -- the rules that an accepted head does not break
 past : {Q : Type 0} (b : Bool) (x : FrameErr) (others : Option FrameErr) → (others ≡ None → Q) → cond b (Some x) others ≡ None → Q
@@ -30,88 +31,115 @@ unfolding fields_refusal
 accepted_length minor fields e =
     past _ TooManyHeaders _ (past _ BadHost _ (past _ BothLengths _ (past _ TransferCoding _ (falls (is_bad_length fields) BadLength _)))) e
 
-pub length_is_good : (pending : List ℕ) (content : Content) → HoldsContent pending content → is_bad_length content.head.fields ≡ false
-length_is_good pending content is =
-    ap (λ (h : Head). is_bad_length h.fields) is.parts ∙ accepted_length is.head.minor (fields_of is.head) is.heads.accepted
+-- the length of an accepted head's content is within the limit
+pub accepted_short : (minor : ℕ) (fields : List Field) → fields_refusal minor fields ≡ None → content_length fields ≤ BODY_LIMIT
+unfolding fields_refusal
+accepted_short minor fields e =
+    let over = past _ TooManyHeaders _ (past _ BadHost _ (past _ BothLengths _ (past _ TransferCoding _ (past _ BadLength _ (past _ Coding _ (falls (nat_lt BODY_LIMIT (content_length fields)) TooLong _)))))) e in
+    grind (arith, nat_tests, over)
 
-chunked_is : (pending : List ℕ) (content : Content) (b : Bool) (is : HoldsContent pending content) → is_chunked content.head.fields ≡ b
+-- ---- content in chunks
+
+chunked_is : (pending rest : List ℕ) (content : Content) (b : Bool) (is : HoldsContent pending rest content) → is_chunked content.head.fields ≡ b
     → is_chunked (fields_of is.head) ≡ b
-chunked_is pending content b is e = ap (λ (h : Head). is_chunked h.fields) (sym is.parts) ∙ e
+chunked_is pending rest content b is e = ap (λ (h : Head). is_chunked h.fields) (sym is.parts) ∙ e
 
-len_is : (pending : List ℕ) (content : Content) (is : HoldsContent pending content) → content.head.len ≡ length (print_request is.head)
-len_is pending content is = ap (λ (h : Head). h.len) is.parts
+pub chunks_of : (pending rest : List ℕ) (content : Content) (is : HoldsContent pending rest content) → is_chunked content.head.fields ≡ true
+    → IsInChunks is.after rest content.body.bytes content.body.left
+chunks_of pending rest content is chunked =
+    let P : Bool → Type 0 = λ b. IsBody b (content_length content.head.fields) is.after rest content.body.bytes content.body.left in subst P chunked is.body
 
--- the bytes behind the head
-behind_head : (pending : List ℕ) (content : Content) (is : HoldsContent pending content) → drop content.head.len pending ≡ is.after
-behind_head pending content is =
-    ap (drop content.head.len) is.heads.reads.1 ∙ drop_at (print_request is.head) is.after content.head.len (sym (len_is pending content is))
+-- the head stays, and more of the content was read
+pub kept_content : (pending rest rest' : List ℕ) (content : Content) (body' : Body) (is : HoldsContent pending rest content) → is_chunked content.head.fields ≡ true
+    → IsInChunks is.after rest' body'.bytes body'.left → HoldsContent pending rest' (record { head = content.head; body = body' })
+kept_content pending rest rest' content body' is chunked chunks =
+    let P : Bool → Type 0 = λ b. IsBody b (content_length content.head.fields) is.after rest' body'.bytes body'.left in
+    record { head = is.head; after = is.after; heads = is.heads; parts = is.parts; body = subst P (sym chunked) chunks }
 
-pub chunks_whole : (pending : List ℕ) (content new : Content) (end : ℕ) → HoldsContent pending content → new.head ≡ content.head
-    → is_chunked content.head.fields ≡ true → ReadsChunks (drop content.head.len pending) new.bytes (drop end pending) → end ≤ length pending
-    → IsWholeAt pending new end
-chunks_whole pending content new end is same chunked reads within =
-    let P : List ℕ → Type 0 = λ t. ReadsChunks t new.bytes (drop end pending) in
+pub chunks_whole : (pending rest rest' : List ℕ) (content : Content) (body' : Body) (len : ℕ) (is : HoldsContent pending rest content)
+    → is_chunked content.head.fields ≡ true → ReadsChunks is.after body'.bytes (drop len rest')
+    → IsWholeAt pending rest' (record { head = content.head; body = body' }) len
+chunks_whole pending rest rest' content body' len is chunked reads = record {
+  head = is.head;
+  parts = is.parts;
+  whole = whole_chunks pending is.head is.after body'.bytes (drop len rest') is.heads (chunked_is pending rest content true is chunked) reads;
+}
+
+pub chunks_need : (pending rest : List ℕ) (content : Content) (is : HoldsContent pending rest content) → is_chunked content.head.fields ≡ true
+    → IsCalm is.after × MayEnd is.after → HasNoWhole pending × IsAccepted pending
+chunks_need pending rest content is chunked both = need_chunks pending is.head is.after is.heads (chunked_is pending rest content true is chunked) both.0 both.1
+
+pub chunks_long : (pending rest : List ℕ) (content : Content) (is : HoldsContent pending rest content) → is_chunked content.head.fields ≡ true
+    → IsFlooded is.after → IsRefused pending TooLong
+chunks_long pending rest content is chunked flood = long_content pending is.head is.after is.heads (chunked_is pending rest content true is chunked) flood
+
+pub chunks_bad : (pending rest : List ℕ) (content : Content) (is : HoldsContent pending rest content) → is_chunked content.head.fields ≡ true
+    → IsCalm is.after × NeverChunked is.after → IsRefused pending BadChunk
+chunks_bad pending rest content is chunked both = bad_content pending is.head is.after is.heads (chunked_is pending rest content true is chunked) both.0 both.1
+
+-- ---- content of a known length
+
+length_of : (pending rest : List ℕ) (content : Content) (left : ℕ) (is : HoldsContent pending rest content) → is_chunked content.head.fields ≡ false
+    → content.body.left ≡ Some left → IsInLength is.after rest (content_length content.head.fields) content.body.bytes left
+length_of pending rest content left is plain so =
+    let P : Bool → Option ℕ → Type 0 = λ b l. IsBody b (content_length content.head.fields) is.after rest content.body.bytes l in
+    let Q : Bool → Type 0 = λ b. P b content.body.left in
+    subst (P false) so (subst Q plain is.body)
+
+-- no length is known between chunks
+pub length_known : (pending rest : List ℕ) (content : Content) → HoldsContent pending rest content → is_chunked content.head.fields ≡ false
+    → content.body.left ≡ None → ⊥
+length_known pending rest content is plain so =
+    let P : Bool → Option ℕ → Type 0 = λ b l. IsBody b (content_length content.head.fields) is.after rest content.body.bytes l in
+    let Q : Bool → Type 0 = λ b. P b content.body.left in
+    subst (P false) so (subst Q plain is.body)
+
+-- more of the content was taken
+taken_of : (all text : List ℕ) (len at at' : ℕ) (body body' : Body) (left due : ℕ) → IsTaken text at at' body body' left due
+    → IsInLength all (drop at text) len body.bytes left → IsInLength all (drop at' text) len body'.bytes due
+taken_of all text len at at' body body' left due is was =
+    let bytes = slice_range text at at' in
+    let count = range_len text at at' is.forward is.within in
     record {
-      head = is.head;
-      parts = same ∙ is.parts;
-      whole = whole_chunks pending is.head is.after new.bytes (drop end pending) is.heads (chunked_is pending content true is chunked)
-          (subst P (behind_head pending content is) reads);
-      within = within;
+      whole = was.whole ∙ ap (λ (t : List ℕ). body.bytes ++ t) (split_range text at at' is.forward) ∙ sym (append_assoc body.bytes bytes (drop at' text))
+          ∙ ap (λ (t : List ℕ). t ++ drop at' text) (sym is.bytes);
+      counts = omega (arith, was.counts, ap length is.bytes, length-append body.bytes bytes, count, is.counts);
     }
 
-pub chunks_need : (pending : List ℕ) (content : Content) → HoldsContent pending content
-    → is_chunked content.head.fields ≡ true → IsCalm (drop content.head.len pending) → MayEnd (drop content.head.len pending)
-    → HasNoWhole pending × IsAccepted pending
-chunks_need pending content is chunked calm may =
-    need_chunks pending is.head is.after is.heads (chunked_is pending content true is chunked)
-    (subst IsCalm (behind_head pending content is) calm) (subst MayEnd (behind_head pending content is) may)
-
-pub chunks_long : (pending : List ℕ) (content : Content) → HoldsContent pending content
-    → is_chunked content.head.fields ≡ true → IsFlooded (drop content.head.len pending) → IsRefused pending TooLong
-chunks_long pending content is chunked flood =
-    long_content pending is.head is.after is.heads (chunked_is pending content true is chunked) (subst IsFlooded (behind_head pending content is) flood)
-
-pub chunks_bad : (pending : List ℕ) (content : Content) → HoldsContent pending content
-    → is_chunked content.head.fields ≡ true → IsCalm (drop content.head.len pending) → NeverChunked (drop content.head.len pending)
-    → IsRefused pending BadChunk
-chunks_bad pending content is chunked calm never =
-    bad_content pending is.head is.after is.heads (chunked_is pending content true is chunked)
-    (subst IsCalm (behind_head pending content is) calm) (subst NeverChunked (behind_head pending content is) never)
-
-number_is : (pending : List ℕ) (content : Content) (is : HoldsContent pending content) → content_length content.head.fields ≡ content_length (fields_of is.head)
-number_is pending content is = ap (λ (h : Head). content_length h.fields) is.parts
-
-pub length_need : (pending : List ℕ) (content : Content) → HoldsContent pending content → is_chunked content.head.fields ≡ false
-    → length pending - content.head.len < content_length content.head.fields → HasNoWhole pending × IsAccepted pending
-length_need pending content is plain few =
-    need_length pending is.head is.after is.heads (chunked_is pending content false is plain)
-    (omega (arith, ap length (behind_head pending content is), length-drop content.head.len pending, number_is pending content is))
-
-pub head_within : (pending : List ℕ) (content : Content) → HoldsContent pending content → content.head.len ≤ length pending
-head_within pending content is = omega (arith, len_is pending content is, ap length is.heads.reads.1, length-append (print_request is.head) is.after)
-
-pub length_whole : (pending : List ℕ) (content new : Content) (len : ℕ) → HoldsContent pending content → new.head ≡ content.head
-    → is_chunked content.head.fields ≡ false → len ≡ content_length content.head.fields → content.head.len + len ≤ length pending
-    → new.bytes ≡ slice_range pending content.head.len (content.head.len + len) → IsWholeAt pending new (content.head.len + len)
-length_whole pending content new len is same plain size within bytes =
-    let start = content.head.len in
-    let n : start + len - start ≡ len = omega arith in
-    let taken : new.bytes ≡ take len (drop start pending) = bytes ∙ ap (λ (k : ℕ). take k (drop start pending)) n in
-    let split : drop start pending ≡ new.bytes ++ drop (start + len) pending =
-    sym (take-append-drop len (drop start pending)) ∙ ap (λ (t : List ℕ). t ++ drop len (drop start pending)) (sym taken)
-    ∙ ap (λ (t : List ℕ). new.bytes ++ t) (drop-drop len start pending) in
+pub length_taken : (pending text : List ℕ) (at at' : ℕ) (content : Content) (body' : Body) (left due : ℕ) → HoldsContent pending (drop at text) content
+    → is_chunked content.head.fields ≡ false → content.body.left ≡ Some left → IsTaken text at at' content.body body' left due
+    → HoldsContent pending (drop at' text) (record { head = content.head; body = body' })
+length_taken pending text at at' content body' left due is plain so taken =
+    let P : Bool → Option ℕ → Type 0 = λ b l. IsBody b (content_length content.head.fields) is.after (drop at' text) body'.bytes l in
+    let Q : Bool → Type 0 = λ b. P b body'.left in
+    let more = taken_of is.after text (content_length content.head.fields) at at' content.body body' left due taken (length_of pending (drop at text) content left is plain so) in
     record {
       head = is.head;
-      parts = same ∙ is.parts;
-      whole = whole_length pending is.head is.after new.bytes (drop (start + len) pending) is.heads (chunked_is pending content false is plain) (record {
-        counts = omega (arith, ap length taken, length-take len (drop start pending), length-drop start pending, size, number_is pending content is);
-        whole = sym (behind_head pending content is) ∙ split;
+      after = is.after;
+      heads = is.heads;
+      parts = is.parts;
+      body = subst Q (sym plain) (subst (P false) (sym taken.left_is) more);
+    }
+
+pub length_need : (pending rest : List ℕ) (content : Content) (left : ℕ) → HoldsContent pending rest content → is_chunked content.head.fields ≡ false
+    → content.body.left ≡ Some left → length rest ≡ 0 → 0 < left → HasNoWhole pending × IsAccepted pending
+length_need pending rest content left is plain so none some =
+    let reads = length_of pending rest content left is plain so in
+    need_length pending is.head is.after is.heads (chunked_is pending rest content false is plain)
+    (omega (arith, ap length reads.whole, length-append content.body.bytes rest, reads.counts, none, number_is pending rest content is))
+  where
+    number_is : (pending rest : List ℕ) (content : Content) (is : HoldsContent pending rest content) → content_length content.head.fields ≡ content_length (fields_of is.head)
+    number_is pending rest content is = ap (λ (h : Head). content_length h.fields) is.parts
+
+pub length_whole : (pending rest : List ℕ) (content : Content) → HoldsContent pending rest content → is_chunked content.head.fields ≡ false
+    → content.body.left ≡ Some 0 → IsWholeAt pending rest content 0
+length_whole pending rest content is plain so =
+    let reads = length_of pending rest content 0 is plain so in
+    record {
+      head = is.head;
+      parts = is.parts;
+      whole = whole_length pending is.head is.after content.body.bytes rest is.heads (chunked_is pending rest content false is plain) (record {
+        counts = omega (arith, reads.counts, ap (λ (h : Head). content_length h.fields) is.parts);
+        whole = reads.whole;
       });
-      within = within;
     }
-
-pub kept_content : (pending : List ℕ) (content new : Content) → HoldsContent pending content → new.head ≡ content.head
-    → IsInChunks pending content.head.len new.at new.bytes → HoldsContent pending new
-kept_content pending content new is same chunks =
-    let P : Head → Type 0 = λ h. IsInChunks pending h.len new.at new.bytes in
-    record { head = is.head; after = is.after; heads = is.heads; parts = same ∙ is.parts; chunks = subst P (sym same) chunks }

@@ -1,26 +1,29 @@
 -- What the bytes from the start of a request on hold next.
-use Rattle.std.proofs.Common.{◌≡◌, ℕ, ◌≤◌, Bool, true, false, not, ◌&&◌, List, [], ◌++◌, length, drop, refl, sym, ap, ◌∙◌, arith, append_assoc, length-append}
+use Rattle.std.proofs.Common.{◌≡◌, ℕ, ◌+◌, ◌≤◌, Bool, true, false, cond, not, ◌&&◌, List, [], ◌++◌, length, drop, Option, Some, None, refl, sym, ap, ◌∙◌, subst, arith, append_assoc, length-append}
+use Rattle.std.specs.Prelude.{unwrap_or}
 use Rattle.std.specs.List.{flat_map}
 use Rattle.std.proofs.lemmas.Bool.{false≢true}
-use Rattle.std.proofs.lemmas.List.{drop-append-le}
+use Rattle.std.proofs.lemmas.List.{drop_at}
 use Rattle.std.proofs.lemmas.List.Elements.{All-nil}
-use Rattle.httparse.specs.Grammar.{RequestHead, print_request}
+use Rattle.httparse.specs.Grammar.{RequestHead, print_request, print_chunk_line}
 use Rattle.httparse.proofs.GrammarLemmas.{request_unique, ReadsRequest-append}
-use Rattle.http_frames.specs.HeadRules.{fields_of, asks_to_continue, request_of}
+use Rattle.http_frames.specs.HeadRules.{BODY_LIMIT, fields_of, is_chunked, is_bad_length, content_length, asks_to_continue, request_of}
 use Rattle.http_frames.specs.HeadReading.{head_of, HasNoHead}
 use Rattle.http_frames.specs.Chunked.{IsChunk, print_chunk}
 use Rattle.http_frames.specs.Requests.{ReadsHead}
 use Rattle.http_frames.specs.Framing.{IsQuiet}
-use Rattle.http_frames.specs.Progress.{HoldsContent, IsWholeAt}
+use Rattle.http_frames.specs.ContentSteps.{AreChunks}
+use Rattle.http_frames.specs.Progress.{IsBody, HoldsContent, IsWholeAt}
 use Rattle.http_frames.specs.Turns.{IsAsking, IsRequestTo}
 use Rattle.side_base.specs.declared.message.Request.{Request}
 use Rattle.http_frames.specs.declared.head.Head.{Head}
 use Rattle.http_frames.specs.declared.progress.Content.{Content}
+use Rattle.http_frames.proofs.ProgressLemmas.{accepted_length, accepted_short}
 
 -- where the head that was taken was answered, or does not ask, no other is left unanswered
-pub quiet_of : (pending : List ℕ) (content : Content) (continued : Bool) → HoldsContent pending content
+pub quiet_of : (pending rest : List ℕ) (content : Content) (continued : Bool) → HoldsContent pending rest content
     → (asks_to_continue content.head.minor content.head.fields ≡ true → continued ≡ true) → IsQuiet pending continued
-quiet_of pending content continued is told head after there asks =
+quiet_of pending rest content continued is told head after there asks =
     let same = request_unique pending head is.head after is.after there.reads is.heads.reads in
     told (ap (λ (x : Head). asks_to_continue x.minor x.fields) is.parts
     ∙ ap (λ (k : RequestHead). asks_to_continue k.minor (fields_of k)) (sym same.0) ∙ asks)
@@ -32,28 +35,82 @@ pub told_of : (continued asks : Bool) → (not continued && asks) ≡ false → 
 told_of true asks e asking = refl
 told_of false asks e asking = absurd (false≢true (sym e ∙ asking))
 
--- the content of a head that was just taken
-pub first_content : (pending : List ℕ) (h : RequestHead) (after : List ℕ) (head : Head) (bytes : List ℕ) → ReadsHead pending h after
-    → head ≡ head_of h → bytes ≡ [] → HoldsContent pending (record { head = head; at = head.len; bytes = bytes })
-first_content pending h after head bytes heads parts empty = record {
-  head = h;
-  after = after;
-  heads = heads;
-  parts = parts;
-  chunks = record {
-    chunks = [];
-    each = All-nil IsChunk;
-    whole = refl;
-    joins = empty;
-    short = omega (arith, ap length empty);
-    within = omega (arith, ap (λ (x : Head). x.len) parts, ap length heads.reads.1, length-append (print_request h) after);
-  };
+-- a head that was just taken, with nothing of its content
+pub first_content : (pending : List ℕ) (h : RequestHead) (after : List ℕ) (head : Head) (bytes : List ℕ) (left : Option ℕ) → ReadsHead pending h after
+    → head ≡ head_of h → bytes ≡ [] → left ≡ cond (is_chunked head.fields) None (Some (content_length head.fields))
+    → HoldsContent pending (drop head.len pending) (record { head = head; body = record { bytes = bytes; left = left } })
+first_content pending h after head bytes left heads parts empty due =
+    let behind : after ≡ drop head.len pending =
+    sym (ap (drop head.len) heads.reads.1 ∙ drop_at (print_request h) after head.len (sym (ap (λ (x : Head). x.len) parts))) in
+    record {
+      head = h;
+      after = after;
+      heads = heads;
+      parts = parts;
+      body = first_body (is_chunked head.fields) (content_length head.fields) after (drop head.len pending) bytes left behind empty due;
+    }
+  where
+    first_body : (b : Bool) (len : ℕ) (after rest bytes : List ℕ) (left : Option ℕ) → after ≡ rest → bytes ≡ [] → left ≡ cond b None (Some len) → IsBody b len after rest bytes left
+    first_body true len after rest bytes left behind empty due =
+        let P : Option ℕ → Type 0 = λ l. IsBody true len after rest bytes l in
+        subst P (sym due) (record { chunks = []; each = All-nil IsChunk; whole = behind; joins = empty; short = omega (arith, ap length empty) })
+    first_body false len after rest bytes left behind empty due =
+        let P : Option ℕ → Type 0 = λ l. IsBody false len after rest bytes l in
+        subst P (sym due) (record { whole = behind ∙ ap (λ (t : List ℕ). t ++ rest) (sym empty); counts = omega (arith, ap length empty) })
+
+pub head_inside : (pending : List ℕ) (h : RequestHead) (after : List ℕ) (head : Head) → ReadsHead pending h after → head ≡ head_of h → head.len ≤ length pending
+head_inside pending h after head heads parts =
+    omega (arith, ap (λ (x : Head). x.len) parts, ap length heads.reads.1, length-append (print_request h) after)
+
+-- the length of its content can be told, and is within the limit
+pub head_sound : (pending : List ℕ) (h : RequestHead) (after : List ℕ) (head : Head) → ReadsHead pending h after → head ≡ head_of h
+    → (is_bad_length head.fields ≡ false) × (content_length head.fields ≤ BODY_LIMIT)
+head_sound pending h after head heads parts =
+    let P : Head → Type 0 = λ x. (is_bad_length x.fields ≡ false) × (content_length x.fields ≤ BODY_LIMIT) in
+    subst P (sym parts) (accepted_length h.minor (fields_of h) heads.accepted, accepted_short h.minor (fields_of h) heads.accepted)
+
+pub first_bounded : (b : Bool) (len : ℕ) (bytes : List ℕ) (left : Option ℕ) → bytes ≡ [] → len ≤ BODY_LIMIT → left ≡ cond b None (Some len)
+    → length bytes + unwrap_or left 0 ≤ BODY_LIMIT
+first_bounded true len bytes left empty short due = omega (arith, ap length empty, ap (λ (l : Option ℕ). unwrap_or l 0) due)
+first_bounded false len bytes left empty short due = omega (arith, ap length empty, ap (λ (l : Option ℕ). unwrap_or l 0) due)
+
+-- chunks are held as the bytes go on
+grown_chunks : (all rest more content : List ℕ) → AreChunks all rest content → AreChunks (all ++ more) (rest ++ more) content
+grown_chunks all rest more content is = record {
+  chunks = is.chunks;
+  each = is.each;
+  whole = ap (λ (t : List ℕ). t ++ more) is.whole ∙ append_assoc (flat_map print_chunk is.chunks) rest more;
+  joins = is.joins;
+  short = is.short;
+}
+
+grown_body : (b : Bool) (len : ℕ) (all rest more content : List ℕ) (left : Option ℕ) → IsBody b len all rest content left
+    → IsBody b len (all ++ more) (rest ++ more) content left
+grown_body true len all rest more content None is = grown_chunks all rest more content is
+grown_body true len all rest more content (Some left) is =
+    let P : List ℕ → Type 0 = λ t. AreChunks (all ++ more) t is.before in
+    record {
+      before = is.before;
+      line = is.line;
+      part = is.part;
+      chunks = subst P (append_assoc (print_chunk_line is.line) (is.part ++ rest) more
+          ∙ ap (λ (t : List ℕ). print_chunk_line is.line ++ t) (append_assoc is.part rest more)) (grown_chunks all _ more is.before is.chunks);
+      valid = is.valid;
+      size = is.size;
+      some = is.some;
+      fits = is.fits;
+      joins = is.joins;
+    }
+grown_body false len all rest more content None is = is
+grown_body false len all rest more content (Some left) is = record {
+  whole = ap (λ (t : List ℕ). t ++ more) is.whole ∙ append_assoc content rest more;
+  counts = is.counts;
 }
 
 -- the content that is held is held as the bytes go on
-pub grown_content : (pending more : List ℕ) (content : Content) → content.head.len ≤ length pending → HoldsContent pending content
-    → HoldsContent (pending ++ more) content
-grown_content pending more content inside is = record {
+pub grown_content : (pending rest more : List ℕ) (content : Content) → HoldsContent pending rest content
+    → HoldsContent (pending ++ more) (rest ++ more) content
+grown_content pending rest more content is = record {
   head = is.head;
   after = is.after ++ more;
   heads = record {
@@ -62,16 +119,7 @@ grown_content pending more content inside is = record {
     accepted = is.heads.accepted;
   };
   parts = is.parts;
-  chunks = record {
-    chunks = is.chunks.chunks;
-    each = is.chunks.each;
-    whole = drop-append-le content.head.len pending more inside ∙ ap (λ (t : List ℕ). t ++ more) is.chunks.whole
-        ∙ append_assoc (flat_map print_chunk is.chunks.chunks) (drop content.at pending) more
-        ∙ ap (λ (t : List ℕ). flat_map print_chunk is.chunks.chunks ++ t) (sym (drop-append-le content.at pending more is.chunks.within));
-    joins = is.chunks.joins;
-    short = is.chunks.short;
-    within = omega (arith, is.chunks.within, length-append pending more);
-  };
+  body = grown_body (is_chunked content.head.fields) (content_length content.head.fields) is.after rest more content.body.bytes content.body.left is.body;
 }
 
 both_true : (a b : Bool) → (not a && b) ≡ true → (a ≡ false) × (b ≡ true)
@@ -79,9 +127,9 @@ both_true true b e = absurd (false≢true e)
 both_true false b e = (refl, e)
 
 -- `Continue` is due
-pub due_of : (pending : List ℕ) (content : Content) (continued : Bool) (is : HoldsContent pending content)
+pub due_of : (pending rest : List ℕ) (content : Content) (continued : Bool) (is : HoldsContent pending rest content)
     → (not continued && asks_to_continue content.head.minor content.head.fields) ≡ true → IsAsking pending × (continued ≡ false)
-due_of pending content continued is e =
+due_of pending rest content continued is e =
     let parts = both_true _ _ e in (
       record {
         head = is.head;
@@ -93,14 +141,13 @@ due_of pending content continued is e =
     )
 
 -- a whole request is given
-pub whole_turn : (pending : List ℕ) (content new : Content) (continued : Bool) (request : Request) (end : ℕ) → HoldsContent pending content
-    → (whole : IsWholeAt pending new end) → (asks_to_continue content.head.minor content.head.fields ≡ true → continued ≡ true)
-    → request ≡ request_of whole.head new.bytes → IsRequestTo pending continued request end
-whole_turn pending content new continued request end is whole told same = record {
+pub whole_turn : (pending rest rest' : List ℕ) (content new : Content) (continued : Bool) (request : Request) (len : ℕ) → HoldsContent pending rest content
+    → (whole : IsWholeAt pending rest' new len) → (asks_to_continue content.head.minor content.head.fields ≡ true → continued ≡ true)
+    → request ≡ request_of whole.head new.body.bytes → IsRequestTo pending (drop len rest') continued request
+whole_turn pending rest rest' content new continued request len is whole told same = record {
   head = whole.head;
-  body = new.bytes;
+  body = new.body.bytes;
   whole = whole.whole;
   is = same;
-  told = quiet_of pending content continued is told whole.head whole.whole.after whole.whole.heads;
-  within = whole.within;
+  told = quiet_of pending rest content continued is told whole.head whole.whole.after whole.whole.heads;
 }

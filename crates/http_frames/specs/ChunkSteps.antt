@@ -1,10 +1,10 @@
 -- What `src/chunks` finds where a chunk or the end of the chunks is due, for the clauses of its private functions.
 use Rattle.std.specs.Prelude.{◌≡◌, ℕ, ◌+◌, ◌<◌, ◌≤◌, List, [], ◌++◌, length, take}
 use Rattle.httparse.specs.Ascii.{crlf_bytes}
-use Rattle.httparse.specs.Grammar.{ChunkLine, print_chunk_line, chunk_size}
+use Rattle.httparse.specs.Grammar.{ChunkLine, chunk_size}
 use Rattle.http_frames.specs.HeadRules.{BODY_LIMIT}
 use Rattle.http_frames.specs.Chunked.{Chunk, print_chunk, IsChunk, Ending, print_ending, IsEnding, ReadsChunked, NeverChunked}
-use Rattle.http_frames.specs.ChunkReading.{ReadsLine}
+use Rattle.http_frames.specs.ChunkReading.{ReadsLine, IsLineOf}
 use Rattle.http_frames.specs.declared.chunks.DataRead.{DataRead}
 use Rattle.http_frames.specs.declared.chunks.DataRead.TheVariants as kinds
 use Rattle.http_frames.specs.declared.chunks.ChunkStep.{ChunkStep}
@@ -36,15 +36,11 @@ pub record MayEnd (text : List ℕ) : Type 0 where
   pub ending : Ending
   pub reads : ReadsChunked (text ++ more) chunks ending []
 
--- a chunk begins the text: its line takes start bytes, and len bytes follow
-pub record IsChunkAt (text : List ℕ) (sum start len : ℕ) : Type 0 where
-  pub chunk : Chunk
-  pub after : List ℕ
-  pub valid : IsChunk chunk
-  pub whole : text ≡ print_chunk chunk ++ after
-  pub start_is : start ≡ length (print_chunk_line chunk.line)
-  pub len_is : len ≡ length chunk.bytes
-  pub fits : sum + len ≤ BODY_LIMIT
+-- a chunk's line begins the text, takes len bytes and counts size bytes of content
+pub record IsChunkAt (text : List ℕ) (sum len size : ℕ) : Type 0 where
+  pub line : IsLineOf text len size
+  pub some : 0 < size
+  pub fits : sum + size ≤ BODY_LIMIT
 
 -- the end of the chunks begins the text, and takes len bytes
 pub record IsEndAt (text : List ℕ) (len : ℕ) : Type 0 where
@@ -62,7 +58,7 @@ pub record IsOverflowAt (text : List ℕ) (sum : ℕ) : Type 0 where
   pub long : BODY_LIMIT < sum + chunk_size line
 
 abbrev pub IsChunkStep : List ℕ → ℕ → ChunkStep → Type 0
-IsChunkStep text sum (step.Chunk start len) = IsChunkAt text sum start len
+IsChunkStep text sum (step.Chunk len size) = IsChunkAt text sum len size
 IsChunkStep text sum (step.End len) = IsEndAt text len
 IsChunkStep text sum step.Need = IsStuck text sum × MayEnd text
 IsChunkStep text sum step.TooLong = IsOverflowAt text sum

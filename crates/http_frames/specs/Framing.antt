@@ -1,9 +1,11 @@
 -- What a framer holds, and what each of its calls does.
-use Rattle.std.specs.Prelude.{◌≡◌, ℕ, ◌⊎◌, List, [], ◌++◌, length, Bool, true, false, Option, Some, None, Result, Ok, Err}
+use Rattle.std.specs.Prelude.{◌≡◌, ℕ, ◌⊎◌, List, [], ◌++◌, Bool, true, false, Option, Some, None, Result, Ok, Err}
 use Rattle.httparse.specs.Grammar.{RequestHead}
 use Rattle.side_base.specs.declared.message.Request.{Request}
 use Rattle.http_frames.specs.HeadRules.{fields_of, asks_to_continue, request_of}
 use Rattle.http_frames.specs.Requests.{ReadsHead, ReadsWhole, HasNoWhole, IsRefused, IsAccepted}
+use Rattle.http_frames.specs.Progress.{HoldsContent}
+use Rattle.http_frames.specs.declared.progress.Content.{Content}
 use Rattle.http_frames.specs.declared.step.Step.{Step}
 use Rattle.http_frames.specs.declared.step.Step.TheVariants as step
 use Rattle.http_frames.specs.declared.refusal.FrameErr.{FrameErr}
@@ -16,18 +18,21 @@ pub record State : Type 0 where
   pub continued : Bool
   pub refused : Option FrameErr
 
--- What a framer keeps of a state: the number of bytes that it has read and dropped, the bytes behind them, and the rest
+-- What a framer keeps of a state: of the bytes that it has read and dropped the request that they begin, if they do; the bytes behind them, and the rest
 pub record Kept : Type 0 where
-  pub dropped : ℕ
+  pub begun : Option Content
   pub buffered : List ℕ
   pub continued : Bool
   pub refused : Option FrameErr
 
--- The framer stands for the state: some bytes that were read and dropped, and then those that it keeps, are what is pending
+-- what is pending is the bytes that were read and dropped, none or a head and a part of its content, and then those that are kept
+abbrev pub IsPending : Option Content → List ℕ → List ℕ → Type 0
+IsPending None pending buffered = pending ≡ buffered
+IsPending (Some content) pending buffered = HoldsContent pending buffered content
+
+-- The framer stands for the state: the bytes that were read and dropped, and then those that it keeps, are what is pending
 pub record Stands (state : State) (kept : Kept) : Type 0 where
-  pub read : List ℕ
-  pub count : length read ≡ kept.dropped
-  pub pending : state.pending ≡ read ++ kept.buffered
+  pub pending : IsPending kept.begun state.pending kept.buffered
   pub continued : state.continued ≡ kept.continued
   pub refused : state.refused ≡ kept.refused
 

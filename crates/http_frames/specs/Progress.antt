@@ -1,29 +1,51 @@
 -- What `src/progress` holds and finds, for the clauses of private functions.
-use Rattle.std.specs.Prelude.{◌≡◌, ℕ, ◌≤◌, List, length, drop}
+use Rattle.std.specs.Prelude.{◌≡◌, ℕ, ◌+◌, ◌≤◌, List, ◌++◌, length, drop, Bool, true, false, Option, Some, None}
 use Rattle.httparse.specs.Grammar.{RequestHead}
+use Rattle.http_frames.specs.HeadRules.{is_chunked, is_bad_length, content_length}
 use Rattle.http_frames.specs.Requests.{ReadsHead, ReadsWhole, HasNoWhole, IsRefused, IsAccepted}
-use Rattle.http_frames.specs.ContentSteps.{IsInChunks}
+use Rattle.http_frames.specs.ContentSteps.{IsInChunks, IsBounded}
 use Rattle.http_frames.specs.HeadReading.{head_of}
 use Rattle.http_frames.specs.declared.progress.Content.{Content}
 use Rattle.http_frames.specs.declared.progress.Progress.{Progress}
 use Rattle.http_frames.specs.declared.progress.Progress.TheVariants.{Whole, Need, Refused}
 
--- the bytes begin with the head that was taken, and its content was read up to a place
-pub record HoldsContent (pending : List ℕ) (content : Content) : Type 0 where
+-- the text is the content so far, and then rest; so many of its bytes are left
+pub record IsInLength (text rest : List ℕ) (len : ℕ) (content : List ℕ) (left : ℕ) : Type 0 where
+  pub whole : text ≡ content ++ rest
+  pub counts : length content + left ≡ len
+
+-- what was read of the content behind a head: chunks, or bytes of a known number
+abbrev pub IsBody : Bool → ℕ → List ℕ → List ℕ → List ℕ → Option ℕ → Type 0
+IsBody true len text rest content left = IsInChunks text rest content left
+IsBody false len text rest content None = ⊥
+IsBody false len text rest content (Some left) = IsInLength text rest len content left
+
+-- the bytes are the head that was taken, what was read of its content, and then rest
+pub record HoldsContent (pending rest : List ℕ) (content : Content) : Type 0 where
   pub head : RequestHead
   pub after : List ℕ
   pub heads : ReadsHead pending head after
   pub parts : content.head ≡ head_of head
-  pub chunks : IsInChunks pending content.head.len content.at content.bytes
+  pub body : IsBody (is_chunked content.head.fields) (content_length content.head.fields) after rest content.body.bytes content.body.left
 
--- the bytes begin with a whole request, which ends at a place
-pub record IsWholeAt (pending : List ℕ) (content : Content) (end : ℕ) : Type 0 where
+-- the length of its content can be told, and what was read of it and is at hand is within the limit
+pub record IsSound (content : Content) : Type 0 where
+  pub length_is : is_bad_length content.head.fields ≡ false
+  pub bounded : IsBounded content.body
+
+-- the bytes begin with a whole request, of which so many bytes of rest are the end
+pub record IsWholeAt (pending rest : List ℕ) (content : Content) (len : ℕ) : Type 0 where
   pub head : RequestHead
   pub parts : content.head ≡ head_of head
-  pub whole : ReadsWhole pending head content.bytes (drop end pending)
-  pub within : end ≤ length pending
+  pub whole : ReadsWhole pending head content.body.bytes (drop len rest)
 
-abbrev pub IsProgress : List ℕ → Content → Progress → Type 0
-IsProgress pending content (Whole end) = IsWholeAt pending content end
-IsProgress pending content Need = HoldsContent pending content × HasNoWhole pending × IsAccepted pending
-IsProgress pending content (Refused error) = IsRefused pending error
+abbrev pub IsProgress : List ℕ → List ℕ → Content → Progress → Type 0
+IsProgress pending rest content (Whole len) = IsWholeAt pending rest content len
+IsProgress pending rest content Need = HoldsContent pending rest content × HasNoWhole pending × IsAccepted pending
+IsProgress pending rest content (Refused error) = IsRefused pending error
+
+-- the end of a whole request is there
+abbrev pub EndsWithin : List ℕ → Progress → Type 0
+EndsWithin rest (Whole len) = len ≤ length rest
+EndsWithin rest Need = Unit {0}
+EndsWithin rest (Refused error) = Unit {0}

@@ -14,8 +14,8 @@ const LINE_END: &[u8] = b"\r\n";
 /// What stands where a chunk, or the end of the chunks, is due.
 #[derive(Clone, Copy, Debug)]
 pub(crate) enum ChunkStep {
-    /// A chunk: how many bytes its line takes, and how many bytes of content follow it.
-    Chunk { start: usize, len: usize },
+    /// The line of a chunk: how many bytes it takes, and how many bytes of content follow it.
+    Chunk { len: usize, size: usize },
     /// The last chunk with the trailers: how many bytes they take.
     End { len: usize },
     /// Bytes that may become one of these.
@@ -26,15 +26,15 @@ pub(crate) enum ChunkStep {
     Bad,
 }
 
-/// What stands where the bytes of a chunk and their line end are due.
+/// What stands where the line end behind the bytes of a chunk is due.
 #[derive(Clone, Copy, Debug)]
-enum DataRead {
+pub(crate) enum DataRead {
     Whole,
     Partial,
     Invalid,
 }
 
-/// Reads the chunk, or the end of the chunks, at the front of the bytes, where `sum` bytes of content came before.
+/// Reads the line of a chunk, or the end of the chunks, at the front of the bytes, where `sum` bytes of content came before.
 pub(crate) fn read_chunk(alloc: Global, rest: &[u8], sum: u64) -> Result<ChunkStep, NoMemory>
     requires { sum ≤ BODY_LIMIT }
     ensures { IfOk result (λ step. IsChunkStep rest.now sum step) }
@@ -64,7 +64,10 @@ fn after_line(
     } else if size == 0 {
         after_last(alloc, rest, sum, len)
     } else {
-        Ok(after_size(rest, sum, len, size as usize))
+        Ok(ChunkStep::Chunk {
+            len,
+            size: size as usize,
+        })
     }
 }
 
@@ -84,32 +87,8 @@ fn after_last(alloc: Global, rest: &[u8], sum: u64, len: usize) -> Result<ChunkS
     }
 }
 
-/// What follows the line of a chunk of this size.
-fn after_size(rest: &[u8], sum: u64, start: usize, len: usize) -> ChunkStep
-    requires some { 0 < len }
-    requires fits { sum + len ≤ BODY_LIMIT }
-    requires line { IsLineOf rest.now start len }
-    ensures { IsChunkStep rest.now sum result }
-{
-    match read_data(&rest[start..], len) {
-        DataRead::Whole => ChunkStep::Chunk { start, len },
-        DataRead::Partial => ChunkStep::Need,
-        DataRead::Invalid => ChunkStep::Bad,
-    }
-}
-
-/// Reads the bytes of a chunk and their line end.
-fn read_data(text: &[u8], len: usize) -> DataRead
-    ensures { IsDataRead text.now len result }
-{
-    if text.len() < len {
-        return DataRead::Partial;
-    }
-    read_line_end(&text[len..])
-}
-
 /// Reads a line end.
-fn read_line_end(text: &[u8]) -> DataRead
+pub(crate) fn read_line_end(text: &[u8]) -> DataRead
     ensures { IsDataRead text.now 0 result }
 {
     match after_front(LINE_END, text) {

@@ -29,7 +29,7 @@ pub(crate) enum Stage {
 pub struct Framer {
     alloc: Global,
     bytes: Vec<u8>,
-    /// Where the request begins that is not given out yet.
+    /// Up to here the bytes were read: those of requests that were given out, and what was taken of the next one.
     start: usize,
     continued: bool,
     stage: Stage,
@@ -40,9 +40,9 @@ impl Model for Framer {
 
     ghost Value = { Kept };
 
-    ghost use Rattle.http_frames.specs.Framer.{state_of, kept_of, IsFramer};
+    ghost use Rattle.http_frames.specs.Framer.{kept_of, IsFramer};
 
-    ghost view = { λ framer. kept_of (state_of framer) };
+    ghost view = { kept_of };
 
     ghost invariant = { IsFramer };
 }
@@ -82,8 +82,13 @@ impl Framer {
         ensures { (state : State) → Stands state self.old → Answers state result self.new }
     {
         let stage = mem::replace(&mut self.stage, Stage::Head(start()));
-        let pending = &self.bytes[self.start..];
-        let (stage, turn) = take_turn(self.alloc, pending, self.continued, stage);
+        let (stage, turn) = take_turn(
+            self.alloc,
+            &self.bytes,
+            &mut self.start,
+            self.continued,
+            stage,
+        );
         self.stage = stage;
         match turn? {
             Turn::Request { request, end } => {

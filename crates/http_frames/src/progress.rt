@@ -1,59 +1,71 @@
-ghost use Rattle.std.specs.Prelude.{◌≡◌, true, false, MatchResult};
+ghost use Rattle.std.specs.Prelude.{◌≡◌, ◌≤◌, ℕ, List, Some, true, false, IfOk, MatchResult, length, drop};
 ghost use Rattle.http_frames.specs.HeadRules.{is_chunked};
-ghost use Rattle.http_frames.specs.Progress.{HoldsContent, IsProgress};
+ghost use Rattle.http_frames.specs.Progress.{HoldsContent, IsSound, IsProgress, EndsWithin};
 
 use crate::FrameErr;
-use crate::content::{ContentStep, read_content};
+use crate::content::{Body, ContentStep, read_content, take_due};
 use crate::head::Head;
-use crate::rules::{content_length, is_chunked};
-use side_base::{Blob, NoMemory};
+use crate::rules::is_chunked;
+use side_base::NoMemory;
 use std::alloc::Global;
 
-/// A request whose head was taken: the place behind the chunks that were read, and the bytes that they hold.
+/// A request whose head was taken, and what came of its content.
 #[derive(Debug, Drop)]
 pub(crate) struct Content {
     pub(crate) head: Head,
-    pub(crate) at: usize,
-    pub(crate) bytes: Blob,
+    pub(crate) body: Body,
 }
 
 /// What the content that came so far leads to.
 #[derive(Clone, Copy, Debug)]
 pub(crate) enum Progress {
-    /// The request is whole and ends at this place.
-    Whole { end: usize },
+    /// The request is whole; its end takes so many bytes.
+    Whole { len: usize },
     /// More bytes are needed.
     Need,
     /// A refusal.
     Refused(FrameErr),
 }
 
-/// Takes what came of the content of the request at the front of `pending`.
+/// Takes what came of the content of a request from the place `at` on, and moves it behind what it has taken.
 pub(crate) fn take_content(
     alloc: Global,
-    pending: &[u8],
+    text: &[u8],
+    at: &mut usize,
     content: &mut Content,
 ) -> Result<Progress, NoMemory>
-    requires { HoldsContent pending.now content.old }
-    ensures { MatchResult result (IsProgress pending.now content.new) (λ _. HoldsContent pending.now content.new) }
+    requires within { at.old ≤ length text.now }
+    requires sound { IsSound content.old }
+    ensures within { at.new ≤ length text.now }
+    ensures sound { IsSound content.new }
+    ensures ends { IfOk result (λ progress. EndsWithin (drop at.new text.now) progress) }
+    ensures progress { (pending : List ℕ) → HoldsContent pending (drop at.old text.now) content.old → MatchResult result (IsProgress pending (drop at.new text.now) content.new) (λ _. HoldsContent pending (drop at.new text.now) content.new) }
 {
     if is_chunked(&content.head.fields) {
-        take_chunks(alloc, pending, content)
+        take_chunks(alloc, text, at, content)
     } else {
-        take_length(alloc, pending, content)
+        take_length(text, at, content)
     }
 }
 
 /// The same of content in chunks.
-fn take_chunks(alloc: Global, pending: &[u8], content: &mut Content) -> Result<Progress, NoMemory>
-    requires holds { HoldsContent pending.now content.old }
+fn take_chunks(
+    alloc: Global,
+    text: &[u8],
+    at: &mut usize,
+    content: &mut Content,
+) -> Result<Progress, NoMemory>
+    requires within { at.old ≤ length text.now }
+    requires sound { IsSound content.old }
     requires chunked { is_chunked content.old.head.fields ≡ true }
-    ensures { MatchResult result (IsProgress pending.now content.new) (λ _. HoldsContent pending.now content.new) }
+    ensures within { at.new ≤ length text.now }
+    ensures sound { IsSound content.new }
+    ensures ends { IfOk result (λ progress. EndsWithin (drop at.new text.now) progress) }
+    ensures progress { (pending : List ℕ) → HoldsContent pending (drop at.old text.now) content.old → MatchResult result (IsProgress pending (drop at.new text.now) content.new) (λ _. HoldsContent pending (drop at.new text.now) content.new) }
 {
-    let len = content.head.len;
-    let step = read_content(alloc, pending, len, &mut content.at, &mut content.bytes)?;
+    let step = read_content(alloc, text, at, &mut content.body)?;
     match step {
-        ContentStep::Whole { end } => Ok(Progress::Whole { end }),
+        ContentStep::Whole { len } => Ok(Progress::Whole { len }),
         ContentStep::Need => Ok(Progress::Need),
         ContentStep::TooLong => Ok(Progress::Refused(FrameErr::TooLong)),
         ContentStep::Bad => Ok(Progress::Refused(FrameErr::BadChunk)),
@@ -61,17 +73,40 @@ fn take_chunks(alloc: Global, pending: &[u8], content: &mut Content) -> Result<P
 }
 
 /// The same of content of a known length.
-fn take_length(alloc: Global, pending: &[u8], content: &mut Content) -> Result<Progress, NoMemory>
-    requires holds { HoldsContent pending.now content.old }
+fn take_length(text: &[u8], at: &mut usize, content: &mut Content) -> Result<Progress, NoMemory>
+    requires within { at.old ≤ length text.now }
+    requires sound { IsSound content.old }
     requires plain { is_chunked content.old.head.fields ≡ false }
-    ensures { MatchResult result (IsProgress pending.now content.new) (λ _. HoldsContent pending.now content.new) }
+    ensures within { at.new ≤ length text.now }
+    ensures sound { IsSound content.new }
+    ensures ends { IfOk result (λ progress. EndsWithin (drop at.new text.now) progress) }
+    ensures progress { (pending : List ℕ) → HoldsContent pending (drop at.old text.now) content.old → MatchResult result (IsProgress pending (drop at.new text.now) content.new) (λ _. HoldsContent pending (drop at.new text.now) content.new) }
 {
-    let start = content.head.len;
-    let len = content_length(&content.head.fields) as usize;
-    if pending.len() - start < len {
+    match content.body.left {
+        Some(left) => take_rest(text, at, content, left),
+        None => Ok(Progress::Need),
+    }
+}
+
+/// The same of content of which so many bytes are left.
+fn take_rest(
+    text: &[u8],
+    at: &mut usize,
+    content: &mut Content,
+    left: usize,
+) -> Result<Progress, NoMemory>
+    requires within { at.old ≤ length text.now }
+    requires sound { IsSound content.old }
+    requires plain { is_chunked content.old.head.fields ≡ false }
+    requires left { content.old.body.left ≡ Some left }
+    ensures within { at.new ≤ length text.now }
+    ensures sound { IsSound content.new }
+    ensures ends { IfOk result (λ progress. EndsWithin (drop at.new text.now) progress) }
+    ensures progress { (pending : List ℕ) → HoldsContent pending (drop at.old text.now) content.old → MatchResult result (IsProgress pending (drop at.new text.now) content.new) (λ _. HoldsContent pending (drop at.new text.now) content.new) }
+{
+    let due = take_due(text, at, &mut content.body, left)?;
+    if due > 0 {
         return Ok(Progress::Need);
     }
-    let end = start + len;
-    content.bytes = Blob::from_bytes(alloc, &pending[start..end])?;
-    Ok(Progress::Whole { end })
+    Ok(Progress::Whole { len: 0 })
 }

@@ -1,25 +1,26 @@
-ghost use Rattle.std.specs.Prelude.{◌≡◌, false, not, ◌&&◌};
+ghost use Rattle.std.specs.Prelude.{◌≡◌, ◌≤◌, ℕ, List, Some, None, false, if◌then◌else◌, not, ◌&&◌, length, drop};
 ghost use Rattle.http_frames.specs.Framer.{IsStage};
 ghost use Rattle.http_frames.specs.Lines.{IsPlace};
 ghost use Rattle.httparse.specs.Grammar.{RequestHead};
 ghost use Rattle.http_frames.specs.HeadReading.{head_of, IsHeadStep};
-ghost use Rattle.http_frames.specs.HeadRules.{request_of, is_bad_length, asks_to_continue};
-ghost use Rattle.http_frames.specs.Progress.{HoldsContent};
-ghost use Rattle.http_frames.specs.Turns.{IsTurn, TakesTurn};
+ghost use Rattle.http_frames.specs.HeadRules.{BODY_LIMIT, request_of, is_bad_length, is_chunked, content_length, asks_to_continue};
+ghost use Rattle.http_frames.specs.Progress.{HoldsContent, IsSound};
+ghost use Rattle.http_frames.specs.Turns.{IsTurn, TakesTurn, Leaves};
 
 use crate::FrameErr;
+use crate::content::Body;
 use crate::framer::Stage;
 use crate::head::{Head, HeadStep, take_head};
 use crate::lines::{Place, start};
 use crate::progress::{Content, Progress, take_content};
-use crate::rules::asks_to_continue;
-use side_base::{Blob, NoMemory, Request};
+use crate::rules::{asks_to_continue, content_length, is_chunked};
+use side_base::{Blob, Fields, NoMemory, Request};
 use std::alloc::Global;
 
 /// What the bytes of a stream hold next.
 #[derive(Debug, Drop)]
 pub(crate) enum Turn {
-    /// A whole request, which ends at this place.
+    /// A whole request, whose end takes so many bytes.
     Request { request: Request, end: usize },
     /// A head that asks for `100 Continue`.
     Continue,
@@ -29,70 +30,110 @@ pub(crate) enum Turn {
     Refused(FrameErr),
 }
 
-/// What the bytes from the start of a request on hold next.
+/// What the bytes hold next, of which those before the place `at` were read. It moves behind what is read.
 pub(crate) fn take_turn(
     alloc: Global,
-    pending: &[u8],
+    bytes: &[u8],
+    at: &mut usize,
     continued: bool,
     stage: Stage,
 ) -> (Stage, Result<Turn, NoMemory>)
-    requires { IsStage pending.now continued stage }
-    ensures { TakesTurn pending.now continued stage result }
+    requires within { at.old ≤ length bytes.now }
+    requires stage { IsStage (drop at.old bytes.now) continued stage }
+    ensures within { at.new ≤ length bytes.now }
+    ensures left { Leaves (drop at.new bytes.now) continued result }
+    ensures turn { (pending : List ℕ) → TakesTurn pending (drop at.old bytes.now) (drop at.new bytes.now) continued stage result }
 {
     match stage {
-        Stage::Head(place) => head_turn(alloc, pending, place),
-        Stage::Content(content) => content_turn(alloc, pending, continued, content),
+        Stage::Head(place) => head_turn(alloc, bytes, at, place),
+        Stage::Content(content) => content_turn(alloc, bytes, at, continued, content),
         Stage::Refused(error) => (Stage::Refused(error), Ok(Turn::Refused(error))),
     }
 }
 
 /// What the bytes hold next, where no head was taken and one was read so far before.
-fn head_turn(alloc: Global, pending: &[u8], place: Place) -> (Stage, Result<Turn, NoMemory>)
-    requires { IsPlace pending.now place }
-    ensures { IsTurn pending.now false result }
+fn head_turn(
+    alloc: Global,
+    bytes: &[u8],
+    at: &mut usize,
+    place: Place,
+) -> (Stage, Result<Turn, NoMemory>)
+    requires within { at.old ≤ length bytes.now }
+    requires place { IsPlace (drop at.old bytes.now) place }
+    ensures within { at.new ≤ length bytes.now }
+    ensures left { Leaves (drop at.new bytes.now) false result }
+    ensures turn { IsTurn (drop at.old bytes.now) (drop at.new bytes.now) false result }
 {
-    match take_head(alloc, pending, place) {
-        Ok(step) => turn_of(alloc, pending, step),
+    match take_head(alloc, &bytes[*at..], place) {
+        Ok(step) => turn_of(alloc, bytes, at, step),
         Err(error) => (Stage::Head(place), Err(error)),
     }
 }
 
 /// What the bytes hold next, from what stands at their front.
-fn turn_of(alloc: Global, pending: &[u8], step: HeadStep) -> (Stage, Result<Turn, NoMemory>)
-    requires { IsHeadStep pending.now step }
-    ensures { IsTurn pending.now false result }
+fn turn_of(
+    alloc: Global,
+    bytes: &[u8],
+    at: &mut usize,
+    step: HeadStep,
+) -> (Stage, Result<Turn, NoMemory>)
+    requires within { at.old ≤ length bytes.now }
+    requires step { IsHeadStep (drop at.old bytes.now) step }
+    ensures within { at.new ≤ length bytes.now }
+    ensures left { Leaves (drop at.new bytes.now) false result }
+    ensures turn { IsTurn (drop at.old bytes.now) (drop at.new bytes.now) false result }
 {
     match step {
         HeadStep::Taken(head) => {
-            let content = Content {
-                at: head.len,
+            *at += head.len;
+            let body = Body {
                 bytes: Blob::new(alloc),
-                head,
+                left: first_left(&head.fields),
             };
-            content_turn(alloc, pending, false, content)
+            content_turn(alloc, bytes, at, false, Content { head, body })
         }
         HeadStep::Refused(error) => (Stage::Refused(error), Ok(Turn::Refused(error))),
         HeadStep::Need(place) => (Stage::Head(place), Ok(Turn::Need)),
     }
 }
 
+/// The bytes of content that are due behind a head; `None` where chunks are.
+fn first_left(fields: &Fields) -> Option<usize>
+    requires good { is_bad_length fields.now ≡ false }
+    requires short { content_length fields.now ≤ BODY_LIMIT }
+    ensures { result ≡ (if is_chunked fields.now then None else Some (content_length fields.now)) }
+{
+    if is_chunked(fields) {
+        None
+    } else {
+        Some(content_length(fields) as usize)
+    }
+}
+
 /// What the bytes hold next, where a head was taken.
 fn content_turn(
     alloc: Global,
-    pending: &[u8],
+    bytes: &[u8],
+    at: &mut usize,
     continued: bool,
     mut content: Content,
 ) -> (Stage, Result<Turn, NoMemory>)
-    requires { HoldsContent pending.now content }
-    ensures { IsTurn pending.now continued result }
+    requires within { at.old ≤ length bytes.now }
+    requires sound { IsSound content }
+    ensures within { at.new ≤ length bytes.now }
+    ensures left { Leaves (drop at.new bytes.now) continued result }
+    ensures turn { (pending : List ℕ) → HoldsContent pending (drop at.old bytes.now) content → IsTurn pending (drop at.new bytes.now) continued result }
 {
     if is_due(continued, &content) {
         return (Stage::Content(content), Ok(Turn::Continue));
     }
-    match take_content(alloc, pending, &mut content) {
-        Ok(Progress::Whole { end }) => {
+    match take_content(alloc, bytes, at, &mut content) {
+        Ok(Progress::Whole { len }) => {
             let request = request_of(content);
-            (Stage::Head(start()), Ok(Turn::Request { request, end }))
+            (
+                Stage::Head(start()),
+                Ok(Turn::Request { request, end: len }),
+            )
         }
         Ok(Progress::Need) => (Stage::Content(content), Ok(Turn::Need)),
         Ok(Progress::Refused(error)) => (Stage::Refused(error), Ok(Turn::Refused(error))),
@@ -110,9 +151,9 @@ fn is_due(continued: bool, content: &Content) -> bool
 
 /// The request of a head and its content.
 fn request_of(content: Content) -> Request
-    ensures { (head : RequestHead) → content.head ≡ head_of head → result ≡ request_of head content.bytes }
+    ensures { (head : RequestHead) → content.head ≡ head_of head → result ≡ request_of head content.body.bytes }
 {
-    let Content { head, bytes, at: _ } = content;
+    let Content { head, body } = content;
     let Head {
         method,
         target,
@@ -125,6 +166,6 @@ fn request_of(content: Content) -> Request
         target,
         minor,
         fields,
-        body: bytes,
+        body: body.bytes,
     }
 }

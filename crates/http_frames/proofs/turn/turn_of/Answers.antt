@@ -1,18 +1,50 @@
-use Rattle.std.proofs.Common.{refl, false}
-use Rattle.http_frames.proofs.TurnLemmas.{quiet_none, first_content}
+use Rattle.std.proofs.Common.{List, ℕ, refl, false, drop, subst, arith, drop-drop, length-drop}
+use Rattle.http_frames.specs.HeadRules.{is_chunked, content_length}
+use Rattle.http_frames.specs.Progress.{HoldsContent}
+use Rattle.http_frames.specs.declared.progress.Content.{Content}
+use Rattle.http_frames.proofs.TurnLemmas.{quiet_none, first_content, first_bounded, head_sound, head_inside}
 use Rattle.http_frames.proofs.turn.turn_of.Goals as goal
 
-pub content_turn-requires : goal.content_turn-requires
-content_turn-requires c =
-    let step = rw c.in-Taken.is at c.requires in
-    first_content c.args.pending.now step.0 step.1 c.in-Taken.head _ step.2 step.3 c.new.ensures
+pub first_left-requires-clause-good : goal.first_left-requires-clause-good
+first_left-requires-clause-good c =
+    let step = rw c.in-Taken.is at c.requires.step in
+    let sound = head_sound (drop c.args.at.now c.args.bytes.now) step.0 step.1 c.in-Taken.head step.2 step.3 in
+    sound.0
 
-pub returns-in-Need : goal.returns-in-Need
-returns-in-Need c =
-    let step = rw c.in-Need.is at c.requires in
-    (λ head body rest whole. step.2 head whole.after whole.heads, step.1, quiet_none c.args.pending.now false step.2, (tt, (refl, step.3)))
+pub first_left-requires-clause-short : goal.first_left-requires-clause-short
+first_left-requires-clause-short c =
+    let step = rw c.in-Taken.is at c.requires.step in
+    let sound = head_sound (drop c.args.at.now c.args.bytes.now) step.0 step.1 c.in-Taken.head step.2 step.3 in
+    sound.1
 
-pub returns-in-Refused : goal.returns-in-Refused
-returns-in-Refused c =
-    let step = rw c.in-Refused.is at c.requires in
-    (refl, step.0, quiet_none c.args.pending.now false step.1)
+pub content_turn-requires-clause-sound : goal.content_turn-requires-clause-sound
+content_turn-requires-clause-sound c =
+    let step = rw c.in-Taken.is at c.requires.step in
+    let sound = head_sound (drop c.args.at.now c.args.bytes.now) step.0 step.1 c.in-Taken.head step.2 step.3 in
+    let fields = c.in-Taken.head.fields in
+    record { length_is = sound.0; bounded = first_bounded (is_chunked fields) (content_length fields) _ _ c.new.ensures sound.1 c.first_left.ensures }
+
+pub content_turn-requires-clause-within : goal.content_turn-requires-clause-within
+content_turn-requires-clause-within c =
+    let step = rw c.in-Taken.is at c.requires.step in
+    omega (arith, head_inside (drop c.args.at.now c.args.bytes.now) step.0 step.1 c.in-Taken.head step.2 step.3, length-drop c.args.at.now c.args.bytes.now)
+
+pub returns-in-Taken-clause-turn : goal.returns-in-Taken-clause-turn
+returns-in-Taken-clause-turn c =
+    let bytes = c.args.bytes.now in
+    let at = c.args.at.now in
+    let step = rw c.in-Taken.is at c.requires.step in
+    let content : Content = record { head = c.in-Taken.head; body = record { bytes = c.new.result; left = c.first_left.result } } in
+    let P : List ℕ → Type 0 = λ t. HoldsContent (drop at bytes) t content in
+    c.content_turn.ensures.turn (drop at bytes) (subst P (drop-drop c.in-Taken.head.len at bytes)
+    (first_content (drop at bytes) step.0 step.1 c.in-Taken.head c.new.result c.first_left.result step.2 step.3 c.new.ensures c.first_left.ensures))
+
+pub returns-in-Need-clause-turn : goal.returns-in-Need-clause-turn
+returns-in-Need-clause-turn c =
+    let step = rw c.in-Need.is at c.requires.step in
+    (λ head body rest whole. step.2 head whole.after whole.heads, step.1, quiet_none _ false step.2, refl)
+
+pub returns-in-Refused-clause-turn : goal.returns-in-Refused-clause-turn
+returns-in-Refused-clause-turn c =
+    let step = rw c.in-Refused.is at c.requires.step in
+    (step.0, quiet_none _ false step.1)
