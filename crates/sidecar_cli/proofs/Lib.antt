@@ -1,4 +1,5 @@
 mod Counted
 mod Countings
 mod Fitting
+mod Noted
 mod Serves

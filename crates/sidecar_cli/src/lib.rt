@@ -2,12 +2,13 @@
 //!
 //! - `world` is all that a run has of the outside, and `status` how it ends, with the line that the note gets.
 //! - `running` runs the command: `configuring` reads what is configured, `checking` says how much that is, and `playing` answers the requests
-//!   of one connection over the objects that `starting` made; behind it `counting` tells the note what each ledger counts.
+//!   of one connection over the objects that `starting` made; behind it `counting` tells the note what each ledger counts. `noting` writes a part of a line.
 #![tactic(auto)]
 
 mod checking;
 mod configuring;
 mod counting;
+mod noting;
 mod playing;
 mod running;
 mod serving;
