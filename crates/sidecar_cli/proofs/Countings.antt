@@ -1,15 +1,12 @@
--- Brokers that are counted one after the other, and what the note gets of them.
+-- Brokers that are counted one after the other, and the texts that the note gets of them.
 use Rattle.std.specs.Prelude.{◌≡◌, ◌≤◌, ◌<◌, ◌+◌, ℕ, suc, Bool, true, false, List, [], ◌∷◌, ◌++◌, not, length, take, drop, slice_index_or, Option, Some, None, refl}
 use Rattle.std.specs.Option.{option_or}
-use Rattle.std.proofs.Common.{◌∙◌, ap, sym, subst, append_assoc, inl, inr, arith}
-use Rattle.std.proofs.Math.Nat.{eq-or-lt_of_le}
+use Rattle.std.proofs.Common.{◌∙◌, ap, sym, subst, arith}
 use Rattle.std.proofs.Math.Bool.{cond}
 use Rattle.std.proofs.Math.Seq.{drop-cons}
 use Rattle.std.proofs.lemmas.List.{append-nil, take_all, take_more, take-append-drop, length-append}
 use Rattle.std.proofs.lemmas.List.Elements.{filter-append}
 use Rattle.std.proofs.lemmas.List.Filters.{length-filter_both}
-use Rattle.side_world.specs.Faults.{Rose}
-use Rattle.side_world.proofs.Composed.{told_on, told_nothing}
 use Rattle.rand_core.specs.Stream.{Stream}
 use Rattle.policy_run.specs.Effects.{Clocked}
 use Rattle.conn_serve.specs.Ends.{SinkAt}
@@ -18,33 +15,16 @@ use Rattle.sidecar_core.specs.Composed.{lone_stays, pass_stays, sound_stays}
 use Rattle.sidecar_core.specs.Did.{CellsAt, IsLone, IsPassOf, IsSoundPass, Kinds, SeatsAt}
 use Rattle.sidecar_core.specs.Sites.{is_pubsub, pubsubs_of}
 use Rattle.sidecar_cli.specs.Counting.{AreCountedOf, IsCountedOf, IsTold, none, more}
-use Rattle.sidecar_cli.specs.Note.{IsNoted}
-
--- ---- the note
-
-rose_first : (a b c : ℕ) → a ≤ b → Rose a b → b ≤ c → Rose a c
-rose_first a b c low (inl less) later = inl (omega (arith, less, later))
-rose_first a b c low (inr top) later = elim (eq-or-lt_of_le later) [ inl same ↦ inr (sym same ∙ top) | inr less ↦ inl (omega (arith, low, less)) ]
-
-rose_later : (a b c : ℕ) → a ≤ b → Rose b c → Rose a c
-rose_later a b c low (inl less) = inl (omega (arith, low, less))
-rose_later a b c low (inr top) = inr top
-
-pub noted_on : (a b c : SinkAt) (text rest : List ℕ) → a.faults ≤ b.faults → b.faults ≤ c.faults → IsNoted a b text → IsNoted b c rest → IsNoted a c (text ++ rest)
-noted_on a b c text rest low high (inl one) (inl two) = inl (told_on a.contents b.contents c.contents text rest one.0 two.0, two.1 ∙ one.1)
-noted_on a b c text rest low high (inl one) (inr two) = inr (rose_later a.faults b.faults c.faults low two)
-noted_on a b c text rest low high (inr one) two = inr (rose_first a.faults b.faults c.faults low one high)
-
-pub noted_nothing : (a : SinkAt) → IsNoted a a []
-noted_nothing a = inl (told_nothing a.contents, refl)
+use Rattle.sidecar_cli.specs.Note.{AreNoted, IsNoted}
+use Rattle.sidecar_cli.proofs.Noted.{noted_more}
 
 -- ---- the brokers
 
 -- a clock and random words, of which nothing is asked
-still : Clocked
+pub still : Clocked
 still = record { last = 0; paused = 0; ticks = None }
 
-silent : Stream
+pub silent : Stream
 silent = record { u32_after = λ cs. 0; u64_after = λ cs. 0; bytes_after = λ cs n. [] }
 
 or_assoc : {T : Type 0} (a b c : Option T) → option_or (option_or a b) c ≡ option_or a (option_or b c)
@@ -65,40 +45,38 @@ module _ {O : Type 0} (kinds : Kinds O) (cells : CellsAt O) where
   pub pass_counted : (name : List ℕ) (place : ℕ) (seats seats' : SeatsAt O) (text : List ℕ) (spent : Option ℕ) → IsCountedOf kinds cells name place seats text spent seats' → IsPassOf cells seats → IsPassOf cells seats'
   pass_counted name place seats seats' text spent counted of = pass_stays kinds cells (record { seats = seats; clock = still; calls = None; words = silent }) _ (record { seats = seats'; clock = still; calls = None; words = silent }) (counted.does still None silent).went of
 
-  pub lone_counted : (place : ℕ) (cs : List Loaded) (seats seats' : SeatsAt O) (text : List ℕ) (spent : Option ℕ) → AreCountedOf kinds cells place cs seats text spent seats' → IsLone cells seats → IsLone cells seats'
+  pub lone_counted : (place : ℕ) (cs : List Loaded) (seats seats' : SeatsAt O) (texts : List (List ℕ)) (spent : Option ℕ) → AreCountedOf kinds cells place cs seats texts spent seats' → IsLone cells seats → IsLone cells seats'
   lone_counted _ _ _ _ _ _ (none place seats) lone = lone
-  lone_counted _ _ _ _ _ _ (more place c cs seats between seats' text rest spent later counted behind) lone =
-      lone_counted (suc place) cs between seats' rest later behind (lone_stays kinds cells (record { seats = seats; clock = still; calls = None; words = silent }) _ (record { seats = between; clock = still; calls = None; words = silent }) (counted.does still None silent).went lone)
+  lone_counted _ _ _ _ _ _ (more place c cs seats between seats' text texts spent later counted behind) lone =
+      lone_counted (suc place) cs between seats' texts later behind (lone_stays kinds cells (record { seats = seats; clock = still; calls = None; words = silent }) _ (record { seats = between; clock = still; calls = None; words = silent }) (counted.does still None silent).went lone)
 
-  pub sound_counted : (place : ℕ) (cs : List Loaded) (seats seats' : SeatsAt O) (text : List ℕ) (spent : Option ℕ) → AreCountedOf kinds cells place cs seats text spent seats' → IsSoundPass kinds cells seats → IsSoundPass kinds cells seats'
+  pub sound_counted : (place : ℕ) (cs : List Loaded) (seats seats' : SeatsAt O) (texts : List (List ℕ)) (spent : Option ℕ) → AreCountedOf kinds cells place cs seats texts spent seats' → IsSoundPass kinds cells seats → IsSoundPass kinds cells seats'
   sound_counted _ _ _ _ _ _ (none place seats) sound = sound
-  sound_counted _ _ _ _ _ _ (more place c cs seats between seats' text rest spent later counted behind) sound =
-      sound_counted (suc place) cs between seats' rest later behind (sound_stays kinds cells (record { seats = seats; clock = still; calls = None; words = silent }) _ (record { seats = between; clock = still; calls = None; words = silent }) (counted.does still None silent).went sound)
+  sound_counted _ _ _ _ _ _ (more place c cs seats between seats' text texts spent later counted behind) sound =
+      sound_counted (suc place) cs between seats' texts later behind (sound_stays kinds cells (record { seats = seats; clock = still; calls = None; words = silent }) _ (record { seats = between; clock = still; calls = None; words = silent }) (counted.does still None silent).went sound)
 
   -- one more broker behind the others
-  pub counted_on : (place at : ℕ) (c : Loaded) (cs : List Loaded) (seats between seats' : SeatsAt O) (text rest : List ℕ) (spent later : Option ℕ) → at ≡ place + length cs → AreCountedOf kinds cells place cs seats text spent between → IsCountedOf kinds cells c.name at between rest later seats'
-      → AreCountedOf kinds cells place (cs ++ c ∷ []) seats (text ++ rest) (option_or spent later) seats'
-  counted_on _ at c _ _ _ seats' _ rest _ later here (none place seats) one =
+  pub counted_on : (place at : ℕ) (c : Loaded) (cs : List Loaded) (seats between seats' : SeatsAt O) (texts : List (List ℕ)) (text : List ℕ) (spent later : Option ℕ) → at ≡ place + length cs → AreCountedOf kinds cells place cs seats texts spent between → IsCountedOf kinds cells c.name at between text later seats'
+      → AreCountedOf kinds cells place (cs ++ c ∷ []) seats (texts ++ text ∷ []) (option_or spent later) seats'
+  counted_on _ at c _ _ _ seats' _ text _ later here (none place seats) one =
       let same : at ≡ place = omega (arith, here) in
-      subst (λ t. AreCountedOf kinds cells place (c ∷ []) seats t later seats') (append-nil rest) (subst (λ s. AreCountedOf kinds cells place (c ∷ []) seats (rest ++ []) s seats') (or_none later)
-      (more place c [] seats seats' seats' rest [] later None (subst (λ k. IsCountedOf kinds cells c.name k seats rest later seats') same one) (none (suc place) seats')))
-  counted_on _ at c _ _ _ seats' _ rest _ later here (more place d ds seats mid between first texts spent' others counted behind) one =
+      subst (λ s. AreCountedOf kinds cells place (c ∷ []) seats (text ∷ []) s seats') (or_none later)
+      (more place c [] seats seats' seats' text [] later None (subst (λ k. IsCountedOf kinds cells c.name k seats text later seats') same one) (none (suc place) seats'))
+  counted_on _ at c _ _ _ seats' _ text _ later here (more place d ds seats mid between first texts spent' others counted behind) one =
       let next : at ≡ suc place + length ds = omega (arith, here) in
-      subst (λ t. AreCountedOf kinds cells place (d ∷ (ds ++ c ∷ [])) seats t (option_or (option_or spent' others) later) seats') (sym (append_assoc first texts rest))
-      (subst (λ s. AreCountedOf kinds cells place (d ∷ (ds ++ c ∷ [])) seats (first ++ (texts ++ rest)) s seats') (sym (or_assoc spent' others later))
-      (more place d (ds ++ c ∷ []) seats mid seats' first (texts ++ rest) spent' (option_or others later) counted (counted_on (suc place) at c ds mid between seats' texts rest others later next behind one)))
+      subst (λ s. AreCountedOf kinds cells place (d ∷ (ds ++ c ∷ [])) seats (first ∷ (texts ++ text ∷ [])) s seats') (sym (or_assoc spent' others later))
+      (more place d (ds ++ c ∷ []) seats mid seats' first (texts ++ text ∷ []) spent' (option_or others later) counted (counted_on (suc place) at c ds mid between seats' texts text others later next behind one))
 
   -- the brokers among the components before a place are counted
   pub record CountedSoFar (components : List Loaded) (at place : ℕ) (seats seats' : SeatsAt O) (note note' : SinkAt) (spent : Option ℕ) : Type 0 where
     pub wide : place ≡ length (pubsubs_of (take at components))
-    pub text : List ℕ
-    pub counted : AreCountedOf kinds cells 0 (pubsubs_of (take at components)) seats text spent seats'
-    pub noted : IsNoted note note' text
-    pub no_fewer : note.faults ≤ note'.faults
+    pub texts : List (List ℕ)
+    pub counted : AreCountedOf kinds cells 0 (pubsubs_of (take at components)) seats texts spent seats'
+    pub noted : AreNoted note note' texts
     pub pass : IsPassOf cells seats'
 
   pub none_counted : (components : List Loaded) (seats : SeatsAt O) (note : SinkAt) → IsPassOf cells seats → CountedSoFar components 0 0 seats seats note note None
-  none_counted components seats note pass = record { wide = refl; text = []; counted = none 0 seats; noted = noted_nothing note; no_fewer = omega arith; pass = pass }
+  none_counted components seats note pass = record { wide = refl; texts = []; counted = none 0 seats; noted = refl; pass = pass }
 
   module _ (components : List Loaded) (at : ℕ) (c : Loaded) (low : at < length components) (is : c ≡ slice_index_or components at c) where
     one_more : take (at + 1) components ≡ take at components ++ c ∷ []
@@ -122,22 +100,20 @@ module _ {O : Type 0} (kinds : Kinds O) (cells : CellsAt O) where
         ap length whole ∙ length-append (pubsubs_of (take at components)) (pubsubs_of (c ∷ []) ++ pubsubs_of (drop (suc at) components)) ∙ ap (λ n. length (pubsubs_of (take at components)) + n) (length-append (pubsubs_of (c ∷ [])) (pubsubs_of (drop (suc at) components))) in
         omega (arith, wide, one, all)
 
-    pub one_counted : (place : ℕ) (seats between seats' : SeatsAt O) (note mid note' : SinkAt) (spent later : Option ℕ) (rest name : List ℕ) → name ≡ c.name → is_pubsub c.kind ≡ true → CountedSoFar components at place seats between note mid spent
-        → IsCountedOf kinds cells name place between rest later seats' → IsNoted mid note' rest → mid.faults ≤ note'.faults → CountedSoFar components (at + 1) (place + 1) seats seats' note note' (option_or spent later)
-    one_counted place seats between seats' note mid note' spent later rest name named chosen so_far counted noted risen =
+    pub one_counted : (place : ℕ) (seats between seats' : SeatsAt O) (note mid note' : SinkAt) (spent later : Option ℕ) (text name : List ℕ) → name ≡ c.name → is_pubsub c.kind ≡ true → CountedSoFar components at place seats between note mid spent
+        → IsCountedOf kinds cells name place between text later seats' → IsNoted mid note' text → CountedSoFar components (at + 1) (place + 1) seats seats' note note' (option_or spent later)
+    one_counted place seats between seats' note mid note' spent later text name named chosen so_far counted noted =
         let more_of : pubsubs_of (take (at + 1) components) ≡ pubsubs_of (take at components) ++ c ∷ [] = pubsubs_more ∙ ap (λ l. pubsubs_of (take at components) ++ l) (alone_in true chosen) in
         let count : length (pubsubs_of (take (at + 1) components)) ≡ length (pubsubs_of (take at components)) + 1 = ap length more_of ∙ length-append (pubsubs_of (take at components)) (c ∷ []) in
-        let one : IsCountedOf kinds cells c.name place between rest later seats' = subst (λ n. IsCountedOf kinds cells n place between rest later seats') named counted in
+        let one : IsCountedOf kinds cells c.name place between text later seats' = subst (λ n. IsCountedOf kinds cells n place between text later seats') named counted in
         let wide = so_far.wide in
         let from_none : place ≡ 0 + length (pubsubs_of (take at components)) = omega (arith, wide) in
-        let before = so_far.no_fewer in
         record {
           wide = omega (arith, count, wide);
-          text = so_far.text ++ rest;
-          counted = subst (λ l. AreCountedOf kinds cells 0 l seats (so_far.text ++ rest) (option_or spent later) seats') (sym more_of) (counted_on 0 place c (pubsubs_of (take at components)) seats between seats' so_far.text rest spent later from_none so_far.counted one);
-          noted = noted_on note mid note' so_far.text rest so_far.no_fewer risen so_far.noted noted;
-          no_fewer = omega (arith, before, risen);
-          pass = pass_counted c.name place between seats' rest later one so_far.pass;
+          texts = so_far.texts ++ text ∷ [];
+          counted = subst (λ l. AreCountedOf kinds cells 0 l seats (so_far.texts ++ text ∷ []) (option_or spent later) seats') (sym more_of) (counted_on 0 place c (pubsubs_of (take at components)) seats between seats' so_far.texts text spent later from_none so_far.counted one);
+          noted = noted_more note mid note' so_far.texts text so_far.noted noted;
+          pass = pass_counted c.name place between seats' text later one so_far.pass;
         }
 
     pub passed_over : (place : ℕ) (seats seats' : SeatsAt O) (note note' : SinkAt) (spent : Option ℕ) → is_pubsub c.kind ≡ false → CountedSoFar components at place seats seats' note note' spent → CountedSoFar components (at + 1) place seats seats' note note' spent
@@ -145,19 +121,17 @@ module _ {O : Type 0} (kinds : Kinds O) (cells : CellsAt O) where
         let same : pubsubs_of (take (at + 1) components) ≡ pubsubs_of (take at components) = pubsubs_more ∙ ap (λ l. pubsubs_of (take at components) ++ l) (alone_in false chosen) ∙ append-nil (pubsubs_of (take at components)) in
         record {
           wide = so_far.wide ∙ ap length (sym same);
-          text = so_far.text;
-          counted = subst (λ l. AreCountedOf kinds cells 0 l seats so_far.text spent seats') (sym same) so_far.counted;
+          texts = so_far.texts;
+          counted = subst (λ l. AreCountedOf kinds cells 0 l seats so_far.texts spent seats') (sym same) so_far.counted;
           noted = so_far.noted;
-          no_fewer = so_far.no_fewer;
           pass = so_far.pass;
         }
 
   pub all_counted : (components : List Loaded) (at place : ℕ) (seats seats' : SeatsAt O) (note note' : SinkAt) (spent : Option ℕ) → length components ≤ at → CountedSoFar components at place seats seats' note note' spent → IsTold kinds cells components seats seats' note note' spent
   all_counted components at place seats seats' note note' spent high so_far = record {
-    text = so_far.text;
-    counted = subst (λ l. AreCountedOf kinds cells 0 (pubsubs_of l) seats so_far.text spent seats') (take_all at components high) so_far.counted;
+    texts = so_far.texts;
+    counted = subst (λ l. AreCountedOf kinds cells 0 (pubsubs_of l) seats so_far.texts spent seats') (take_all at components high) so_far.counted;
     noted = so_far.noted;
-    no_fewer = so_far.no_fewer;
   }
 
   pub so_far_by : {components : List Loaded} {at place place' : ℕ} {seats now now' : SeatsAt O} {note mid mid' : SinkAt} {spent spent' : Option ℕ} → place' ≡ place → now' ≡ now → mid' ≡ mid → spent' ≡ spent

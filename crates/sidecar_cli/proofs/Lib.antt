@@ -1,4 +1,10 @@
+mod Causes
 mod Counted
 mod Countings
 mod Fitting
+mod Journals
+mod Lines
+mod Noted
+mod ServeCauses
 mod Serves
+mod Shown

@@ -26,7 +26,7 @@ use Rattle.sidecar_cli.specs.declared.status.Status.{Status}
 
 module _ {O : Type 0} (kinds : Kinds O) (cells : CellsAt O) where
   -- where nobody was met, all is as it was
-  met_nobody : (workers : List (WorkerAt O)) (hub after : HubAt O) → workers ≡ [] → AreMet kinds cells workers hub after → after ≡ hub
+  pub met_nobody : (workers : List (WorkerAt O)) (hub after : HubAt O) → workers ≡ [] → AreMet kinds cells workers hub after → after ≡ hub
   met_nobody _ _ _ none (nobody hub) = refl
   met_nobody _ _ _ none (one w workers at between after behind met) = absurd (cc)
 

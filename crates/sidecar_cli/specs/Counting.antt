@@ -1,5 +1,5 @@
 -- The lines that tell the counts of the ledgers.
-use Rattle.std.specs.Prelude.{◌≡◌, ◌≤◌, ℕ, suc, List, [], ◌∷◌, ◌++◌, Option, Some, None, Result, Ok, Err, codes, decimal}
+use Rattle.std.specs.Prelude.{◌≡◌, ℕ, suc, List, [], ◌∷◌, ◌++◌, Option, Some, None, Result, Ok, Err, codes, decimal}
 use Rattle.std.specs.Option.{option_or}
 use Rattle.side_world.specs.declared.link.LinkCall.{LinkCall}
 use Rattle.rand_core.specs.Stream.{Stream}
@@ -12,7 +12,7 @@ use Rattle.resource_spec.specs.Component.{Loaded}
 use Rattle.sidecar_core.specs.Did.{CellsAt, Does, Kinds, SeatsAt, ShowsAt}
 use Rattle.sidecar_core.specs.Delivery.{Counted}
 use Rattle.sidecar_core.specs.Sites.{pubsubs_of}
-use Rattle.sidecar_cli.specs.Note.{IsNoted}
+use Rattle.sidecar_cli.specs.Note.{AreNoted}
 
 -- the line of a broker: how many deliveries are owed, done, dropped and dead-lettered
 abbrev pub counts_line : List ℕ → LedgerReply → List ℕ
@@ -36,15 +36,14 @@ pub record IsCountedOf {O : Type 0} (kinds : Kinds O) (cells : CellsAt O) (name 
   pub text_is : text ≡ line_told name result
   pub spent_is : spent ≡ spent_told result
 
--- brokers whose ledgers stand from this place on, one after the other; the first count of an exhausted cell is what is spent
-pub data AreCountedOf {O : Type 0} (kinds : Kinds O) (cells : CellsAt O) : ℕ → List Loaded → SeatsAt O → List ℕ → Option ℕ → SeatsAt O → Type 0 where
+-- brokers whose ledgers stand from this place on, one after the other, each with a text; the first count of an exhausted cell is what is spent
+pub data AreCountedOf {O : Type 0} (kinds : Kinds O) (cells : CellsAt O) : ℕ → List Loaded → SeatsAt O → List (List ℕ) → Option ℕ → SeatsAt O → Type 0 where
   none : (place : ℕ) (seats : SeatsAt O) → AreCountedOf kinds cells place [] seats [] None seats
-  more : (place : ℕ) (c : Loaded) (cs : List Loaded) (seats between seats' : SeatsAt O) (text rest : List ℕ) (spent later : Option ℕ) → IsCountedOf kinds cells c.name place seats text spent between → AreCountedOf kinds cells (suc place) cs between rest later seats'
-      → AreCountedOf kinds cells place (c ∷ cs) seats (text ++ rest) (option_or spent later) seats'
+  more : (place : ℕ) (c : Loaded) (cs : List Loaded) (seats between seats' : SeatsAt O) (text : List ℕ) (texts : List (List ℕ)) (spent later : Option ℕ) → IsCountedOf kinds cells c.name place seats text spent between → AreCountedOf kinds cells (suc place) cs between texts later seats'
+      → AreCountedOf kinds cells place (c ∷ cs) seats (text ∷ texts) (option_or spent later) seats'
 
--- all brokers were counted, in order, and the note got their lines, unless it failed
+-- all brokers were counted, in order, and the text of each was written to the note
 pub record IsTold {O : Type 0} (kinds : Kinds O) (cells : CellsAt O) (components : List Loaded) (seats seats' : SeatsAt O) (note note' : SinkAt) (spent : Option ℕ) : Type 0 where
-  pub text : List ℕ
-  pub counted : AreCountedOf kinds cells 0 (pubsubs_of components) seats text spent seats'
-  pub noted : IsNoted note note' text
-  pub no_fewer : note.faults ≤ note'.faults
+  pub texts : List (List ℕ)
+  pub counted : AreCountedOf kinds cells 0 (pubsubs_of components) seats texts spent seats'
+  pub noted : AreNoted note note' texts

@@ -1,9 +1,13 @@
+pub mod Causes
 pub mod Check
 pub mod Configured
 pub mod Counting
+pub mod Journals
+pub mod Lines
 pub mod Note
 pub mod Play
 pub mod Run
 pub mod Serve
+pub mod ServeCauses
 pub mod Status
 pub mod World

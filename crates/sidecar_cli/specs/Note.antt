@@ -1,9 +1,13 @@
 -- What the note gets.
-use Rattle.std.specs.Prelude.{◌≡◌, ◌⊎◌, ℕ, List}
-use Rattle.side_world.specs.Faults.{Rose}
-use Rattle.side_world.specs.Told.{Told}
-use Rattle.conn_serve.specs.Ends.{SinkAt}
+use Rattle.std.specs.Prelude.{◌≡◌, ◌≤◌, ◌⊎◌, ℕ, List, [], ◌∷◌}
+use Rattle.conn_serve.specs.Ends.{Cut, Sent, SinkAt}
 
--- a text was written, unless the note failed
-abbrev pub IsNoted : SinkAt → SinkAt → List ℕ → Type 0
-IsNoted note note' text = (Told note.contents note'.contents text × (note'.faults ≡ note.faults)) ⊎ Rose note.faults note'.faults
+-- a text was written whole, or the note failed and got a front of the text; its count of faults doesn't fall
+pub record IsNoted (note note' : SinkAt) (text : List ℕ) : Type 0 where
+  pub went : Sent text note note' ⊎ Cut text note note'
+  pub no_fewer : note.faults ≤ note'.faults
+
+-- texts were written one after the other
+abbrev pub AreNoted : SinkAt → SinkAt → List (List ℕ) → Type 0
+AreNoted note note' [] = note' ≡ note
+AreNoted note note' (text ∷ texts) = (between : SinkAt) × IsNoted note between text × AreNoted between note' texts

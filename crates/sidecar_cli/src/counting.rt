@@ -1,8 +1,6 @@
 ghost use Rattle.std.specs.Prelude.{◌≡◌, ◌≤◌, ◌<◌, ℕ, List, length, OnOk, OnErr};
-ghost use Rattle.conn_serve.specs.Ends.{sink_at};
+ghost use Rattle.conn_serve.specs.Ends.{Cut, Sent, sink_at};
 ghost use Rattle.ledger_core.specs.declared.reply.LedgerReply.TheVariants as says;
-ghost use Rattle.side_world.specs.Faults.{Rose};
-ghost use Rattle.side_world.specs.Told.{Told};
 ghost use Rattle.std.specs.Prelude.{◌++◌, decimal};
 ghost use Rattle.sidecar_core.specs.Did.{IsPassOf};
 ghost use Rattle.sidecar_core.specs.Pass.{cells_of, seats_of};
@@ -10,12 +8,13 @@ ghost use Rattle.sidecar_core.specs.Sites.{is_pubsub};
 ghost use Rattle.sidecar_cli.specs.Counting.{counts_line, IsCountedOf, IsTold};
 ghost use Rattle.sidecar_cli.specs.Note.{IsNoted};
 
+use crate::noting::part;
 use itoa::Buffer;
 use keeper_core::Keeper;
 use ledger_core::LedgerReply;
 use resource_spec::ComponentKind;
 use side_base::Text;
-use side_world::{Failed, Sink, send};
+use side_world::{Failed, Sink};
 use sidecar_core::{ObjectKinds, Pass, Shared};
 use state_core::Store;
 use std::sync::Wait;
@@ -67,8 +66,7 @@ fn tell_ledger<K: Keeper, E: Sink, W: Wait>(
 ) -> Option<u64>
     requires pass { IsPassOf (cells_of shared.now.objects) (seats_of pass.old) }
     requires place { place < length shared.now.objects.ledgers.items }
-    ensures told { (text : List ℕ) × IsCountedOf ⟦<Store<K> as ObjectKinds>⟧.kinds (cells_of shared.now.objects) name.now place (seats_of pass.old) text result (seats_of pass.new) × IsNoted (sink_at E.Sink note.old) (sink_at E.Sink note.new) text }
-    ensures no_fewer { E.faults note.old ≤ E.faults note.new }
+    ensures { (text : List ℕ) × IsCountedOf ⟦<Store<K> as ObjectKinds>⟧.kinds (cells_of shared.now.objects) name.now place (seats_of pass.old) text result (seats_of pass.new) × IsNoted (sink_at E.Sink note.old) (sink_at E.Sink note.new) text }
 {
     match shared.counts(rt, place, pass) {
         Ok(reply) => {
@@ -81,8 +79,7 @@ fn tell_ledger<K: Keeper, E: Sink, W: Wait>(
 
 /// Writes the line of a broker whose ledger answered so.
 fn tell_counts<E: Sink>(name: &Text, reply: &LedgerReply, note: &mut E)
-    ensures noted { IsNoted (sink_at E.Sink note.old) (sink_at E.Sink note.new) (counts_line name.now reply.now) }
-    ensures no_fewer { E.faults note.old ≤ E.faults note.new }
+    ensures { IsNoted (sink_at E.Sink note.old) (sink_at E.Sink note.new) (counts_line name.now reply.now) }
 {
     if let LedgerReply::Counts {
         owed,
@@ -95,7 +92,7 @@ fn tell_counts<E: Sink>(name: &Text, reply: &LedgerReply, note: &mut E)
     }
 }
 
-/// Writes the line of a broker.
+/// Writes the line of a broker, up to where the note fails.
 fn line<E: Sink>(
     name: &Text,
     owed: u128,
@@ -104,27 +101,25 @@ fn line<E: Sink>(
     dead: u128,
     note: &mut E,
 ) -> Result<(), Failed>
-    ensures all { OnOk result (Told (E.contents note.old) (E.contents note.new) (counts_line name.now (says.Counts owed done dropped dead))) }
-    ensures no_fault { OnOk result (E.faults note.new ≡ E.faults note.old) }
-    ensures failed { OnErr result (Rose (E.faults note.old) (E.faults note.new)) }
+    ensures sent { OnOk result (Sent (counts_line name.now (says.Counts owed done dropped dead)) (sink_at E.Sink note.old) (sink_at E.Sink note.new)) }
+    ensures cut { OnErr result (Cut (counts_line name.now (says.Counts owed done dropped dead)) (sink_at E.Sink note.old) (sink_at E.Sink note.new)) }
     ensures no_fewer { E.faults note.old ≤ E.faults note.new }
 {
-    send(note, b"pubsub ")?;
-    send(note, name.bytes())?;
+    part(b"pubsub ", note)?;
+    part(name.bytes(), note)?;
     number(b" owed ", owed, note)?;
     number(b" done ", done, note)?;
     number(b" dropped ", dropped, note)?;
     number(b" dead ", dead, note)?;
-    send(note, b"\n")
+    part(b"\n", note)
 }
 
-/// Writes a word and a number.
+/// Writes a word and a number, up to where the note fails.
 fn number<E: Sink>(word: &[u8], number: u128, note: &mut E) -> Result<(), Failed>
-    ensures all { OnOk result (Told (E.contents note.old) (E.contents note.new) (word.now ++ decimal number)) }
-    ensures no_fault { OnOk result (E.faults note.new ≡ E.faults note.old) }
-    ensures failed { OnErr result (Rose (E.faults note.old) (E.faults note.new)) }
+    ensures sent { OnOk result (Sent (word.now ++ decimal number) (sink_at E.Sink note.old) (sink_at E.Sink note.new)) }
+    ensures cut { OnErr result (Cut (word.now ++ decimal number) (sink_at E.Sink note.old) (sink_at E.Sink note.new)) }
     ensures no_fewer { E.faults note.old ≤ E.faults note.new }
 {
-    send(note, word)?;
-    send(note, Buffer::new().format(number).as_bytes())
+    part(word, note)?;
+    part(Buffer::new().format(number).as_bytes(), note)
 }

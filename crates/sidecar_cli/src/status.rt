@@ -1,15 +1,14 @@
-ghost use Rattle.std.specs.Prelude.{◌≡◌, ◌≤◌, ◌++◌, ◌∷◌, [], OnOk, OnErr, codes};
-ghost use Rattle.conn_serve.specs.Ends.{sink_at};
-ghost use Rattle.side_world.specs.Faults.{Rose};
-ghost use Rattle.side_world.specs.Told.{Told};
-ghost use Rattle.sidecar_cli.specs.Status.{code_of, name_of, text_of, spent_in, status_after, status_of};
+ghost use Rattle.std.specs.Prelude.{◌≡◌, ◌≤◌, OnOk, OnErr};
+ghost use Rattle.conn_serve.specs.Ends.{Cut, Sent, sink_at};
+ghost use Rattle.sidecar_cli.specs.Status.{code_of, line_of, name_of, text_of, spent_in, status_after, status_of};
 ghost use Rattle.sidecar_cli.specs.Note.{IsNoted};
 
+use crate::noting::part;
 use conn_serve::Ended;
 use http_frames::FrameErr;
 use itoa::Buffer;
 use side_base::Blob;
-use side_world::{Failed, Sink, send};
+use side_world::{Failed, Sink};
 
 /// Why the input of a run on standard input is bad.
 #[derive(Clone, Copy, Debug, PartialEq, Eq)]
@@ -74,8 +73,8 @@ impl Status {
     pub fn tell<E: Sink>(&self, note: &mut E)
         ensures { IsNoted (sink_at E.Sink note.old) (sink_at E.Sink note.new) (text_of self.now) }
     {
-        let _ = match self {
-            Status::Ok => Ok(()),
+        match self {
+            Status::Ok => {}
             Status::BadInput(Input::Cut) => line(note, b"input: ", b"cut"),
             Status::BadInput(Input::Refused(why)) => line(note, b"input: ", why.name().as_bytes()),
             Status::Usage => line(note, b"", b"usage"),
@@ -88,7 +87,7 @@ impl Status {
                 b"spent ",
                 Buffer::new().format(*count).as_bytes(),
             ),
-        };
+        }
     }
 }
 
@@ -106,15 +105,22 @@ fn name_of(device: Device) -> &'static [u8]
     }
 }
 
-/// Writes a line of two parts.
-fn line<E: Sink>(note: &mut E, front: &[u8], rest: &[u8]) -> Result<(), Failed>
-    ensures all { OnOk result (Told (E.contents note.old) (E.contents note.new) (front.now ++ (rest.now ++ 10 ∷ []))) }
-    ensures no_fault { OnOk result (E.faults note.new ≡ E.faults note.old) }
-    ensures failed { OnErr result (Rose (E.faults note.old) (E.faults note.new)) }
+/// Writes a line of two parts. Faults of the note change nothing.
+fn line<E: Sink>(note: &mut E, front: &[u8], rest: &[u8])
+    ensures { IsNoted (sink_at E.Sink note.old) (sink_at E.Sink note.new) (line_of front.now rest.now) }
 {
-    send(note, front)?;
-    send(note, rest)?;
-    send(note, b"\n")
+    let _ = parts(front, rest, note);
+}
+
+/// Writes a line of two parts, up to where the note fails.
+fn parts<E: Sink>(front: &[u8], rest: &[u8], note: &mut E) -> Result<(), Failed>
+    ensures sent { OnOk result (Sent (line_of front.now rest.now) (sink_at E.Sink note.old) (sink_at E.Sink note.new)) }
+    ensures cut { OnErr result (Cut (line_of front.now rest.now) (sink_at E.Sink note.old) (sink_at E.Sink note.new)) }
+    ensures no_fewer { E.faults note.old ≤ E.faults note.new }
+{
+    part(front, note)?;
+    part(rest, note)?;
+    part(b"\n", note)
 }
 
 /// How a run ended whose one connection ended so.

@@ -39,7 +39,7 @@ loop-at-preserved g c =
       | then-is_pubsub w ↦ record {
         so_far = so_far_by _ _ w.place-is (ap seats_of w.pass-is) (ap (sink_at g.E.Sink) w.note-is) (w.spent-is ∙ w.or-spent.ensures)
             (one_counted _ (cells_of c.args.shared.now.objects) components c.loop-at.at c.at-component.result.now low c.at-component.ensures c.loop-at.place _ _ _ _ _ _ _ _ _ _ w.name.ensures
-            (sym (ap is_pubsub c.kind.ensures.kind) ∙ sym c.is_pubsub.ensures ∙ w.if-is_pubsub.true) so_far w.tell_ledger.ensures.told.1 w.tell_ledger.ensures.told.2 w.tell_ledger.ensures.no_fewer);
+            (sym (ap is_pubsub c.kind.ensures.kind) ∙ sym c.is_pubsub.ensures ∙ w.if-is_pubsub.true) so_far w.tell_ledger.ensures.1 w.tell_ledger.ensures.2);
       }
       | else-is_pubsub w ↦ record {
         so_far = so_far_by _ _ w.place-is (ap seats_of w.pass-is) (ap (sink_at g.E.Sink) w.note-is) w.spent-is
