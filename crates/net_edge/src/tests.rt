@@ -58,12 +58,33 @@ fn a_file_is_a_disk(rt: HostRuntime) -> Result<(), Fail> {
     disk.write_at(0, b"journal")?;
     disk.write_at(4, b"eying")?;
     disk.sync()?;
+    assert!(rt; HostDisk::open(&rt, path).is_err());
+    drop(disk);
     let mut found = HostDisk::open(&rt, path)?;
     assert_eq!(rt; found.len()?, 9);
     let mut piece = [0; 5];
     found.read_at(3, &mut piece)?;
     assert_eq!(rt; piece, *b"reyin");
+    found.lose();
+    assert_eq!(rt; found.len(), Err(Failed));
+    assert_eq!(rt; found.read_at(3, &mut piece), Err(Failed));
+    assert_eq!(rt; found.write_at(0, b"j"), Err(Failed));
+    assert_eq!(rt; found.sync(), Err(Failed));
+    drop(found);
+    assert_eq!(rt; HostDisk::open(&rt, path)?.len()?, 9);
     fs::remove_file(&rt, path)?;
+    Ok(())
+}
+
+#[test]
+fn a_disk_is_a_regular_file(rt: HostRuntime) -> Result<(), Fail> {
+    let folder = "a_disk_is_a_regular_file";
+    fs::create_dir(&rt, folder)?;
+    assert!(rt; HostDisk::open(&rt, folder).is_err());
+    assert!(rt; HostDisk::open(&rt, "/dev/null").is_err());
+    let path = "a_disk_is_a_regular_file/disk";
+    assert_eq!(rt; HostDisk::open(&rt, path)?.len()?, 0);
+    fs::remove_dir_all(&rt, folder)?;
     Ok(())
 }
 
