@@ -48,3 +48,8 @@ pub returns-in-Refused-clause-turn : goal.returns-in-Refused-clause-turn
 returns-in-Refused-clause-turn c =
     let step = rw c.in-Refused.is at c.requires.step in
     (step.0, quiet_none _ false step.1)
+
+pub returns-in-Need-clause-left : goal.returns-in-Need-clause-left
+returns-in-Need-clause-left c =
+    let step = rw c.in-Need.is at c.requires.step in
+    ((refl, step.3), omega (arith, step.4))
