@@ -5,7 +5,7 @@ use Rattle.std.proofs.lemmas.List.{drop_at}
 use Rattle.std.proofs.lemmas.List.Elements.{All-nil, All-cons, All-head}
 use Rattle.httparse.specs.Grammar.{ChunkLine, print_chunk_line, chunk_size, IsField, lf, print_section}
 use Rattle.httparse.proofs.ChunkLemmas.{chunk_line_unique}
-use Rattle.http_frames.specs.HeadRules.{BODY_LIMIT}
+use Rattle.http_frames.specs.HeadRules.{HEAD_LIMIT, BODY_LIMIT}
 use Rattle.http_frames.specs.Chunked.{Chunk, print_chunk, IsChunk, IsLine, Ending, print_ending, IsEnding, ReadsChunked, NeverChunked}
 use Rattle.http_frames.specs.ChunkReading.{ReadsLine, HasNoLine, NeverHasLine, MayBecomeLine, IsLineOf, HasNoTrailers, NeverHasTrailers, MayBecomeTrailers, AreTrailersOf}
 use Rattle.http_frames.specs.ChunkSteps.{ReadsData, HasNoData, IsStuck, MayEnd, IsEndAt}
@@ -157,6 +157,11 @@ end_partial text len is (more, fields, last, reads) = record {
         ∙ sym (append_assoc (print_chunk_line is.line) (print_section fields last) []);
   };
 }
+
+-- a line, and trailers that are not whole
+pub last_short : (text : List ℕ) (len : ℕ) (is : IsLineOf text len 0) → length is.after < HEAD_LIMIT → length text < HEAD_LIMIT + HEAD_LIMIT
+last_short text len is few =
+    omega (arith, few, ap length is.reads.1, length-append (print_chunk_line is.line) is.after, is.reads.0.short)
 
 -- the text with more begins with the line
 with_more : (text : List ℕ) (len size : ℕ) (is : IsLineOf text len size) (more : List ℕ) → text ++ more ≡ print_chunk_line is.line ++ (is.after ++ more)

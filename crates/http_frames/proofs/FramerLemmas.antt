@@ -1,5 +1,5 @@
 -- What a framer's calls do to what it holds.
-use Rattle.std.proofs.Common.{◌≡◌, ℕ, ◌<◌, ◌≤◌, Bool, true, false, List, [], ◌++◌, length, drop, Option, Some, None, Result, Ok, Err, ◌⊎◌, inl, inr, refl, sym, ap, ◌∙◌, subst, arith, length-append, length-drop, cond}
+use Rattle.std.proofs.Common.{◌≡◌, ℕ, ◌+◌, ◌<◌, ◌≤◌, Bool, true, false, List, [], ◌++◌, length, drop, Option, Some, None, Result, Ok, Err, ◌⊎◌, inl, inr, refl, sym, ap, ◌∙◌, subst, arith, length-append, length-drop, cond}
 use Rattle.std.proofs.lemmas.List.{drop_all}
 use Rattle.std.specs.Prelude.{OnOk, OnErr}
 use Rattle.std.specs.Result.{is_ok}
@@ -14,12 +14,13 @@ use Rattle.http_frames.specs.declared.framer.Stage.TheVariants as stage
 use Rattle.http_frames.specs.declared.turn.Turn.{Turn}
 use Rattle.http_frames.specs.declared.turn.Turn.TheVariants as turn
 use Rattle.http_frames.specs.declared.progress.Content.{Content}
-use Rattle.http_frames.specs.Framing.{State, Kept, Stands, Answers, waiting, ended, grown, fed, IsRefusal, IsNext}
+use Rattle.http_frames.specs.Framing.{State, Kept, Stands, Answers, waiting, ended, grown, fed, held, HELD_LIMIT, IsRefusal, IsNext}
+use Rattle.http_frames.specs.HeadRules.{HEAD_LIMIT}
 use Rattle.http_frames.specs.Framer.{kept_at, IsStage}
 use Rattle.http_frames.specs.Lines.{beginning}
 use Rattle.http_frames.specs.declared.lines.Place.{Place}
 use Rattle.http_frames.specs.Progress.{HoldsContent}
-use Rattle.http_frames.specs.Turns.{IsOpen, Holds, IsTurn, TakesTurn}
+use Rattle.http_frames.specs.Turns.{IsOpen, Holds, IsTurn, TakesTurn, Leaves}
 use Rattle.http_frames.proofs.PlaceLemmas.{place_more}
 use Rattle.http_frames.proofs.TurnLemmas.{grown_content}
 
@@ -67,6 +68,7 @@ gives_request state rest rest' continued old next request end is took head =
         after = refl;
       };
       stands = stands_so (drop end rest') (drop end rest') false next (let P : Stage → Type 0 = λ s. Holds (drop end rest') (drop end rest') s in subst P (sym head) refl);
+      room = tt;
     })
     (λ error was same. let both = ap (λ (x : Stage × Result Turn AllocError). x.1) same in absurd (cc))
 
@@ -87,18 +89,28 @@ gives_continue state rest rest' continued old next is took =
         told = refl;
       };
       stands = stands_so state.pending rest' true next turned.2;
+      room = tt;
     })
     (λ error was same. let both = ap (λ (x : Stage × Result Turn AllocError). x.1) same in absurd (cc))
 
+-- no more is held than content and what is not read of it
+room_at : (rest : List ℕ) (continued : Bool) (next : Stage) → IsStage rest continued next → length rest < HEAD_LIMIT + HEAD_LIMIT
+    → held (kept_at rest continued next) < HELD_LIMIT
+room_at rest continued (stage.Head place) is few = omega (arith, few)
+room_at rest continued (stage.Content content) is few = omega (arith, few, is.bounded)
+room_at rest continued (stage.Refused error) is few = omega arith
+
 pub gives_need : (state : State) (rest rest' : List ℕ) (continued : Bool) (old next : Stage) → Stands state (kept_at rest continued old)
-    → TakesTurn state.pending rest rest' continued old (next, Ok turn.Need) → Answers state (Ok step.Need) (kept_at rest' continued next)
-gives_need state rest rest' continued old next is took =
+    → TakesTurn state.pending rest rest' continued old (next, Ok turn.Need) → Leaves rest' continued (next, Ok turn.Need)
+    → Answers state (Ok step.Need) (kept_at rest' continued next)
+gives_need state rest rest' continued old next is took left =
     let K : Kept = kept_at rest' continued next in
     gives (λ s. Answers s (Ok step.Need) K) state rest rest' continued old (next, Ok turn.Need) is took
     (λ turned. record {
       new = waiting state.pending continued;
       next = record { waits = refl; none = turned.0; accepted = turned.1; quiet = turned.2; same = refl };
       stands = stands_so state.pending rest' continued next turned.3;
+      room = room_at rest' continued next left.0 left.1;
     })
     (λ error was same. let both = ap (λ (x : Stage × Result Turn AllocError). x.1) same in absurd (cc))
 
@@ -108,7 +120,7 @@ pub gives_nothing : (state : State) (rest rest' : List ℕ) (continued : Bool) (
 gives_nothing state rest rest' continued old next error is took =
     let K : Kept = kept_at rest' continued next in
     gives (λ s. Answers s (Err NoMemory) K) state rest rest' continued old (next, Err error) is took
-    (λ turned. record { new = waiting state.pending continued; next = refl; stands = stands_so state.pending rest' continued next turned })
+    (λ turned. record { new = waiting state.pending continued; next = refl; stands = stands_so state.pending rest' continued next turned; room = tt })
     (λ e was same. let both = ap (λ (x : Stage × Result Turn AllocError). x.1) same in absurd (cc))
 
 -- a refusal, as `next` gives it
@@ -138,10 +150,11 @@ gives_refusal state rest rest' others continued flag old next e is took head =
       new = ended e;
       next = gives_error e (waiting state.pending continued) (ended e) refl (inr (record { waits = refl; refused = turned.0; quiet = turned.1 }));
       stands = stands;
+      room = tt;
     })
     (λ error was same.
     let again : e ≡ error = let both = ap (λ (x : Stage × Result Turn AllocError). x.1) same in cc in
-    record { new = ended e; next = gives_error e (ended error) (ended e) refl (inl (ap ended (sym again))); stands = stands })
+    record { new = ended e; next = gives_error e (ended error) (ended e) refl (inl (ap ended (sym again))); stands = stands; room = tt })
 
 -- ---- the stage is held as the bytes go on
 
@@ -193,12 +206,42 @@ fed_err (Err e) bytes old piece continued at kept was same = λ state is.
     let P : List ℕ → Type 0 = λ t. Stands state (kept_at t continued at) in
     subst P (sym same) (subst V (sym was) is)
 
+-- no more is held then than was, and the piece
+pub fed_room : {T : Type 0} (result : Result T AllocError) (bytes old piece : List ℕ) (continued : Bool) (at : Stage) (kept : Kept)
+    → kept_at old continued at ≡ kept → bytes ≡ cond (is_ok result) (old ++ piece) old → held (kept_at bytes continued at) ≤ held kept + length piece
+fed_room result bytes old piece continued at kept was same =
+    let P : Kept → Type 0 = λ k. held (kept_at bytes continued at) ≤ held k + length piece in
+    subst P was (at_most at (longest (is_ok result) same))
+  where
+    longest : (ok : Bool) → bytes ≡ cond ok (old ++ piece) old → length bytes ≤ length old + length piece
+    longest true e = omega (arith, ap length e, length-append old piece)
+    longest false e = omega (arith, ap length e)
+
+    at_most : (s : Stage) → length bytes ≤ length old + length piece → held (kept_at bytes continued s) ≤ held (kept_at old continued s) + length piece
+    at_most (stage.Head place) few = omega (arith, few)
+    at_most (stage.Content content) few = omega (arith, few)
+    at_most (stage.Refused error) few = omega (arith, few)
+
 pub grown_bytes : (bytes old piece : List ℕ) (continued : Bool) (old_stage : Stage) (ok : Bool) → IsStage old continued old_stage
     → bytes ≡ cond ok (old ++ piece) old → IsStage bytes continued old_stage
 grown_bytes bytes old piece continued old_stage true is same =
     let P : List ℕ → Type 0 = λ t. IsStage t continued old_stage in subst P (sym same) (grown_stage old piece continued old_stage is)
 grown_bytes bytes old piece continued old_stage false is same =
     let P : List ℕ → Type 0 = λ t. IsStage t continued old_stage in subst P (sym same) is
+
+-- ---- what is held
+
+pub held_head : (kept : Kept) (rest : List ℕ) (continued : Bool) (old : Stage) (place : Place) → old ≡ stage.Head place → kept_at rest continued old ≡ kept → length rest ≡ held kept
+held_head kept rest continued old place is was =
+    let P : Stage → Type 0 = λ s. kept_at rest continued s ≡ kept in
+    let same : length rest + 0 ≡ held kept = ap held (subst P is was) in omega (arith, same)
+
+pub held_content : (kept : Kept) (rest : List ℕ) (continued : Bool) (old : Stage) (content : Content) → old ≡ stage.Content content → kept_at rest continued old ≡ kept
+    → length rest + length content.body.bytes ≡ held kept
+held_content kept rest continued old content is was = let P : Stage → Type 0 = λ s. kept_at rest continued s ≡ kept in ap held (subst P is was)
+
+pub held_refused : (kept : Kept) (rest : List ℕ) (continued : Bool) (old : Stage) (error : FrameErr) → old ≡ stage.Refused error → kept_at rest continued old ≡ kept → 0 ≡ held kept
+held_refused kept rest continued old error is was = let P : Stage → Type 0 = λ s. kept_at rest continued s ≡ kept in ap held (subst P is was)
 
 -- ---- between requests
 

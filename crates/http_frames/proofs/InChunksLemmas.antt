@@ -3,6 +3,7 @@ use Rattle.std.proofs.Common.{◌≡◌, ℕ, ◌+◌, ◌-◌, ◌<◌, ◌≤�
 use Rattle.std.proofs.lemmas.List.{drop_at, flat_map_more, nil_from_length}
 use Rattle.std.proofs.lemmas.List.Elements.{All-nil, All-cons, All-append}
 use Rattle.httparse.specs.Grammar.{ChunkLine, IsChunkLine, print_chunk_line, chunk_size}
+use Rattle.http_frames.specs.HeadRules.{HEAD_LIMIT}
 use Rattle.http_frames.specs.Chunked.{Chunk, print_chunk, IsChunk, print_ending, joined, NeverChunked}
 use Rattle.http_frames.specs.ChunkReading.{IsLineOf}
 use Rattle.http_frames.specs.ChunkSteps.{HasNoData, IsDataRead, IsStuck, MayEnd, IsChunkAt, IsEndAt, IsOverflowAt}
@@ -163,6 +164,11 @@ part_partial all rest content left was (none, more, bytes, reads) = (
 pub part_left : (all rest content : List ℕ) (left : ℕ) → length rest ≡ 0 → 0 < left → IsWithinChunk all rest content left → IsCalm all × MayEnd all
 part_left all rest content left none some was =
     part_partial all rest content left was (short_data (was.part ++ rest) (length was.part + left) (omega (arith, length-append was.part rest, none, some)))
+
+-- a part of a line end is short
+pub end_short : (rest : List ℕ) → IsDataRead rest 0 kinds.Partial → length rest < HEAD_LIMIT + HEAD_LIMIT
+end_short rest (none, more, bytes, reads) =
+    omega (arith, ap length reads.whole, length-append rest more, length-append bytes (13 ∷ 10 ∷ []), reads.counts)
 
 -- what stands where its line end is due
 at_end : (part rest : List ℕ) (read : DataRead) → IsDataRead rest 0 read → IsDataRead (part ++ rest) (length part + 0) read

@@ -2,7 +2,7 @@
 use Rattle.std.specs.Prelude.{◌≡◌, ℕ, ◌+◌, ◌<◌, ◌≤◌, List, [], ◌++◌, length, take}
 use Rattle.httparse.specs.Ascii.{crlf_bytes}
 use Rattle.httparse.specs.Grammar.{ChunkLine, chunk_size}
-use Rattle.http_frames.specs.HeadRules.{BODY_LIMIT}
+use Rattle.http_frames.specs.HeadRules.{HEAD_LIMIT, BODY_LIMIT}
 use Rattle.http_frames.specs.Chunked.{Chunk, print_chunk, IsChunk, Ending, print_ending, IsEnding, ReadsChunked, NeverChunked}
 use Rattle.http_frames.specs.ChunkReading.{ReadsLine, IsLineOf}
 use Rattle.http_frames.specs.declared.chunks.DataRead.{DataRead}
@@ -60,6 +60,6 @@ pub record IsOverflowAt (text : List ℕ) (sum : ℕ) : Type 0 where
 abbrev pub IsChunkStep : List ℕ → ℕ → ChunkStep → Type 0
 IsChunkStep text sum (step.Chunk len size) = IsChunkAt text sum len size
 IsChunkStep text sum (step.End len) = IsEndAt text len
-IsChunkStep text sum step.Need = IsStuck text sum × MayEnd text
+IsChunkStep text sum step.Need = IsStuck text sum × MayEnd text × (length text < HEAD_LIMIT + HEAD_LIMIT)
 IsChunkStep text sum step.TooLong = IsOverflowAt text sum
 IsChunkStep text sum step.Bad = IsStuck text sum × NeverChunked text

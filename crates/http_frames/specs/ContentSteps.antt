@@ -2,7 +2,7 @@
 use Rattle.std.specs.Prelude.{◌≡◌, ℕ, ◌+◌, ◌-◌, ◌<◌, ◌≤◌, List, ◌++◌, length, drop, slice_range, All, Option, Some, None, unwrap_or}
 use Rattle.std.specs.List.{flat_map}
 use Rattle.httparse.specs.Grammar.{ChunkLine, print_chunk_line, chunk_size}
-use Rattle.http_frames.specs.HeadRules.{BODY_LIMIT}
+use Rattle.http_frames.specs.HeadRules.{HEAD_LIMIT, BODY_LIMIT}
 use Rattle.http_frames.specs.Chunked.{Chunk, print_chunk, IsChunk, IsLine, joined, NeverChunked, Overflows}
 use Rattle.http_frames.specs.ChunkSteps.{MayEnd}
 use Rattle.http_frames.specs.Requests.{ReadsChunks}
@@ -68,9 +68,9 @@ IsContentStep text rest content Need = IsCalm text × MayEnd text
 IsContentStep text rest content TooLong = IsFlooded text
 IsContentStep text rest content Bad = IsCalm text × NeverChunked text
 
--- the end of the content is there
+-- the end of the content is there, or at most a line and trailers are held of it
 abbrev pub EndsIn : List ℕ → ContentStep → Type 0
 EndsIn rest (Whole len) = len ≤ length rest
-EndsIn rest Need = Unit {0}
+EndsIn rest Need = length rest < HEAD_LIMIT + HEAD_LIMIT
 EndsIn rest TooLong = Unit {0}
 EndsIn rest Bad = Unit {0}

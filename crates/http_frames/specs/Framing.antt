@@ -1,5 +1,5 @@
 -- What a framer holds, and what each of its calls does.
-use Rattle.std.specs.Prelude.{◌≡◌, ℕ, ◌⊎◌, List, [], ◌++◌, Bool, true, false, Option, Some, None, Result, Ok, Err}
+use Rattle.std.specs.Prelude.{◌≡◌, ℕ, ◌+◌, ◌<◌, ◌⊎◌, List, [], ◌++◌, length, Bool, true, false, Option, Some, None, Result, Ok, Err}
 use Rattle.httparse.specs.Grammar.{RequestHead}
 use Rattle.side_base.specs.declared.message.Request.{Request}
 use Rattle.http_frames.specs.HeadRules.{fields_of, asks_to_continue, request_of}
@@ -17,6 +17,11 @@ pub record State : Type 0 where
   pub pending : List ℕ
   pub continued : Bool
   pub refused : Option FrameErr
+
+-- what came of the content
+abbrev pub content_of : Option Content → List ℕ
+content_of None = []
+content_of (Some content) = content.body.bytes
 
 -- What a framer keeps of a state: of the bytes that it has read and dropped the request that they begin, if they do; the bytes behind them, and the rest
 pub record Kept : Type 0 where
@@ -100,8 +105,24 @@ IsNext old (Ok step.Need) new = IsNeedStep old new
 IsNext old (Err NoMemory) new = new ≡ old
 IsNext old (Err error) new = (new ≡ ended error) × ((old ≡ ended error) ⊎ IsRefusal old error)
 
+-- the number of bytes that are held: those of the content that came, and those that were not read
+abbrev pub held : Kept → ℕ
+held kept = length kept.buffered + length (content_of kept.begun)
+
+-- all that is held of a request that is not whole: its content, and a chunk line and trailers
+abbrev pub HELD_LIMIT : ℕ
+HELD_LIMIT = 4227072
+
+-- where more bytes are needed no more is held
+abbrev pub HasRoom : Result Step FrameErr → Kept → Type 0
+HasRoom (Ok (step.Request request)) kept = Unit {0}
+HasRoom (Ok step.Continue) kept = Unit {0}
+HasRoom (Ok step.Need) kept = held kept < HELD_LIMIT
+HasRoom (Err error) kept = Unit {0}
+
 -- a call of `next` gives this, and the framer then stands for what the call leaves
 pub record Answers (old : State) (answer : Result Step FrameErr) (kept : Kept) : Type 0 where
   pub new : State
   pub next : IsNext old answer new
   pub stands : Stands new kept
+  pub room : HasRoom answer kept

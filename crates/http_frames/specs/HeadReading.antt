@@ -1,10 +1,10 @@
 -- What `src/head` reads, for the clauses of its private functions.
-use Rattle.std.specs.Prelude.{◌≡◌, ℕ, List, length, Option, Some, None}
+use Rattle.std.specs.Prelude.{◌≡◌, ℕ, ◌<◌, List, length, Option, Some, None}
 use Rattle.httparse.specs.Grammar.{RequestHead, print_request, ReadsRequest, HasNoRequest, NeverHasRequest, EndsInTarget, MayBecomeRequest}
 use Rattle.httparse.specs.declared.spans.HeaderSpan.{HeaderSpan}
 use Rattle.httparse.specs.Spans.{span_bytes, RequestExceeds}
 use Rattle.side_base.specs.declared.message.Field.{Field}
-use Rattle.http_frames.specs.HeadRules.{method_of, fields_of}
+use Rattle.http_frames.specs.HeadRules.{HEAD_LIMIT, method_of, fields_of}
 use Rattle.http_frames.specs.Lines.{IsPlace}
 use Rattle.http_frames.specs.declared.head.Head.{Head}
 use Rattle.http_frames.specs.Requests.{ReadsHead, IsRefused, IsAccepted}
@@ -46,4 +46,4 @@ HasNoHead text = (h : RequestHead) (after : List ℕ) → ¬ (ReadsHead text h a
 abbrev pub IsHeadStep : List ℕ → HeadStep → Type 0
 IsHeadStep text (Taken head) = (h : RequestHead) × (after : List ℕ) × ReadsHead text h after × (head ≡ head_of h)
 IsHeadStep text (Refused error) = IsRefused text error × HasNoHead text
-IsHeadStep text (Need place) = HasNoRequest text × IsAccepted text × HasNoHead text × IsPlace text place
+IsHeadStep text (Need place) = HasNoRequest text × IsAccepted text × HasNoHead text × IsPlace text place × (length text < HEAD_LIMIT)

@@ -1,7 +1,7 @@
 -- What `src/progress` holds and finds, for the clauses of private functions.
-use Rattle.std.specs.Prelude.{◌≡◌, ℕ, ◌+◌, ◌≤◌, List, ◌++◌, length, drop, Bool, true, false, Option, Some, None}
+use Rattle.std.specs.Prelude.{◌≡◌, ℕ, ◌+◌, ◌<◌, ◌≤◌, List, ◌++◌, length, drop, Bool, true, false, Option, Some, None}
 use Rattle.httparse.specs.Grammar.{RequestHead}
-use Rattle.http_frames.specs.HeadRules.{is_chunked, is_bad_length, content_length}
+use Rattle.http_frames.specs.HeadRules.{HEAD_LIMIT, is_chunked, is_bad_length, content_length}
 use Rattle.http_frames.specs.Requests.{ReadsHead, ReadsWhole, HasNoWhole, IsRefused, IsAccepted}
 use Rattle.http_frames.specs.ContentSteps.{IsInChunks, IsBounded}
 use Rattle.http_frames.specs.HeadReading.{head_of}
@@ -44,8 +44,8 @@ IsProgress pending rest content (Whole len) = IsWholeAt pending rest content len
 IsProgress pending rest content Need = HoldsContent pending rest content × HasNoWhole pending × IsAccepted pending
 IsProgress pending rest content (Refused error) = IsRefused pending error
 
--- the end of a whole request is there
+-- the end of a whole request is there, or at most a line and trailers are held of it
 abbrev pub EndsWithin : List ℕ → Progress → Type 0
 EndsWithin rest (Whole len) = len ≤ length rest
-EndsWithin rest Need = Unit {0}
+EndsWithin rest Need = length rest < HEAD_LIMIT + HEAD_LIMIT
 EndsWithin rest (Refused error) = Unit {0}

@@ -1,9 +1,9 @@
 -- What `src/turn` answers, for the clauses of private functions.
-use Rattle.std.specs.Prelude.{◌≡◌, ℕ, ◌≤◌, List, length, drop, Bool, true, false, Result, Ok, Err}
+use Rattle.std.specs.Prelude.{◌≡◌, ℕ, ◌+◌, ◌<◌, ◌≤◌, List, length, drop, Bool, true, false, Result, Ok, Err}
 use Rattle.std.specs.declared.alloc.AllocError.{AllocError}
 use Rattle.httparse.specs.Grammar.{RequestHead}
 use Rattle.side_base.specs.declared.message.Request.{Request}
-use Rattle.http_frames.specs.HeadRules.{fields_of, asks_to_continue, request_of}
+use Rattle.http_frames.specs.HeadRules.{HEAD_LIMIT, fields_of, asks_to_continue, request_of}
 use Rattle.http_frames.specs.Requests.{ReadsHead, ReadsWhole, HasNoWhole, IsRefused, IsAccepted}
 use Rattle.http_frames.specs.Framing.{IsQuiet}
 use Rattle.http_frames.specs.Progress.{HoldsContent}
@@ -53,7 +53,7 @@ IsOpen (stage.Refused error) = ⊥
 abbrev pub Leaves : List ℕ → Bool → Stage × Result Turn AllocError → Type 0
 Leaves rest continued (next, Ok (turn.Request request end)) = (next ≡ stage.Head beginning) × (end ≤ length rest)
 Leaves rest continued (next, Ok turn.Continue) = IsStage rest true next
-Leaves rest continued (next, Ok turn.Need) = IsStage rest continued next
+Leaves rest continued (next, Ok turn.Need) = IsStage rest continued next × (length rest < HEAD_LIMIT + HEAD_LIMIT)
 Leaves rest continued (next, Ok (turn.Refused error)) = next ≡ stage.Refused error
 Leaves rest continued (next, Err error) = IsStage rest continued next
 

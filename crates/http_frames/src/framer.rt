@@ -1,5 +1,5 @@
-ghost use Rattle.std.specs.Prelude.{◌≡◌, ◌≤◌, [], false, IsTrue, ◌↔◌, OnOk, OnErr, length, drop};
-ghost use Rattle.http_frames.specs.Framing.{State, Stands, Answers, waiting, fed};
+ghost use Rattle.std.specs.Prelude.{◌≡◌, ◌≤◌, ◌+◌, [], false, IsTrue, ◌↔◌, OnOk, OnErr, length, drop};
+ghost use Rattle.http_frames.specs.Framing.{State, Stands, Answers, waiting, fed, held};
 
 use crate::lines::{Place, start};
 use crate::progress::Content;
@@ -65,6 +65,7 @@ impl Framer {
     pub fn feed(&mut self, piece: &[u8]) -> Result<(), NoMemory>
         ensures ok { OnOk result ((state : State) → Stands state self.old → Stands (fed state piece.now) self.new) }
         ensures err { OnErr result ((state : State) → Stands state self.old → Stands state self.new) }
+        ensures room { held self.new ≤ held self.old + length piece.now }
     {
         if let Stage::Refused(_) = self.stage {
             return Ok(());
@@ -106,6 +107,20 @@ impl Framer {
                 self.start = 0;
                 Err(error)
             }
+        }
+    }
+
+    /// The number of bytes that are held: of a content that came in part, and of what was not read yet. Takes no memory.
+    ///
+    /// Where `next` answers `Step::Need` there are fewer than 4,227,072: the content, a chunk line and trailers.
+    pub fn held(&self) -> usize
+        ensures { result ≡ held self.now }
+    {
+        let rest = self.bytes.len() - self.start;
+        match &self.stage {
+            Stage::Head(_) => rest,
+            Stage::Content(content) => rest + content.body.bytes.len(),
+            Stage::Refused(_) => 0,
         }
     }
 

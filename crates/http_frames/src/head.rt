@@ -163,8 +163,22 @@ pub(crate) fn read_head(alloc: Global, text: &[u8]) -> Result<HeadRead, NoMemory
     requires { length text.now ≤ HEAD_LIMIT }
     ensures { IfOk result (λ read. IsHeadRead text.now read) }
 {
-    let mut headers = [EMPTY_HEADER_SPAN; FIELD_ROOM];
-    match read_within(alloc, text, &mut headers)? {
+    if text.is_empty() {
+        return read_in_room(alloc, text, &mut [EMPTY_HEADER_SPAN; 1]);
+    }
+    read_in_room(alloc, text, &mut [EMPTY_HEADER_SPAN; FIELD_ROOM])
+}
+
+/// The same, with room for some fields at hand.
+fn read_in_room(
+    alloc: Global,
+    text: &[u8],
+    headers: &mut [HeaderSpan],
+) -> Result<HeadRead, NoMemory>
+    requires { length text.now ≤ HEAD_LIMIT }
+    ensures { IfOk result (λ read. IsHeadRead text.now read) }
+{
+    match read_within(alloc, text, headers)? {
         Some(read) => Ok(read),
         None => read_long_head(alloc, text),
     }

@@ -84,7 +84,7 @@ fn take_length(text: &[u8], at: &mut usize, content: &mut Content) -> Result<Pro
 {
     match content.body.left {
         Some(left) => take_rest(text, at, content, left),
-        None => Ok(Progress::Need),
+        None => Ok(Progress::Whole { len: 0 }),
     }
 }
 

@@ -2,6 +2,7 @@ mod chunks;
 mod connection;
 mod cuts;
 mod heads;
+mod held;
 mod limits;
 mod midway;
 mod pairs;

@@ -1,4 +1,4 @@
-ghost use Rattle.std.specs.Prelude.{◌≡◌, ◌≤◌, ℕ, List, Some, None, false, if◌then◌else◌, not, ◌&&◌, length, drop};
+ghost use Rattle.std.specs.Prelude.{◌≡◌, ◌≤◌, ℕ, List, [], Some, None, IfOk, false, if◌then◌else◌, not, ◌&&◌, length, drop};
 ghost use Rattle.http_frames.specs.Framer.{IsStage};
 ghost use Rattle.http_frames.specs.Lines.{IsPlace};
 ghost use Rattle.httparse.specs.Grammar.{RequestHead};
@@ -84,30 +84,34 @@ fn turn_of(
     ensures turn { IsTurn (drop at.old bytes.now) (drop at.new bytes.now) false result }
 {
     match step {
-        HeadStep::Taken(head) => {
-            *at += head.len;
-            let body = Body {
-                bytes: Blob::new(alloc),
-                left: first_left(&head.fields),
-            };
-            content_turn(alloc, bytes, at, false, Content { head, body })
-        }
+        HeadStep::Taken(head) => match first_body(alloc, &head.fields) {
+            Ok(body) => {
+                *at += head.len;
+                content_turn(alloc, bytes, at, false, Content { head, body })
+            }
+            Err(error) => (Stage::Head(start()), Err(error)),
+        },
         HeadStep::Refused(error) => (Stage::Refused(error), Ok(Turn::Refused(error))),
         HeadStep::Need(place) => (Stage::Head(place), Ok(Turn::Need)),
     }
 }
 
-/// The bytes of content that are due behind a head; `None` where chunks are.
-fn first_left(fields: &Fields) -> Option<usize>
+/// The body behind a head, of which nothing came; it has room for content of a known length, which is due.
+fn first_body(alloc: Global, fields: &Fields) -> Result<Body, NoMemory>
     requires good { is_bad_length fields.now ≡ false }
     requires short { content_length fields.now ≤ BODY_LIMIT }
-    ensures { result ≡ (if is_chunked fields.now then None else Some (content_length fields.now)) }
+    ensures { IfOk result (λ body. (body.bytes ≡ []) × (body.left ≡ (if is_chunked fields.now then None else Some (content_length fields.now)))) }
 {
+    let mut bytes = Blob::new(alloc);
     if is_chunked(fields) {
-        None
-    } else {
-        Some(content_length(fields) as usize)
+        return Ok(Body { bytes, left: None });
     }
+    let len = content_length(fields) as usize;
+    bytes.reserve(len)?;
+    Ok(Body {
+        bytes,
+        left: Some(len),
+    })
 }
 
 /// What the bytes hold next, where a head was taken.

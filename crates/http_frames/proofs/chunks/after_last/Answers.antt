@@ -2,7 +2,7 @@ use Rattle.std.proofs.Common.{◌≡◌, ◌-◌, ◌∙◌, List, ℕ, length, 
 use Rattle.std.proofs.lemmas.List.{take_rest}
 use Rattle.http_frames.specs.ChunkReading.{HasNoTrailers, AreTrailersRead}
 use Rattle.http_frames.specs.declared.trailers.TrailersRead.{TrailersRead}
-use Rattle.http_frames.proofs.ChunkStepLemmas.{after_line_is, stuck_last, end_whole, end_partial, end_invalid}
+use Rattle.http_frames.proofs.ChunkStepLemmas.{after_line_is, stuck_last, end_whole, end_partial, end_invalid, last_short}
 use Rattle.http_frames.proofs.chunks.after_last.Goals as goal
 
 pub returns-in-Whole : goal.returns-in-Whole
@@ -21,8 +21,11 @@ returns-in-Partial c =
     take_rest c.args.rest.now c.args.len ∙ after_line_is c.args.rest.now c.args.len 0 is in
     let P : TrailersRead → List ℕ → Type 0 = λ r t. AreTrailersRead t r in
     let all = subst (P c.in_ok-read.read) same c.in_ok-read.ensures in
-    let read = rw c.in-Partial.is at all in
-    (stuck_last c.args.rest.now c.args.len c.args.sum c.requires.sum is read.1, end_partial c.args.rest.now c.args.len is read.2)
+    let read = rw c.in-Partial.is at all in (
+      stuck_last c.args.rest.now c.args.len c.args.sum c.requires.sum is read.1,
+      end_partial c.args.rest.now c.args.len is read.2,
+      last_short c.args.rest.now c.args.len is read.0,
+    )
 
 pub returns-in-Invalid : goal.returns-in-Invalid
 returns-in-Invalid c =

@@ -2,7 +2,7 @@ use Rattle.std.proofs.Common.{◌≡◌, ℕ, List, drop, subst, arith, length-d
 use Rattle.std.proofs.lemmas.List.{take_rest}
 use Rattle.http_frames.specs.ChunkSteps.{IsDataRead}
 use Rattle.http_frames.specs.declared.chunks.DataRead.{DataRead}
-use Rattle.http_frames.proofs.InChunksLemmas.{due_taken, due_kept, part_left, part_end, no_end, end_taken}
+use Rattle.http_frames.proofs.InChunksLemmas.{due_taken, due_kept, part_left, part_end, no_end, end_short, end_taken}
 use Rattle.http_frames.proofs.content.take_data.Goals as goal
 
 pub returns-then-due-gt0-clause-kept : goal.returns-then-due-gt0-clause-kept
@@ -15,6 +15,17 @@ returns-then-due-gt0-clause-step c = λ all was.
     part_left all _ c.take_due.new.body.bytes c.in_ok-due.due
     (omega (arith, taken.all c.if-due-gt0.true, length-drop c.take_due.new.at c.args.text.now)) c.if-due-gt0.true
     (due_taken all c.args.text.now c.args.at.now c.take_due.new.at c.args.body.now c.take_due.new.body c.args.left c.in_ok-due.due c.requires.left taken was)
+
+pub returns-then-due-gt0-clause-ends : goal.returns-then-due-gt0-clause-ends
+returns-then-due-gt0-clause-ends c = omega (arith, c.in_ok-due.ensures.ok.all c.if-due-gt0.true, length-drop c.take_due.new.at c.args.text.now)
+
+pub returns-in-Partial-clause-ends : goal.returns-in-Partial-clause-ends
+returns-in-Partial-clause-ends c =
+    let text = c.args.text.now in
+    let at = c.take_due.new.at in
+    let P : DataRead → List ℕ → Type 0 = λ r t. IsDataRead t 0 r in
+    let read = subst (P c.read_line_end.result) (take_rest text at) c.read_line_end.ensures in
+    end_short (drop at text) (rw c.in-Partial.is at read)
 
 pub returns-in-Whole-clause-kept : goal.returns-in-Whole-clause-kept
 returns-in-Whole-clause-kept c = λ all was.

@@ -37,6 +37,16 @@ returns-in-Need-clause-step c = λ all was.
     let found = rw c.in-Need.is at step in
     (content_calm all _ c.args.body.now.bytes chunks found.0, content_may all _ c.args.body.now.bytes chunks found.1)
 
+pub returns-in-Need-clause-ends : goal.returns-in-Need-clause-ends
+returns-in-Need-clause-ends c =
+    let text = c.args.text.now in
+    let at = c.args.at.now in
+    let P : ChunkStep → List ℕ → Type 0 = λ s t. IsChunkStep t c.len.result s in
+    let Q : ChunkStep → ℕ → Type 0 = λ s n. IsChunkStep (drop at text) n s in
+    let step = subst (Q c.in_ok-step.step) c.len.ensures (subst (P c.in_ok-step.step) (take_rest text at) c.in_ok-step.ensures) in
+    let found = rw c.in-Need.is at step in
+    found.2
+
 pub returns-in-TooLong-clause-step : goal.returns-in-TooLong-clause-step
 returns-in-TooLong-clause-step c = λ all was.
     let text = c.args.text.now in

@@ -14,7 +14,7 @@ pub returns-then-pending-lt-HEAD_LIMIT : goal.returns-then-pending-lt-HEAD_LIMIT
 returns-then-pending-lt-HEAD_LIMIT c =
     let read = rw c.in-Partial.is at c.requires.read in
     let need = judged_need c.args.pending.now c.if-pending-lt-HEAD_LIMIT.true read.0 read.1 in
-    (need.0, need.1, no_head_none c.args.pending.now read.0, c.place_after.ensures)
+    (need.0, need.1, no_head_none c.args.pending.now read.0, c.place_after.ensures, c.if-pending-lt-HEAD_LIMIT.true)
 
 pub returns-else-pending-lt-HEAD_LIMIT : goal.returns-else-pending-lt-HEAD_LIMIT
 returns-else-pending-lt-HEAD_LIMIT c =

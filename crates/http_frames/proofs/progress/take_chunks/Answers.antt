@@ -32,3 +32,6 @@ returns-in_err-step-clause-progress c = λ pending is.
     let p = err_from_is_err_and c.from_residual.result c.from_residual.ensures.1 in
     let chunks = chunks_of pending _ c.args.content.now is c.requires.chunked in
     rw p.1 (kept_content pending _ _ c.args.content.now _ is c.requires.chunked (c.read_content.ensures.kept is.after chunks))
+
+pub returns-in-Need-clause-ends : goal.returns-in-Need-clause-ends
+returns-in-Need-clause-ends c = rw c.in-Need.is at c.in_ok-step.ensures.ends

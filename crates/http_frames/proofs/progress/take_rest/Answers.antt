@@ -17,3 +17,6 @@ returns-clause-progress c = λ pending is.
     length_whole pending _ _
     (length_taken pending c.args.text.now c.args.at.now c.take_due.new.at c.args.content.now c.take_due.new.body c.args.left c.in_ok-due.due is c.requires.plain c.requires.left taken)
     c.requires.plain (taken.left_is ∙ ap (λ (n : ℕ). Some n) none)
+
+pub returns-then-due-gt0-clause-ends : goal.returns-then-due-gt0-clause-ends
+returns-then-due-gt0-clause-ends c = omega (arith, c.in_ok-due.ensures.ok.all c.if-due-gt0.true, length-drop c.take_due.new.at c.args.text.now)

@@ -28,3 +28,6 @@ returns-in-Ok-Whole-clause-turn c = λ pending is.
 pub returns-in-Ok-Whole-clause-left : goal.returns-in-Ok-Whole-clause-left
 returns-in-Ok-Whole-clause-left c =
     (ap (λ (p : Place). stage.Head p) c.start.ensures, rw c.in-Ok-Whole.field-0-is at c.in-Ok-Whole.ensures.ends)
+
+pub returns-in-Ok-Need-clause-left : goal.returns-in-Ok-Need-clause-left
+returns-in-Ok-Need-clause-left c = (c.take_content.ensures.sound, rw c.in-Ok-Need.field-0-is at c.in-Ok-Need.ensures.ends)

@@ -5,14 +5,14 @@ use Rattle.http_frames.specs.declared.progress.Content.{Content}
 use Rattle.http_frames.proofs.TurnLemmas.{quiet_none, first_content, first_bounded, head_sound, head_inside}
 use Rattle.http_frames.proofs.turn.turn_of.Goals as goal
 
-pub first_left-requires-clause-good : goal.first_left-requires-clause-good
-first_left-requires-clause-good c =
+pub first_body-requires-clause-good : goal.first_body-requires-clause-good
+first_body-requires-clause-good c =
     let step = rw c.in-Taken.is at c.requires.step in
     let sound = head_sound (drop c.args.at.now c.args.bytes.now) step.0 step.1 c.in-Taken.head step.2 step.3 in
     sound.0
 
-pub first_left-requires-clause-short : goal.first_left-requires-clause-short
-first_left-requires-clause-short c =
+pub first_body-requires-clause-short : goal.first_body-requires-clause-short
+first_body-requires-clause-short c =
     let step = rw c.in-Taken.is at c.requires.step in
     let sound = head_sound (drop c.args.at.now c.args.bytes.now) step.0 step.1 c.in-Taken.head step.2 step.3 in
     sound.1
@@ -22,22 +22,22 @@ content_turn-requires-clause-sound c =
     let step = rw c.in-Taken.is at c.requires.step in
     let sound = head_sound (drop c.args.at.now c.args.bytes.now) step.0 step.1 c.in-Taken.head step.2 step.3 in
     let fields = c.in-Taken.head.fields in
-    record { length_is = sound.0; bounded = first_bounded (is_chunked fields) (content_length fields) _ _ c.new.ensures sound.1 c.first_left.ensures }
+    record { length_is = sound.0; bounded = first_bounded (is_chunked fields) (content_length fields) _ _ c.in-Ok.ensures.0 sound.1 c.in-Ok.ensures.1 }
 
 pub content_turn-requires-clause-within : goal.content_turn-requires-clause-within
 content_turn-requires-clause-within c =
     let step = rw c.in-Taken.is at c.requires.step in
     omega (arith, head_inside (drop c.args.at.now c.args.bytes.now) step.0 step.1 c.in-Taken.head step.2 step.3, length-drop c.args.at.now c.args.bytes.now)
 
-pub returns-in-Taken-clause-turn : goal.returns-in-Taken-clause-turn
-returns-in-Taken-clause-turn c =
+pub returns-in-Ok-clause-turn : goal.returns-in-Ok-clause-turn
+returns-in-Ok-clause-turn c =
     let bytes = c.args.bytes.now in
     let at = c.args.at.now in
     let step = rw c.in-Taken.is at c.requires.step in
-    let content : Content = record { head = c.in-Taken.head; body = record { bytes = c.new.result; left = c.first_left.result } } in
+    let content : Content = record { head = c.in-Taken.head; body = c.in-Ok.body } in
     let P : List ℕ → Type 0 = λ t. HoldsContent (drop at bytes) t content in
     c.content_turn.ensures.turn (drop at bytes) (subst P (drop-drop c.in-Taken.head.len at bytes)
-    (first_content (drop at bytes) step.0 step.1 c.in-Taken.head c.new.result c.first_left.result step.2 step.3 c.new.ensures c.first_left.ensures))
+    (first_content (drop at bytes) step.0 step.1 c.in-Taken.head c.in-Ok.body.bytes c.in-Ok.body.left step.2 step.3 c.in-Ok.ensures.0 c.in-Ok.ensures.1))
 
 pub returns-in-Need-clause-turn : goal.returns-in-Need-clause-turn
 returns-in-Need-clause-turn c =
@@ -48,3 +48,8 @@ pub returns-in-Refused-clause-turn : goal.returns-in-Refused-clause-turn
 returns-in-Refused-clause-turn c =
     let step = rw c.in-Refused.is at c.requires.step in
     (step.0, quiet_none _ false step.1)
+
+pub returns-in-Need-clause-left : goal.returns-in-Need-clause-left
+returns-in-Need-clause-left c =
+    let step = rw c.in-Need.is at c.requires.step in
+    ((refl, step.3), omega (arith, step.4))

@@ -1,6 +1,6 @@
 use Rattle.std.proofs.Common.{◌≡◌, ◌∙◌, ◌++◌, List, ℕ, drop, ap, cond, arith}
 use Rattle.std.specs.Result.{is_ok}
-use Rattle.http_frames.proofs.FramerLemmas.{grown_bytes, open_of, fed_ok, fed_err}
+use Rattle.http_frames.proofs.FramerLemmas.{grown_bytes, open_of, fed_ok, fed_err, fed_room}
 use Rattle.http_frames.proofs.framer.Framer.feed.Goals as goal
 
 pub invariant_of-self : goal.invariant_of-self
@@ -23,4 +23,5 @@ returns c =
     record {
       ok = fed_ok c.extend_from_slice.result bytes old piece inside.continued inside.stage _ (open_of inside.stage c.in_default.not-Refused) c.self.view_is same;
       err = fed_err c.extend_from_slice.result bytes old piece inside.continued inside.stage _ c.self.view_is same;
+      room = fed_room c.extend_from_slice.result bytes old piece inside.continued inside.stage _ c.self.view_is same;
     }

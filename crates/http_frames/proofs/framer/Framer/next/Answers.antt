@@ -3,6 +3,7 @@ use Rattle.std.proofs.lemmas.Result.{err_from_is_err_and}
 use Rattle.std.specs.declared.alloc.AllocError.{AllocError}
 use Rattle.http_frames.specs.declared.framer.Stage.{Stage}
 use Rattle.http_frames.specs.declared.turn.Turn.{Turn}
+use Rattle.http_frames.specs.declared.turn.Turn.TheVariants as turn
 use Rattle.http_frames.specs.declared.step.Step.TheVariants as step
 use Rattle.http_frames.specs.Framing.{Kept, Stands, Answers}
 use Rattle.http_frames.specs.Framer.{kept_at}
@@ -73,7 +74,10 @@ returns-in-Need c state is =
     let Q : Stage → Type 0 = λ s. TakesTurn state.pending rest rest' inside.continued s turned in
     let R : Result Turn AllocError → Type 0 = λ r. TakesTurn state.pending rest rest' inside.continued inside.stage (turned.0, r) in
     let took = subst R (c.in_ok-request.was ∙ ap (λ (t : Turn). Ok t) c.in-Need.is) (subst Q c.replace-stage.ensures.value (subst N c.deref.ensures.value (c.take_turn-stage.ensures.turn state.pending))) in
-    gives_need state rest rest' inside.continued inside.stage turned.0 stands took
+    let L : Result Turn AllocError → Type 0 = λ r. Leaves (drop c.take_turn-stage.new.at c.deref.result.now) inside.continued (turned.0, r) in
+    let M : List ℕ → Type 0 = λ t. Leaves (drop c.take_turn-stage.new.at t) inside.continued (turned.0, Ok turn.Need) in
+    let left = subst M c.deref.ensures.value (subst L (c.in_ok-request.was ∙ ap (λ (t : Turn). Ok t) c.in-Need.is) c.take_turn-stage.ensures.left) in
+    gives_need state rest rest' inside.continued inside.stage turned.0 stands took left
 
 pub returns-in-Refused : goal.returns-in-Refused
 returns-in-Refused c state is =
