@@ -4,8 +4,7 @@ ghost use Rattle.side_world.specs.Told.{Took};
 ghost use Rattle.http_client.specs.Replies.{ahead, AreChunks, BODY_LIMIT};
 ghost use Rattle.http_client.specs.Taken.{IsLine, AreTrailers};
 
-use crate::head::HEAD_LIMIT;
-use crate::incoming::{Incoming, ReplyErr};
+use crate::incoming::{HEAD_LIMIT, Incoming, ReplyErr};
 use httparse::spans::{EMPTY_HEADER_SPAN, parse_headers};
 use httparse::{Status, parse_chunk_size};
 use side_base::Blob;
@@ -43,22 +42,16 @@ impl<S: Source> Incoming<S> {
     fn take_chunk_line(&mut self) -> Result<u64, ReplyErr>
         ensures { IfOk result (λ size. (text : List ℕ) × Took (ahead self.old.pending (S.left self.old.source)) (ahead self.new.pending (S.left self.new.source)) text × IsLine text size) }
     {
-        while self.pending.bytes().len() < HEAD_LIMIT {
+        loop {
             match parse_chunk_size(self.pending.bytes()) {
-                Ok(Status::Complete((len, size))) => {
+                Ok(Status::Complete((len, size))) if len <= HEAD_LIMIT => {
                     self.skip(len);
                     return Ok(size);
                 }
-                Ok(Status::Partial) => {
-                    let came = self.fill()?;
-                    if !came {
-                        return Err(ReplyErr::Bad);
-                    }
-                }
-                Err(_) => return Err(ReplyErr::Bad),
+                Ok(Status::Partial) => self.fill_more()?,
+                _ => return Err(ReplyErr::Bad),
             }
         }
-        Err(ReplyErr::Bad)
     }
 
     /// Takes the bytes of a chunk, of which there are so many, with the line end behind them, and appends them to `body`.
@@ -84,23 +77,17 @@ impl<S: Source> Incoming<S> {
     fn take_trailers(&mut self) -> Result<(), ReplyErr>
         ensures { OnOk result ((text : List ℕ) × Took (ahead self.old.pending (S.left self.old.source)) (ahead self.new.pending (S.left self.new.source)) text × AreTrailers text) }
     {
-        while self.pending.bytes().len() < HEAD_LIMIT {
-            let mut headers = [EMPTY_HEADER_SPAN; TRAILER_LIMIT];
+        let mut headers = [EMPTY_HEADER_SPAN; TRAILER_LIMIT];
+        loop {
             match parse_headers(self.pending.bytes(), &mut headers) {
-                Ok(Status::Complete((len, _))) => {
+                Ok(Status::Complete((len, _))) if len <= HEAD_LIMIT => {
                     self.skip(len);
                     return Ok(());
                 }
-                Ok(Status::Partial) => {
-                    let came = self.fill()?;
-                    if !came {
-                        return Err(ReplyErr::Bad);
-                    }
-                }
-                Err(_) => return Err(ReplyErr::Bad),
+                Ok(Status::Partial) => self.fill_more()?,
+                _ => return Err(ReplyErr::Bad),
             }
         }
-        Err(ReplyErr::Bad)
     }
 }
 

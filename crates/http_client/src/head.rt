@@ -5,15 +5,13 @@ ghost use Rattle.httparse.specs.Spans.{IsHeaderWithin, IsResponseWithin, IsRespo
 ghost use Rattle.http_client.specs.Replies.{ahead};
 ghost use Rattle.http_client.specs.Taken.{header_field, is_interim, IsHead, IsFinal};
 
-use crate::incoming::{Incoming, ReplyErr};
+use crate::incoming::{HEAD_LIMIT, Incoming, ReplyErr};
 use httparse::Status;
 use httparse::spans::{EMPTY_HEADER_SPAN, HeaderSpan, ResponseSpans, parse_response};
 use side_base::{Blob, Field, Fields, Sequence, Text, TextErr};
 use side_world::Source;
 use std::alloc::Global;
 
-/// The most bytes of a head.
-pub(crate) const HEAD_LIMIT: usize = 16_384;
 /// The most fields of a head.
 const FIELD_LIMIT: usize = 128;
 /// The most heads of a reply, its own and the interim ones before it.
@@ -51,19 +49,13 @@ impl<S: Source> Incoming<S> {
         ensures within { IfOk result (λ spans. IsResponseWithin self.new.pending headers.new spans) }
         ensures head { IfOk result (λ spans. IsResponseOf self.new.pending headers.new spans) }
     {
-        while self.pending.bytes().len() < HEAD_LIMIT {
+        loop {
             match parse_response(self.pending.bytes(), headers) {
-                Ok(Status::Complete(spans)) => return Ok(spans),
-                Ok(Status::Partial) => {
-                    let came = self.fill()?;
-                    if !came {
-                        return Err(ReplyErr::Bad);
-                    }
-                }
-                Err(_) => return Err(ReplyErr::Bad),
+                Ok(Status::Complete(spans)) if spans.len <= HEAD_LIMIT => return Ok(spans),
+                Ok(Status::Partial) => self.fill_more()?,
+                _ => return Err(ReplyErr::Bad),
             }
         }
-        Err(ReplyErr::Bad)
     }
 
     /// Takes the head that is there, where its status is from 200 to 599.

@@ -11,6 +11,9 @@ use std::marker::Model;
 /// The most bytes that are read at once.
 const PIECE: usize = 16_384;
 
+/// The most bytes of a head, of a chunk's line and of trailers.
+pub(crate) const HEAD_LIMIT: usize = 16_384;
+
 /// Why a reply was not read.
 #[derive(Clone, Copy, Debug, PartialEq, Eq)]
 pub enum ReplyErr {
@@ -116,6 +119,22 @@ impl<S: Source> Incoming<S> {
                 Ok(true)
             }
             Err(Failed) => Err(ReplyErr::SourceFailed),
+        }
+    }
+
+    /// Reads once more of a part that is not whole yet, and has at most `HEAD_LIMIT` bytes.
+    pub(crate) fn fill_more(&mut self) -> Result<(), ReplyErr>
+        ensures same { OnOk result (ahead self.new.pending (S.left self.new.source) ≡ ahead self.old.pending (S.left self.old.source)) }
+        ensures below { OnOk result (length self.old.pending < 16384) }
+        ensures more { OnOk result (length self.old.pending < length self.new.pending) }
+    {
+        if self.pending.bytes().len() >= HEAD_LIMIT {
+            return Err(ReplyErr::Bad);
+        }
+        if self.fill()? {
+            Ok(())
+        } else {
+            Err(ReplyErr::Bad)
         }
     }
 

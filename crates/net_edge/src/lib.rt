@@ -17,8 +17,10 @@ mod std_sink;
 mod std_source;
 mod tcp_acceptor;
 mod tcp_door;
+mod tcp_link;
 mod tcp_sink;
 mod tcp_source;
+mod timed_stream;
 mod waiting;
 
 pub use door_limits::DoorLimits;
@@ -32,6 +34,7 @@ pub use std_sink::StdSink;
 pub use std_source::StdSource;
 pub use tcp_acceptor::TcpAcceptor;
 pub use tcp_door::TcpDoor;
+pub use tcp_link::TcpLink;
 pub use tcp_sink::TcpSink;
 pub use tcp_source::TcpSource;
 

@@ -2,9 +2,9 @@ use Rattle.std.proofs.Common.{◌≡◌, length, ◌-◌}
 use Rattle.http_client.specs.Replies.{ahead}
 use Rattle.http_client.proofs.incoming.Incoming.take_chunk_line.Given as goal
 
-abbrev pub invariant-loop-self : goal.invariant-loop-self
-invariant-loop-self g l =
+abbrev pub invariant-loop-len : goal.invariant-loop-len
+invariant-loop-len g l =
     ahead l.self.pending (g.S.Source.left l.self.source) ≡ ahead l.fn.self.pending (g.S.Source.left l.fn.self.source)
 
-abbrev pub decreases-loop-self : goal.decreases-loop-self
-decreases-loop-self g l = 16384 - length l.self.pending
+abbrev pub decreases-loop-len : goal.decreases-loop-len
+decreases-loop-len g l = 16384 - length l.self.pending

@@ -1,0 +1,183 @@
+use http_client::{ReplyErr, read_reply, request_bytes};
+use side_base::{Blob, Field, Fields, LinkRequest, Method, NoMemory, Response, Sequence, Text};
+use side_world::BytesSource;
+use std::alloc::Global;
+use std::test::Fail;
+
+/// A response as a text: its status, the names of its fields, and its content.
+fn spelled(alloc: Global, response: &Response) -> Result<Text, NoMemory> {
+    let mut text = Text::from_string(format!(in alloc; "{}", response.status)?);
+    for i in 0..response.fields.len() {
+        text.push(" ")?;
+        text.push(response.fields.at(i).name.as_str())?;
+    }
+    text.push(": ")?;
+    text.push(str::from_utf8(response.body.bytes()).unwrap_or("?"))?;
+    Ok(text)
+}
+
+/// The reply that these bytes are, as a text.
+fn told(alloc: Global, bytes: &[u8], to_head: bool) -> Result<Text, ReplyErr> {
+    let source = BytesSource::new(Blob::from_bytes(alloc, bytes)?);
+    let (reply, _) = read_reply(alloc, source, to_head);
+    Ok(spelled(alloc, &reply?)?)
+}
+
+/// Whether the text is read as this reply; an empty one is for a text that is no reply.
+fn is(alloc: Global, text: &str, wanted: &str) -> bool {
+    match told(alloc, text.as_bytes(), false) {
+        Ok(found) => found.as_str() == wanted,
+        Err(error) => error == ReplyErr::Bad && wanted.is_empty(),
+    }
+}
+
+#[test]
+fn replies_are_read(rt: HostRuntime) -> Result<(), Fail> {
+    let replies = [
+        (
+            "HTTP/1.1 200 OK\r\nContent-Length: 2\r\n\r\nhi and more",
+            "200: hi",
+        ),
+        (
+            "HTTP/1.1 201 Created\r\nETag: a\r\nTransfer-Encoding: Chunked\r\nDate: b\r\n\r\n2\r\nhi\r\nB;x=y\r\n, all there\r\n0\r\nA: b\r\n\r\n",
+            "201 ETag Date: hi, all there",
+        ),
+        (
+            "HTTP/1.0 404 Not Found\r\nServer: x\r\n\r\nto the end",
+            "404 Server: to the end",
+        ),
+        (
+            "HTTP/1.1 100 Continue\r\n\r\nHTTP/1.1 103 Early Hints\r\nLink: x\r\n\r\nHTTP/1.1 200 OK\r\nContent-Length: 1\r\n\r\nx",
+            "200: x",
+        ),
+        (
+            "HTTP/1.1 204 No Content\r\nContent-Length: 2\r\n\r\nhi",
+            "204: ",
+        ),
+        (
+            "HTTP/1.1 304 Not Modified\r\nETag: a\r\nTransfer-Encoding: gzip\r\n\r\n",
+            "304 ETag: ",
+        ),
+        (
+            "HTTP/1.1 599 Own\r\nConnection: X-Hop, close\r\nKeep-Alive: a\r\nx-hop: b\r\nProxy-Connection: c\r\nTE: d\r\nTrailer: e\r\nUpgrade: f\r\nVia: g\r\nContent-Length: 0\r\n\r\n",
+            "599 Via: ",
+        ),
+    ];
+    for (text, wanted) in replies {
+        assert!(rt; is(rt.alloc(), text, wanted), "{text}");
+    }
+    Ok(())
+}
+
+#[test]
+fn what_is_no_reply_is_refused(rt: HostRuntime) -> Result<(), Fail> {
+    let texts = [
+        "",
+        "garbage\r\n\r\n",
+        "HTTP/1.1 200 OK\r\nContent-Length: 2\r\n",
+        "HTTP/1.1 200 OK\r\nContent-Length: 2\r\n\r\nh",
+        "HTTP/1.1 200 OK\r\nContent-Length: 4194305\r\n\r\n",
+        "HTTP/1.1 200 OK\r\nContent-Length: 2\r\nContent-Length: 2\r\n\r\nhi",
+        "HTTP/1.1 200 OK\r\nContent-Length: +2\r\n\r\nhi",
+        "HTTP/1.1 200 OK\r\nContent-Length: 2\r\nTransfer-Encoding: chunked\r\n\r\n0\r\n\r\n",
+        "HTTP/1.1 200 OK\r\nTransfer-Encoding: gzip, chunked\r\n\r\n0\r\n\r\n",
+        "HTTP/1.0 200 OK\r\nTransfer-Encoding: chunked\r\n\r\n0\r\n\r\n",
+        "HTTP/1.1 200 OK\r\nTransfer-Encoding: chunked\r\n\r\n2\r\nhi",
+        "HTTP/1.1 200 OK\r\nTransfer-Encoding: chunked\r\n\r\n2\r\nhixx0\r\n\r\n",
+        "HTTP/1.1 200 OK\r\nTransfer-Encoding: chunked\r\n\r\n400001\r\n",
+        "HTTP/1.1 200 OK\r\nTransfer-Encoding: chunked\r\n\r\n0\r\nA: b\r\n",
+        "HTTP/1.1 101 Switching Protocols\r\n\r\nHTTP/1.1 200 OK\r\n\r\n",
+        "HTTP/1.1 600 Unknown\r\n\r\n",
+        "HTTP/1.1 099 Unknown\r\n\r\n",
+        "HTTP/1.1 100 Continue\r\n\r\n",
+    ];
+    for text in texts {
+        assert!(rt; is(rt.alloc(), text, ""), "{text}");
+    }
+    Ok(())
+}
+
+#[test]
+fn a_reply_to_head_has_no_content(rt: HostRuntime) -> Result<(), Fail> {
+    let text = b"HTTP/1.1 200 OK\r\nContent-Length: 2\r\n\r\n";
+    let reply = told(rt.alloc(), text, true)?;
+    assert_eq!(rt; reply.as_str(), "200: ");
+    Ok(())
+}
+
+/// The length of content of so many bytes to the end of the input, as it is read.
+fn read_to_the_end(alloc: Global, len: usize) -> Result<usize, ReplyErr> {
+    let content: Vec<u8> = vec![in alloc; b'x'; len]?;
+    let mut bytes = Blob::from_bytes(alloc, b"HTTP/1.1 200 OK\r\n\r\n")?;
+    bytes.push(content.as_slice())?;
+    let (reply, _) = read_reply(alloc, BytesSource::new(bytes), false);
+    Ok(reply?.body.len())
+}
+
+#[test]
+fn content_has_at_most_4_mib(rt: HostRuntime) -> Result<(), Fail> {
+    assert_eq!(rt; read_to_the_end(rt.alloc(), 4_194_304), Ok(4_194_304));
+    assert_eq!(rt; read_to_the_end(rt.alloc(), 4_194_305), Err(ReplyErr::Bad));
+    Ok(())
+}
+
+/// Two fields, of which the link says the second itself.
+fn two_fields(alloc: Global) -> Result<Fields, NoMemory> {
+    let mut fields = Sequence::new(alloc);
+    for (name, value) in [("Accept", "*/*"), ("host", "another")] {
+        fields.push(Field {
+            name: Text::from_static(alloc, name),
+            value: Blob::from_bytes(alloc, value.as_bytes())?,
+        })?;
+    }
+    Ok(fields)
+}
+
+/// A request to this port.
+fn request_to(
+    alloc: Global,
+    port: u16,
+    method: Method,
+    target: &str,
+) -> Result<LinkRequest, NoMemory> {
+    Ok(LinkRequest {
+        host: Text::from_static(alloc, "127.0.0.1"),
+        port,
+        method,
+        target: Blob::from_bytes(alloc, target.as_bytes())?,
+        fields: two_fields(alloc)?,
+        body: Blob::new(alloc),
+    })
+}
+
+/// Whether this is sent for a request; an empty text is for nothing.
+fn sends(alloc: Global, method: Method, target: &str, wanted: &str) -> Result<bool, NoMemory> {
+    let request = request_to(alloc, 80, method, target)?;
+    match request_bytes(alloc, &request)? {
+        Some(bytes) => Ok(bytes.bytes() == wanted.as_bytes()),
+        None => Ok(wanted.is_empty()),
+    }
+}
+
+#[test]
+fn requests_are_written(rt: HostRuntime) -> Result<(), Fail> {
+    let requests = [
+        (
+            Method::Get,
+            "/do?x=1",
+            "GET /do?x=1 HTTP/1.1\r\nHost: 127.0.0.1:80\r\nAccept: */*\r\nConnection: close\r\n\r\n",
+        ),
+        (
+            Method::Put,
+            "/",
+            "PUT / HTTP/1.1\r\nHost: 127.0.0.1:80\r\nAccept: */*\r\nContent-Length: 0\r\nConnection: close\r\n\r\n",
+        ),
+        (Method::Other, "/", ""),
+        (Method::Get, "/ HTTP/1.1\r\n\r\nGET /", ""),
+        (Method::Get, "", ""),
+    ];
+    for (method, target, wanted) in requests {
+        assert!(rt; sends(rt.alloc(), method, target, wanted)?, "{target}");
+    }
+    Ok(())
+}
