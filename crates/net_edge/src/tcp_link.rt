@@ -21,7 +21,7 @@ const USUAL_LIMIT_MS: u64 = 60_000;
 /// behind it. Nothing is sent twice: where a host has many addresses, the next is tried only where no connection was made.
 ///
 /// A fault, besides those of the host, is: a method that is `Other`, or a host, target or field with a byte that it may not
-/// have, for which nothing is sent; a head of a reply with 16,384 bytes or more, or with more than 128 fields; more than 15
+/// have, for which nothing is sent; a head of a reply with more than 16,384 bytes or 128 fields; more than 15
 /// interim replies; status 101, or none from 200 to 599; lengths or codings of the content that contradict each other, or a
 /// coding other than `chunked`; content of more than 4,194,304 bytes; and an end of the input before the content's. The reply's
 /// fields are given in order, but those that speak of the connection alone.
