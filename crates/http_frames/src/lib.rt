@@ -5,7 +5,7 @@
 //!   - `head` reads the head at the front of the bytes, `lines` only what follows its whole lines, `rules` refuses what it may not say, and `target` tells where the
 //!     bytes end inside a request target.
 //!   - `progress` reads the content that came, by its length or in chunks. `content` joins chunks, of which `chunks` reads
-//!     one, `chunk_line` its line, and `trailers` what follows the last.
+//!     the next line or the end, `chunk_line` the line, and `trailers` what follows the last.
 //! - `connection` tells whether the connection ends after a request.
 //! - `response` writes a response.
 //! - `laws` has what holds of all bytes: that they are one stream in one way, that the answers of a framer are that stream however the bytes were cut, that what
