@@ -66,7 +66,7 @@ record OwnFrom {O : Type 0} (kinds : Kinds O) (cells : CellsAt O) (place : ℕ) 
 module _ {O : Type 0} (kinds : Kinds O) (cells : CellsAt O) where
   module _ (place : ℕ) (c : Loaded) (cs : List Loaded) (seats between seats' : SeatsAt O) (text : List ℕ) (texts : List (List ℕ)) (result : Result LedgerReply Exhausted) (events : List Doing) (one : OneCounted place events result) (text_is : text ≡ line_told c.name result)
       (grew : EachGrew kinds.ledger cells.ledgers seats.ledgers (λ k. flat_map (entered_at k) events) between.ledgers) (rest : OwnFrom kinds cells (suc place) cs between seats' texts) where
-    all_made : ℕ → List Step
+    abbrev all_made : ℕ → List Step
     all_made k = flat_map (entered_at k) events ++ rest.made k
 
     first_made : (at : ℕ) → at ≡ place → all_made at ≡ flat_map (entered_at place) events
