@@ -18,6 +18,3 @@ pub use target::query_of;
 
 /// The allocator had no room.
 pub use side_base::NoMemory;
-
-#[cfg(test)]
-mod tests;

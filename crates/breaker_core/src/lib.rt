@@ -10,6 +10,3 @@ mod present;
 pub use breaker::Breaker;
 pub use command::{BreakerCmd, BreakerReply};
 pub use phase::Phase;
-
-#[cfg(test)]
-mod tests;

@@ -5,8 +5,6 @@
 mod escapes;
 mod lanes;
 mod places;
-#[cfg(test)]
-mod tests;
 
 pub use escapes::escaped_len;
 pub use lanes::{BACKSLASH, FIRST_ABOVE_ASCII, FIRST_PRINTABLE, QUOTE};

@@ -13,6 +13,3 @@ pub use error::JournalErr;
 pub use formatting::format;
 pub use journal::Journal;
 pub use parsing::Bodies;
-
-#[cfg(test)]
-mod tests;

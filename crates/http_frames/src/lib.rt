@@ -27,8 +27,6 @@ mod response;
 mod rules;
 mod step;
 mod target;
-#[cfg(test)]
-mod tests;
 mod trailers;
 mod turn;
 

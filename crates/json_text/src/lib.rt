@@ -18,8 +18,6 @@ mod scan;
 mod shown;
 mod spot;
 mod surrogates;
-#[cfg(test)]
-mod tests;
 mod texts;
 mod unescape;
 mod write;

@@ -169,11 +169,6 @@ impl EndTree {
         let slot = next_slot(&self.links, &self.keys, self.root, after, moment)?;
         Some(self.keys[slot].as_slice())
     }
-
-    #[cfg(test)]
-    pub(crate) fn height(&self) -> usize {
-        crate::links::height_at(&self.links, self.root)
-    }
 }
 
 /// The place of the first key, of those behind `after` where it is given, whose row is not live at `moment`.

@@ -24,6 +24,3 @@ pub use memory_keeper::MemoryKeeper;
 pub use prepared::Prepared;
 pub use row::RowView;
 pub use row_table::RowTable;
-
-#[cfg(test)]
-mod tests;

@@ -136,11 +136,6 @@ impl RowTable {
         without(&mut self.ends, kept, key);
         self.rows.remove(key);
     }
-
-    #[cfg(test)]
-    pub(crate) fn height(&self) -> usize {
-        self.ends.height()
-    }
 }
 
 /// What a key's row has of an end.

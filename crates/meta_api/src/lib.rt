@@ -14,6 +14,3 @@ pub use response::{
     ComponentNote, ComponentNotes, SubscriptionNote, SubscriptionNotes, health, metadata,
     put_response,
 };
-
-#[cfg(test)]
-mod tests;

@@ -69,14 +69,6 @@ impl HostDisk {
         }
         Ok(())
     }
-
-    /// Has each further call fail, as after a sync that failed.
-    #[cfg(test)]
-    pub(crate) fn lose(&mut self)
-        ensures { self.new.len ≡ self.old.len }
-    {
-        self.lost = true;
-    }
 }
 
 /// Has an empty file and its name, which may have been made just now, reach the disk.

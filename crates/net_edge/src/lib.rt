@@ -37,6 +37,3 @@ pub use tcp_door::TcpDoor;
 pub use tcp_link::TcpLink;
 pub use tcp_sink::TcpSink;
 pub use tcp_source::TcpSource;
-
-#[cfg(test)]
-mod tests;

@@ -13,8 +13,6 @@ mod policy_list;
 mod read;
 mod section;
 mod target;
-#[cfg(test)]
-mod tests;
 
 pub use joining::join;
 pub use load::policies;

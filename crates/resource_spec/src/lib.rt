@@ -11,8 +11,6 @@ mod load;
 mod parse;
 mod setting;
 mod spec_err;
-#[cfg(test)]
-mod tests;
 mod url;
 
 pub use component::{Component, ComponentKind};

@@ -11,6 +11,3 @@ pub use policy::{Bound, BreakerPolicy, RetryKind, RetryPolicy};
 pub use run::{FIRST_WAIT_MS, MOST_ATTEMPTS, Next, RetryRun};
 pub use trip::{Comparison, Counter, Counts, Join, Sign, Trip};
 pub use trip_text::{TripErr, trip_of};
-
-#[cfg(test)]
-mod tests;

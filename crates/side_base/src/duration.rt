@@ -114,6 +114,3 @@ pub fn duration_ms(text: &[u8]) -> Result<u64, DurationErr>
     }
     Ok(total)
 }
-
-#[cfg(test)]
-mod tests;

@@ -23,6 +23,3 @@ pub use text::{Text, TextErr};
 
 /// The allocator had no room. A call that answers it has changed nothing, unless it says otherwise.
 pub use std::alloc::AllocError as NoMemory;
-
-#[cfg(test)]
-mod tests;

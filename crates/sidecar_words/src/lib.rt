@@ -20,6 +20,3 @@ mod reading;
 
 pub use given::{Mode, Words, WordsErr};
 pub use reading::read_words;
-
-#[cfg(test)]
-mod tests;

@@ -18,6 +18,3 @@ pub use slot::Slot;
 pub use stop::Stop;
 pub use work::{Call, Got, Owed, Served, Turned, Work};
 pub use workers::run_workers;
-
-#[cfg(test)]
-mod tests;

@@ -20,6 +20,3 @@ pub use refusing::malformed_response;
 pub use responding::response;
 pub use running::{Ran, run};
 pub use what::{StateErr, What};
-
-#[cfg(test)]
-mod tests;

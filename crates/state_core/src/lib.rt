@@ -17,6 +17,3 @@ pub use command::{Cmd, Item, Items, Keys, Mode, Op, Ops, Prefix};
 pub use reading::BULK_LIMIT;
 pub use reply::{BulkRow, Found, Reply, Rows};
 pub use store::Store;
-
-#[cfg(test)]
-mod tests;

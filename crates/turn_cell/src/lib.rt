@@ -13,6 +13,3 @@ pub use cell::{Seat, TurnCell};
 pub use entry::Entry;
 pub use error::{ApiErr, Exhausted};
 pub use object::Object;
-
-#[cfg(test)]
-mod tests;

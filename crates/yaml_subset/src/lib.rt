@@ -28,8 +28,6 @@ mod scalar;
 mod shallow;
 mod source;
 mod take;
-#[cfg(test)]
-mod tests;
 mod value;
 mod walk;
 
