@@ -1,8 +1,6 @@
 -- What a framer's calls do to what it holds.
-use Rattle.std.proofs.Common.{◌≡◌, ℕ, ◌+◌, ◌<◌, ◌≤◌, Bool, true, false, List, [], ◌++◌, length, drop, Option, Some, None, Result, Ok, Err, ◌⊎◌, inl, inr, refl, sym, ap, ◌∙◌, subst, arith, length-append, length-drop, cond}
+use Rattle.std.proofs.Common.{◌≡◌, ℕ, ◌+◌, ◌<◌, ◌≤◌, Bool, true, false, List, [], length, drop, Some, None, Result, Ok, Err, ◌⊎◌, inl, inr, refl, sym, ap, ◌∙◌, subst, arith, length-append, length-drop}
 use Rattle.std.proofs.lemmas.List.{drop_all}
-use Rattle.std.specs.Prelude.{OnOk, OnErr}
-use Rattle.std.specs.Result.{is_ok}
 use Rattle.std.specs.declared.alloc.AllocError.{AllocError}
 use Rattle.httparse.specs.Grammar.{RequestHead, print_request}
 use Rattle.side_base.specs.declared.message.Request.{Request}
@@ -14,15 +12,13 @@ use Rattle.http_frames.specs.declared.framer.Stage.TheVariants as stage
 use Rattle.http_frames.specs.declared.turn.Turn.{Turn}
 use Rattle.http_frames.specs.declared.turn.Turn.TheVariants as turn
 use Rattle.http_frames.specs.declared.progress.Content.{Content}
-use Rattle.http_frames.specs.Framing.{State, Kept, Stands, Answers, waiting, ended, grown, fed, held, HELD_LIMIT, IsRefusal, IsNext}
+use Rattle.http_frames.specs.Framing.{State, Kept, Stands, Answers, waiting, ended, held, HELD_LIMIT, IsRefusal, IsNext}
 use Rattle.http_frames.specs.HeadRules.{HEAD_LIMIT}
 use Rattle.http_frames.specs.Framer.{kept_at, IsStage}
 use Rattle.http_frames.specs.Lines.{beginning}
 use Rattle.http_frames.specs.declared.lines.Place.{Place}
 use Rattle.http_frames.specs.Progress.{HoldsContent}
-use Rattle.http_frames.specs.Turns.{IsOpen, Holds, IsTurn, TakesTurn, Leaves}
-use Rattle.http_frames.proofs.PlaceLemmas.{place_more}
-use Rattle.http_frames.proofs.TurnLemmas.{grown_content}
+use Rattle.http_frames.specs.Turns.{Holds, IsTurn, TakesTurn, Leaves}
 
 -- what is kept of an open stream stands for these bytes exactly where they are those that were read and the rest
 pub stands_so : (pending rest : List ℕ) (continued : Bool) (next : Stage) → Holds pending rest next → Stands (waiting pending continued) (kept_at rest continued next)
