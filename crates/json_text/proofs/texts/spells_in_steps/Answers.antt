@@ -6,7 +6,7 @@ use Rattle.json_text.proofs.Tables.{false_true}
 use Rattle.json_text.proofs.Pieces.{same_step, piece_step, nothing_left, end_same}
 use Rattle.json_text.specs.Unescape.{after_byte}
 use Rattle.std.proofs.Common.{get_or}
-use Rattle.json_text.proofs.texts.spells.Goals as goal
+use Rattle.json_text.proofs.texts.spells_in_steps.Goals as goal
 
 pub returns-in-None : goal.returns-in-None
 returns-in-None c =
