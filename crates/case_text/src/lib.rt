@@ -1,12 +1,19 @@
 //! Cases: texts that say what is given and what must come of it. A case begins on a line with `== ` and what it shows, and each of
 //! its sections on a line with `-- ` and what it is; their texts are the lines below. Escapes in them are undone.
+//!
+//! - `piece` cuts a text at marked lines, `section` a case into its sections, `escape` undoes escapes.
+//! - `lines` is what is said of a case that differs.
 #![tactic(auto)]
 
 mod escape;
+mod lines;
 mod piece;
+mod section;
 
 pub use escape::unescaped;
+pub use lines::Lines;
 pub use piece::{Piece, pieces, without_blank_end};
+pub use section::{Section, joined, name_in, number_in, sections, text_of};
 
 /// What the line of a case begins with.
 pub const CASE: &[u8] = b"== ";

@@ -33,6 +33,13 @@ run_stands inside at end high some within usual =
     (λ k lt. (let small : k < n = omega (arith, lt, long) in ap is_special (get_or-chunk at n inside k 0 small) ∙ usual (at + k) (omega arith) (omega (arith, small, there))))
     ∙ ap (λ l. take n (drop at inside) ++ unescaped_from (between 0) l) rest
 
+-- bytes none of which is special spell themselves
+pub all_stand : (inside : List ℕ) → NonePasses is_special inside 0 (length inside) → unescaped_from (between 0) inside ≡ inside
+all_stand [] usual = nothing_left [] 0 (between 0) (omega arith)
+all_stand (x ∷ xs) usual =
+    ap (unescaped_from (between 0)) (sym (append-nil (x ∷ xs))) ∙ plain_run 0 (x ∷ xs) [] (omega arith) (λ k lt. usual k (omega arith) lt)
+    ∙ ap (λ l. (x ∷ xs) ++ l) (nothing_left [] 0 (between 0) (omega arith)) ∙ append-nil (x ∷ xs)
+
 -- one more piece
 pub one_copied : (inside out old piece : List ℕ) (at end : ℕ) (pending next : Pending) → at < length inside → end ≤ at → piece ≡ completed pending (get_or inside at 0) → next ≡ after_byte pending (get_or inside at 0) → out ≡ old ++ piece → out ++ unescaped_from next (drop (max end (at + 1)) inside) ≡ old ++ unescaped_from pending (drop at inside)
 one_copied inside out old piece at end pending next lt le p n e =

@@ -9,6 +9,7 @@ pub mod Between
 pub mod Reader
 pub mod Unescape
 pub mod Readable
+pub mod Packed
 pub mod Doc
 pub mod Piece
 pub mod Causes

@@ -7,6 +7,7 @@ ghost use Rattle.json_text.specs.Shape.{value_bytes};
 ghost use Rattle.std.specs.Str.{IsUtf8};
 
 use crate::kind::Kind;
+use crate::packed::Packed;
 use crate::shown::{has_name, has_text, push_name_of, push_text_of, text_byte_of};
 use crate::spot::Entry;
 use side_base::{Blob, NoMemory, Text};
@@ -22,7 +23,7 @@ pub struct Node {
 #[derive(Drop)]
 pub struct Doc<'a> {
     pub(crate) bytes: &'a [u8],
-    pub(crate) nodes: Vec<Entry>,
+    pub(crate) nodes: Vec<Packed>,
     ghost some: { 0 < length nodes.items },
     ghost readable: { TextsAreReadable bytes.now nodes.items },
     ghost within: { ValuesAreWithin bytes.now nodes.items },
@@ -57,11 +58,11 @@ impl<'a> Doc<'a> {
     }
 
     // The value's entry.
-    pub(crate) fn entry(&self, n: Node) -> &Entry
+    pub(crate) fn entry(&self, n: Node) -> Entry
         requires { IsNode self.now n }
-        ensures { result.now ≡ slice_index_or (values_kept self.now) n.number result.now }
+        ensures { result ≡ slice_index_or (values_kept self.now) n.number result }
     {
-        &self.nodes[n.number]
+        self.nodes[n.number].unpacked()
     }
 
     // How many lists and maps the value of this number stands in, if there is one.
@@ -70,7 +71,7 @@ impl<'a> Doc<'a> {
         ensures some { IfSome result (IsDepthAt self.now number) }
     {
         if number < self.nodes.len() {
-            Some(self.nodes[number].depth)
+            Some(self.nodes[number].depth())
         } else {
             None
         }
@@ -112,7 +113,7 @@ impl<'a> Doc<'a> {
         ensures after { IfSome result (IsAfter n) }
         ensures first { OfNode self.now n (λ spot children later. MatchOption result (children ≡ empty) (λ m. StandsAt self.now m children × (children ≢ empty))) }
     {
-        let own = *self.entry(n);
+        let own = self.entry(n);
         let number = n.number + 1;
         match self.depth_at(number) {
             Some(depth) => {
@@ -133,7 +134,7 @@ impl<'a> Doc<'a> {
         ensures after { IfSome result (IsAfter n) }
         ensures next { OfNode self.now n (λ spot children later. MatchOption result (later ≡ empty) (λ m. StandsAt self.now m later × (later ≢ empty))) }
     {
-        let own = *self.entry(n);
+        let own = self.entry(n);
         let number = n.number.saturating_add(own.size.max(1));
         match self.depth_at(number) {
             Some(depth) => {

@@ -8,7 +8,7 @@ ghost use Rattle.json_text.specs.declared.doc.Node.{Node};
 
 use crate::doc::{Doc, Node};
 use crate::kind::Kind;
-use crate::spot::Entry;
+use crate::packed::Packed;
 
 impl<'a> Doc<'a> {
     /// How many lists and maps stand within one another in the value, itself counted: 0 for a word, 1 for an empty list. It
@@ -31,7 +31,7 @@ impl<'a> Doc<'a> {
         ensures first { (root : Node) → IsRoot root → OfNode self.now root (λ spot children later. IsFirstHolder self.now depth (grows spot children later) result) }
     {
         for (number, entry) in self.nodes.iter().enumerate() {
-            if entry.depth == depth && is_holder(entry.spot.kind) {
+            if entry.depth() == depth && is_holder(entry.kind()) {
                 return Some(Node { number });
             }
         }
@@ -54,16 +54,16 @@ fn is_holder(kind: Kind) -> bool
 }
 
 // How many lists and maps stand within one another among the values that begin the row and are deeper than `depth`.
-fn levels_below(values: &[Entry], depth: usize) -> usize
+fn levels_below(values: &[Packed], depth: usize) -> usize
     ensures { result ≡ levels_below depth values.now }
 {
     let mut deepest = 0;
     for entry in values {
-        if entry.depth <= depth {
+        if entry.depth() <= depth {
             return deepest;
         }
-        if is_holder(entry.spot.kind) {
-            deepest = deepest.max(entry.depth - depth);
+        if is_holder(entry.kind()) {
+            deepest = deepest.max(entry.depth() - depth);
         }
     }
     deepest

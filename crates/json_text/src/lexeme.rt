@@ -1,10 +1,11 @@
 // The words of JSON, byte by byte.
-ghost use Rattle.std.specs.Prelude.{◌≡◌, ◌+◌, ◌*◌, ◌%◌, ◌==◌, if◌then◌else◌, drop, false, IsTrue, SomeIff};
+ghost use Rattle.std.specs.Prelude.{◌≡◌, ◌+◌, ◌*◌, ◌%◌, ◌==◌, if◌then◌else◌, drop, false};
 ghost use Rattle.json_text.specs.declared.lexeme.Lexeme.TheVariants.{Digits as digits, Plain as plain};
 ghost use Rattle.json_text.specs.Lexeme.{next, begins, ends, literal, within, least, greatest, is_hex_digit, hex_value, is_short_escape, leads, next_in_string, after_digit, after_tail, next_letter, ends_after_letters, digit_then, exponent_from, fraction_from};
 
+use crate::hex::{hex_digit, is_high};
 use crate::kind::Kind;
-use byte_lanes::{BACKSLASH, FIRST_PRINTABLE, QUOTE};
+use byte_lanes::{BACKSLASH, FIRST_ABOVE_ASCII, FIRST_PRINTABLE, QUOTE};
 
 /// Which bytes may come second in a character of several bytes (Unicode, table 3-7).
 #[derive(Clone, Copy, Debug)]
@@ -52,21 +53,6 @@ pub enum Lexeme {
     Digits { more: u8, unit: u16 },
     /// After the last quote.
     Closed,
-}
-
-/// The least byte that isn't ASCII.
-const FIRST_ABOVE_ASCII: u8 = 0x80;
-
-/// The value of a hexadecimal digit, in either case.
-pub(crate) fn hex_digit(byte: u8) -> Option<u8>
-    ensures { SomeIff result (IsTrue (is_hex_digit byte)) (hex_value byte) }
-{
-    match byte {
-        b'0'..=b'9' => Some(byte - b'0'),
-        b'A'..=b'F' => Some(byte - b'A' + 10),
-        b'a'..=b'f' => Some(byte - b'a' + 10),
-        _ => None,
-    }
 }
 
 // The bytes that may come second, from the least to the greatest.
@@ -172,7 +158,7 @@ fn after_hex(more: u8, unit: u16, byte: u8) -> Option<Lexeme>
     let unit = ((16 * unit as u32 + digit as u32) % 65536) as u16;
     Some(if more == 0 {
         Lexeme::Plain {
-            high: unit >= 0xd800 && unit <= 0xdbff,
+            high: is_high(unit as u32),
         }
     } else {
         Lexeme::Digits {

@@ -8,7 +8,8 @@ use crate::error::JsonErr;
 use crate::reader::read_entries;
 use std::alloc::Global;
 
-/// Reads a JSON text (RFC 8259), in which at most 64 lists and maps stand within one another.
+/// Reads a JSON text (RFC 8259), in which at most 64 lists and maps stand within one another. A value takes 24 bytes; one that
+/// ends behind 2^32 - 1 bytes is want of memory.
 pub fn read(alloc: Global, bytes: &[u8]) -> Result<Doc<'_>, JsonErr>
     ensures ok { IfOk result (λ doc. Shows doc bytes.now) }
     ensures bad { (at : ℕ) → IsErrOf result (JsonErr.Bad at) → IsFirstBad bytes.now at }

@@ -7,6 +7,7 @@ ghost use Rattle.json_text.specs.Reading.{IsCause, Holds, innermost};
 use crate::error::JsonErr;
 use crate::kind::Kind;
 use crate::lexeme::{Lexeme, first_word};
+use crate::packed::{Packed, keep};
 use crate::part::{
     Bracket, Opening, Part, bracket_of, is_blank_byte, is_closed_by, kind_of, may_be_named,
     turned_by, value_name,
@@ -26,12 +27,12 @@ struct Reader<'a> {
     bytes: &'a [u8],
     at: usize,
     ascii: usize,
-    nodes: Vec<Entry>,
+    nodes: Vec<Packed>,
     opened: Vec<Opening>,
 }
 
 /// The values of a text, each before what it holds.
-pub(crate) fn read_entries(alloc: Global, bytes: &[u8]) -> Result<Vec<Entry>, JsonErr>
+pub(crate) fn read_entries(alloc: Global, bytes: &[u8]) -> Result<Vec<Packed>, JsonErr>
     ensures ok { IfOk result (λ nodes. Holds bytes.now nodes.items) }
     ensures err { IfErr result (IsCause bytes.now) }
 {
@@ -86,7 +87,7 @@ impl<'a> Reader<'a> {
     }
 
     // The end of the text.
-    fn finish(self, here: Part) -> Result<Vec<Entry>, JsonErr>
+    fn finish(self, here: Part) -> Result<Vec<Packed>, JsonErr>
         requires reader { IsReader self here }
         requires all { self.at ≡ length self.bytes.now }
         ensures ok { IfOk result (λ nodes. Holds self.entry.bytes.now nodes.items) }
@@ -115,8 +116,7 @@ impl<'a> Reader<'a> {
         let byte = self.bytes[self.at];
         let level = self.level();
         if is_closed_by(level, here, byte) {
-            self.close(here, level);
-            return Ok(Part::Rest);
+            return self.close(here, level);
         }
         if let Some(there) = turned_by(level, here, byte) {
             self.at += 1;
@@ -129,20 +129,25 @@ impl<'a> Reader<'a> {
     }
 
     // The end of the innermost list or map.
-    fn close(&mut self, here: Part, level: Option<Bracket>)
+    fn close(&mut self, here: Part, level: Option<Bracket>) -> Result<Part, JsonErr>
         requires faces { Faces self.old here level }
         requires closes { closes level here (slice_index self.old.bytes.now self.old.at) ≡ true }
         ensures same { self.new.bytes ≡ self.old.bytes }
-        ensures moved { self.new.at ≡ self.old.at + 1 }
-        ensures reader { IsReader self.new Part.Rest }
+        ensures moved { OnOk result (self.old.at < self.new.at) }
+        ensures reader { IfOk result (IsReader self.new) }
+        ensures err { IfErr result (IsCause self.old.bytes.now) }
     {
         match self.opened.pop() {
             Some(opening) => {
                 let end = self.at + 1;
-                let kept = self.nodes[opening.node];
+                let kept = self.nodes[opening.node].unpacked();
                 let size = self.nodes.len() - opening.node;
-                self.nodes[opening.node] = ended(kept, end, size);
+                match Packed::of(ended(kept, end, size)) {
+                    Some(packed) => self.nodes[opening.node] = packed,
+                    None => return Err(JsonErr::NoMemory),
+                }
                 self.at = end;
+                Ok(Part::Rest)
             }
             None => unreachable!(),
         }
@@ -197,7 +202,7 @@ impl<'a> Reader<'a> {
             depth,
             size: 0,
         };
-        match self.nodes.push(entry) {
+        match keep(&mut self.nodes, entry) {
             Ok(()) => {}
             Err(_) => return Err(JsonErr::NoMemory),
         }
@@ -239,7 +244,7 @@ impl<'a> Reader<'a> {
             depth: self.opened.len(),
             size: 1,
         };
-        match self.nodes.push(entry) {
+        match keep(&mut self.nodes, entry) {
             Ok(()) => {}
             Err(_) => return Err(JsonErr::NoMemory),
         }

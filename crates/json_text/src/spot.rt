@@ -15,7 +15,7 @@ pub struct Spot {
     pub name: Option<Span>,
 }
 
-/// A value as it is kept: how many lists and maps it stands in, and how many values it makes with all that it holds.
+/// A value in the list of all: how many lists and maps it stands in, and how many values it makes with all that it holds.
 #[derive(Clone, Copy, Debug)]
 pub struct Entry {
     pub spot: Spot,

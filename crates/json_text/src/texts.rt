@@ -6,6 +6,7 @@ ghost use Rattle.json_text.specs.Unescape.{unescaped, content};
 use crate::piece::Piece;
 use crate::spot::Span;
 use crate::unescape::{Pending, pending_after, piece_after};
+use byte_lanes::first_special;
 
 /// The bytes between the quotes of a string.
 pub(crate) fn content_of(bytes: &[u8], span: Span) -> &[u8]
@@ -22,6 +23,27 @@ pub(crate) fn content_of(bytes: &[u8], span: Span) -> &[u8]
 
 /// Whether the inside of a string spells this text.
 pub(crate) fn spells(inside: &[u8], text: &[u8]) -> bool
+    ensures { IsTrue result ↔ (unescaped inside.now ≡ text.now) }
+{
+    if stands_for_itself(inside) {
+        inside == text
+    } else {
+        spells_in_steps(inside, text)
+    }
+}
+
+// Whether no escape stands inside a string.
+fn stands_for_itself(inside: &[u8]) -> bool
+    ensures { IsTrue result → unescaped inside.now ≡ inside.now }
+{
+    match first_special(inside, 0) {
+        Some(_) => false,
+        None => true,
+    }
+}
+
+// The same as `spells`, byte by byte.
+fn spells_in_steps(inside: &[u8], text: &[u8]) -> bool
     ensures { IsTrue result ↔ (unescaped inside.now ≡ text.now) }
 {
     let mut pending = Pending::Between { high: 0 };

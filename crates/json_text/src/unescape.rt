@@ -1,9 +1,9 @@
 // The text that the inside of a string spells, byte by byte.
 ghost use Rattle.std.specs.Prelude.{◌≡◌, ◌≤◌, [], ◌∷◌, length};
-ghost use Rattle.json_text.specs.Lexeme.{hex_value, is_high_surrogate, is_low_surrogate};
 ghost use Rattle.json_text.specs.Piece.{piece_bytes};
 ghost use Rattle.json_text.specs.Unescape.{after_byte, completed, short_value, character, character_bytes, unit_with, after_unit, unit_bytes};
 
+use crate::hex::{is_high, is_low, value_of};
 use crate::piece::Piece;
 use byte_lanes::BACKSLASH;
 
@@ -36,35 +36,10 @@ fn one_byte(byte: u8) -> Piece
     }
 }
 
-fn value_of(byte: u8) -> u32
-    ensures exact { result ≡ hex_value byte }
-    ensures bound { result ≤ 255 }
-{
-    if byte.is_ascii_digit() {
-        (byte - b'0') as u32
-    } else if byte >= b'A' && byte <= b'F' {
-        (byte - b'A' + 10) as u32
-    } else {
-        byte.saturating_sub(b'a' - 10) as u32
-    }
-}
-
 fn unit_of(unit: u16, byte: u8) -> u16
     ensures { result ≡ unit_with unit byte }
 {
     ((16 * unit as u32 + value_of(byte)) % 65536) as u16
-}
-
-fn is_high(unit: u16) -> bool
-    ensures { result ≡ is_high_surrogate unit }
-{
-    unit >= 0xd800 && unit <= 0xdbff
-}
-
-fn is_low(unit: u16) -> bool
-    ensures { result ≡ is_low_surrogate unit }
-{
-    unit >= 0xdc00 && unit <= 0xdfff
 }
 
 fn short_byte(byte: u8) -> u8
@@ -112,7 +87,7 @@ pub(crate) fn pending_after(pending: Pending, byte: u8) -> Pending
                     more: more - 1,
                     unit,
                 }
-            } else if is_high(unit) {
+            } else if is_high(unit as u32) {
                 Pending::Between { high: unit }
             } else {
                 Pending::Between { high: 0 }
@@ -125,7 +100,7 @@ pub(crate) fn pending_after(pending: Pending, byte: u8) -> Pending
 fn character_of(high: u16, unit: u16) -> u32
     ensures { result ≡ character high unit }
 {
-    if is_low(unit) && high > 0 {
+    if is_low(unit as u32) && high > 0 {
         0x10000 + (high as u32).saturating_sub(0xd800) * 1024 + (unit as u32 - 0xdc00)
     } else {
         unit as u32
@@ -178,7 +153,7 @@ pub(crate) fn piece_after(pending: Pending, byte: u8) -> Piece
         }
         Pending::Digits { high, more, unit } => {
             let unit = unit_of(unit, byte);
-            if more > 0 || is_high(unit) {
+            if more > 0 || is_high(unit as u32) {
                 no_bytes()
             } else {
                 piece_of(character_of(high, unit))

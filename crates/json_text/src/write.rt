@@ -29,10 +29,7 @@ pub fn push_string_of(out: &mut Blob, text: &str) -> Result<(), NoMemory>
         Some(len) => len,
         None => return Err(AllocError),
     };
-    match out.reserve(len) {
-        Ok(()) => {}
-        Err(error) => return Err(error),
-    }
+    out.reserve(len)?;
     let before = out.len();
     match push_quoted(out, bytes) {
         Ok(()) => Ok(()),
@@ -48,18 +45,9 @@ fn push_quoted(out: &mut Blob, bytes: &[u8]) -> Result<(), NoMemory>
     ensures ok { OnOk result (out.new ≡ out.old ++ string_of bytes.now) }
     ensures err { OnErr result (take (length out.old) out.new ≡ out.old) }
 {
-    match out.push_byte(QUOTE) {
-        Ok(()) => {}
-        Err(error) => return Err(error),
-    }
-    match push_inside(out, bytes) {
-        Ok(()) => {}
-        Err(error) => return Err(error),
-    }
-    match out.push_byte(QUOTE) {
-        Ok(()) => Ok(()),
-        Err(error) => Err(error),
-    }
+    out.push_byte(QUOTE)?;
+    push_inside(out, bytes)?;
+    out.push_byte(QUOTE)
 }
 
 fn push_inside(out: &mut Blob, bytes: &[u8]) -> Result<(), NoMemory>

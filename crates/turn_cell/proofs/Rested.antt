@@ -1,5 +1,5 @@
 -- A seat between two calls: after the start, a split and a meeting, and when its cell is closed.
-use Rattle.std.proofs.Common.{◌≡◌, ℕ, ◌+◌, true, List, [], ◌∷◌, length, Option, Some, IsSome, refl, sym, ap, ◌∙◌, subst, inl, inr, ⊎_elim, arith, length-append}
+use Rattle.std.proofs.Common.{◌≡◌, ℕ, ◌+◌, true, List, [], ◌∷◌, length, Option, Some, None, IsSome, refl, sym, ap, ◌∙◌, subst, inl, inr, ⊎_elim, arith, length-append}
 use mathlib.Core.Option.{some, some-injective}
 use mathlib.Core.List.{IsPrefix}
 use lib.ListN.{get_elem?}
@@ -9,17 +9,18 @@ use Rattle.turn_cell.specs.declared.entry.Entry.{Entry}
 use Rattle.turn_cell.specs.declared.object.Object.{Ghosts}
 use Rattle.turn_cell.specs.declared.view.Stage.TheVariants.{Idle}
 use Rattle.turn_cell.specs.declared.view.View.{View}
-use Rattle.turn_cell.specs.Sitting.{IsSound, IsAlone, Meets}
+use Rattle.turn_cell.specs.Sitting.{IsSound, IsAlone, Meets, either_count}
 use Rattle.turn_cell.specs.Play.{shown, sitting, IsSoundView, Rests, Met, opening_view, parent_view, child_view, joined_view, met_view}
 use Rattle.turn_cell.specs.Rule.{Rule}
 use Rattle.turn_cell.proofs.Passes.{parent_sound, child_sound}
 use Rattle.turn_cell.proofs.Ends.{opened_sound, closes}
 
 module _ {O C R : Type 0} (object : Ghosts O C R) (first : O) where
-  pub start_rests : (t : Seat (Option O) (View O C R)) (k : O) → k ≡ first → t.me ≡ (opening_view k, []) → object.stands first [] first → Rests object t 1
+  pub start_rests : (t : Seat (Option O) (View O C R)) (k : O) → k ≡ first → t.me ≡ (opening_view k, []) → object.stands first [] first → Rests object t 1 None
   start_rests t k same e stands = record {
     free = record { idle = ap (λ (m : Me (Option O) (View O C R)). m.0.stage) e; bare = ap (λ (m : Me (Option O) (View O C R)). m.1) e; done = ap (λ (m : Me (Option O) (View O C R)). m.0.kept) e };
     made_is = sym (ap (λ (m : Me (Option O) (View O C R)). m.0.made) e);
+    count_is = sym (ap (λ (m : Me (Option O) (View O C R)). m.0.count) e);
     sound = λ f is. let named : Some k ≡ Some f = sym (ap (λ (m : Me (Option O) (View O C R)). m.0.first) e) ∙ is in let one : k ≡ f = cc in
         subst (λ (z : O × View O C R). IsSoundView object z.0 z.1) (λ i. ((sym same ∙ one) i, (ap (λ (x : O). opening_view x) (sym same) ∙ sym (ap (λ (m : Me (Option O) (View O C R)). m.0) e)) i)) (opened_sound object first stands);
   }
@@ -37,23 +38,25 @@ module _ {O C R : Type 0} (object : Ghosts O C R) (first : O) where
     subst (λ (z : View O C R). IsSoundView object first z) (sym (ap (λ (m : Me (Option O) (View O C R)). m.0) f)) (child_view_sound t.me.0 is ok) w.table_id,
   )
 
-module _ {O C R : Type 0} (object : Ghosts O C R) (t u : Seat (Option O) (View O C R)) (made : ℕ) (rests : Rests object t made) (is : t.me.0.is_root ≡ true) where
-  pub parent_rests : u.me ≡ (parent_view t.me.0, t.me.1) → Rests object u (made + 1)
+module _ {O C R : Type 0} (object : Ghosts O C R) (t u : Seat (Option O) (View O C R)) (made : ℕ) (count : Option ℕ) (rests : Rests object t made count) (is : t.me.0.is_root ≡ true) where
+  pub parent_rests : u.me ≡ (parent_view t.me.0, t.me.1) → Rests object u (made + 1) count
   parent_rests e = record {
     free = record { idle = ap (λ (m : Me (Option O) (View O C R)). m.0.stage) e ∙ rests.free.idle; bare = ap (λ (m : Me (Option O) (View O C R)). m.1) e ∙ rests.free.bare; done = ap (λ (m : Me (Option O) (View O C R)). m.0.kept) e ∙ rests.free.done };
     made_is = ap (λ (n : ℕ). n + 1) rests.made_is ∙ sym (ap (λ (m : Me (Option O) (View O C R)). m.0.made) e);
+    count_is = rests.count_is ∙ sym (ap (λ (m : Me (Option O) (View O C R)). m.0.count) e);
     sound = λ f named. subst (λ (z : View O C R). IsSoundView object f z) (sym (ap (λ (m : Me (Option O) (View O C R)). m.0) e)) (parent_view_sound object f t.me.0 is (rests.sound f (sym (ap (λ (m : Me (Option O) (View O C R)). m.0.first) e) ∙ named)));
   }
 
-  pub child_rests : u.me ≡ (child_view t.me.0, []) → Rests object u 0
+  pub child_rests : u.me ≡ (child_view t.me.0, []) → Rests object u 0 None
   child_rests e = record {
     free = record { idle = ap (λ (m : Me (Option O) (View O C R)). m.0.stage) e; bare = ap (λ (m : Me (Option O) (View O C R)). m.1) e; done = ap (λ (m : Me (Option O) (View O C R)). m.0.kept) e };
     made_is = sym (ap (λ (m : Me (Option O) (View O C R)). m.0.made) e);
+    count_is = sym (ap (λ (m : Me (Option O) (View O C R)). m.0.count) e);
     sound = λ f named. subst (λ (z : View O C R). IsSoundView object f z) (sym (ap (λ (m : Me (Option O) (View O C R)). m.0) e)) (child_view_sound object f t.me.0 is (rests.sound f (sym (ap (λ (m : Me (Option O) (View O C R)). m.0.first) e) ∙ named)));
   }
 
 -- the root t joins the seat o, which makes it j, and then meets it, which makes it u
-module _ {O C R : Type 0} (object : Ghosts O C R) (t o j u : Seat (Option O) (View O C R)) (made : ℕ) (rests : Rests object t made) (joined : j.me ≡ (joined_view t.me.0 o.me.0, t.me.1)) (tells : (f : O) → j.me.0.first ≡ Some f → Met object f j.me u.me) where
+module _ {O C R : Type 0} (object : Ghosts O C R) (t o j u : Seat (Option O) (View O C R)) (made : ℕ) (count : Option ℕ) (rests : Rests object t made count) (joined : j.me ≡ (joined_view t.me.0 o.me.0, t.me.1)) (tells : (f : O) → j.me.0.first ≡ Some f → Met object f j.me u.me) where
   abbrev Both : View O C R
   Both = joined_view t.me.0 o.me.0
 
@@ -66,10 +69,11 @@ module _ {O C R : Type 0} (object : Ghosts O C R) (t o j u : Seat (Option O) (Vi
   now : (f : O) → t.me.0.first ≡ Some f → u.me ≡ (met_view Both, t.me.1)
   now f is = (tells f (named f is)).whole ∙ ap (λ (m : Me (Option O) (View O C R)). (met_view m.0, m.1)) joined
 
-  pub meet_rests : (f : O) → t.me.0.first ≡ Some f → Rests object u made
-  meet_rests f is = let e = now f is in record {
+  pub meet_rests : (f : O) → t.me.0.first ≡ Some f → (made' : ℕ) (count' : Option ℕ) → Rests object o made' count' → Rests object u made (either_count count count')
+  meet_rests f is made' count' other = let e = now f is in record {
     free = record { idle = ap (λ (m : Me (Option O) (View O C R)). m.0.stage) e ∙ rests.free.idle; bare = ap (λ (m : Me (Option O) (View O C R)). m.1) e ∙ rests.free.bare; done = ap (λ (m : Me (Option O) (View O C R)). m.0.kept) e };
     made_is = rests.made_is ∙ sym (ap (λ (m : Me (Option O) (View O C R)). m.0.made) e);
+    count_is = (λ i. either_count (rests.count_is i) (other.count_is i)) ∙ sym (ap (λ (m : Me (Option O) (View O C R)). m.0.count) e);
     sound = λ g g-is. (tells g (named g (sym (ap (λ (m : Me (Option O) (View O C R)). m.0.first) e) ∙ g-is))).sound;
   }
 
@@ -84,7 +88,7 @@ module _ {O C R : Type 0} (object : Ghosts O C R) (t o j u : Seat (Option O) (Vi
         sound = told.sound u.table_id;
       }
 
-module _ {O C R : Type 0} (object : Ghosts O C R) (first : O) (t : Seat (Option O) (View O C R)) (made : ℕ) (rests : Rests object t made) (alone : IsAlone (sitting t)) (words : List ℕ) (slots : List (Option O)) (final : Final (Seen (Rule object first) t.id t.me.0) words slots)
+module _ {O C R : Type 0} (object : Ghosts O C R) (first : O) (t : Seat (Option O) (View O C R)) (made : ℕ) (count : Option ℕ) (rests : Rests object t made count) (alone : IsAlone (sitting t)) (words : List ℕ) (slots : List (Option O)) (final : Final (Seen (Rule object first) t.id t.me.0) words slots)
     (x : Option O) (there : get_elem? slots 0 ≡ some x) where
   left_over : (now : O) × (get_elem? slots 0 ≡ some (Some now)) × object.stands first t.me.0.seen now
   left_over = closes object first t.id t.me.0 words slots rests.free.idle rests.free.done alone final

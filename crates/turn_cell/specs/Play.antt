@@ -138,7 +138,8 @@ pub record StepMade {O C R : Type 0} (object : Ghosts O C R) (first : O) (v : Vi
   pub sound : IsSoundView object first m'.0
 
 -- a seat between two calls, as its type keeps it
-pub record Rests {O C R : Type 0} (object : Ghosts O C R) (token : Seat (Option O) (View O C R)) (made : ℕ) : Type 0 where
+pub record Rests {O C R : Type 0} (object : Ghosts O C R) (token : Seat (Option O) (View O C R)) (made : ℕ) (count : Option ℕ) : Type 0 where
   pub free : IsFree token
   pub made_is : made ≡ token.me.0.made
+  pub count_is : count ≡ token.me.0.count
   pub sound : (first : O) → token.me.0.first ≡ Some first → IsSoundView object first token.me.0

@@ -1,5 +1,5 @@
 ghost use Rattle.std.specs.Prelude.{◌≡◌, ℕ, ◌^◌, ◌<◌, ◌↔◌, true, false, length, Some, IfOk, IfErr, IsErr};
-ghost use Rattle.turn_cell.specs.Sitting.{IsSeatOf, IsAlone, IsSound, Extends, Exhausts, Meets, root_of, parent_of, child_of};
+ghost use Rattle.turn_cell.specs.Sitting.{IsSeatOf, IsAlone, IsSound, Extends, Exhausts, Meets, root_of, parent_of, child_of, either_count};
 
 use crate::error::Exhausted;
 use crate::object::Object;
@@ -31,13 +31,15 @@ impl<O: Object> Model for TurnCell<O> {
     ghost invariant = { λ cell. IsSized cell.store.shared.table_id };
 }
 
-/// What one caller knows of a cell, and its right to call it. While a program runs it is one number, that of `made`.
+/// What one caller knows of a cell, and its right to call it. While a program runs it is two numbers: how many seats were made, and the count that it read in an
+/// exhausted cell.
 ///
 /// Contracts see it as a record of what it has seen and done.
 #[derive(Drop)]
 pub struct Seat<O: Object> {
     token: Token<O>,
     made: u64,
+    count: Option<u64>,
 }
 
 impl<O: Object> Model for Seat<O> {
@@ -48,7 +50,7 @@ impl<O: Object> Model for Seat<O> {
 
     ghost view = { λ seat. sitting seat.token };
 
-    ghost invariant = { λ seat. Rests O.Object seat.token seat.made };
+    ghost invariant = { λ seat. Rests O.Object seat.token seat.made seat.count };
 }
 
 impl<O: Object> Seat<O> {
@@ -58,6 +60,23 @@ impl<O: Object> Seat<O> {
         ensures sound { (first : O) → self.now.first ≡ Some first → IsSound O.Object first self.now }
     {
         self.made
+    }
+
+    /// The count that was read in the cell where this seat, or one that it met, found it exhausted. Takes no memory.
+    pub fn count(&self) -> Option<u64>
+        ensures { result ≡ self.now.count }
+    {
+        self.count
+    }
+}
+
+/// The first of two counts that is there.
+fn either_count(one: Option<u64>, other: Option<u64>) -> Option<u64>
+    ensures { result ≡ either_count one other }
+{
+    match one {
+        Some(count) => Some(count),
+        None => other,
     }
 }
 
@@ -79,7 +98,12 @@ impl<O: Object> TurnCell<O> {
             Ok(made) => made,
             Err(Refused { slots: _ }) => return Err(AllocError),
         };
-        Ok((TurnCell { store }, Seat { token, made: 1 }))
+        let seat = Seat {
+            token,
+            made: 1,
+            count: None,
+        };
+        Ok((TurnCell { store }, seat))
     }
 
     /// A further seat, split off the root `seat`: it has seen what the root has seen, and has made no calls. Takes no memory.
@@ -93,7 +117,11 @@ impl<O: Object> TurnCell<O> {
     {
         let token = self.store.shared.split_seat::<Grow>(&mut seat.token);
         seat.made += 1;
-        Seat { token, made: 0 }
+        Seat {
+            token,
+            made: 0,
+            count: None,
+        }
     }
 
     /// One command, as one step of the object: waits for its turn, and returns the reply. Takes no memory beside what the object takes.
@@ -112,7 +140,13 @@ impl<O: Object> TurnCell<O> {
         ensures err { IfErr result (λ e. Exhausts O.Object self.now.first seat.old e.count seat.new) }
         ensures exact { IsAlone seat.old → (IsErr result ↔ (length seat.old.seen ≡ 2 ^ 62)) }
     {
-        take_turn(rt, &self.store.shared, &mut seat.token, cmd)
+        match take_turn(rt, &self.store.shared, &mut seat.token, cmd) {
+            Ok(reply) => Ok(reply),
+            Err(exhausted) => {
+                seat.count = Some(exhausted.count);
+                Err(exhausted)
+            }
+        }
     }
 
     /// Takes `other` back into the root `seat`, which has then seen what both had seen. Takes no memory.
@@ -122,7 +156,12 @@ impl<O: Object> TurnCell<O> {
         requires other { IsSeatOf self.now other × (other.is_root ≡ false) }
         ensures { Meets O.Object self.now.first seat.old other seat.new }
     {
-        let Seat { token, made: _ } = other;
+        let Seat {
+            token,
+            made: _,
+            count,
+        } = other;
+        seat.count = either_count(seat.count, count);
         let table = &self.store.shared;
         table.join_seat::<Gather>(&mut seat.token, token);
         table.load::<Meet>(&mut seat.token, SERVING);
@@ -134,7 +173,7 @@ impl<O: Object> TurnCell<O> {
         requires alone { IsAlone seat }
         ensures { O.stands self.first seat.seen result }
     {
-        let Seat { token, made: _ } = seat;
+        let Seat { token, .. } = seat;
         let mut closed = self.store.close_with(token);
         let object = closed.take(OBJECT).unwrap();
         closed.free();

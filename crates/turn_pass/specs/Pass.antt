@@ -1,7 +1,7 @@
 -- What may be done to all seats of a pass, and what closing all cells gives.
-use Rattle.std.specs.Prelude.{◌≡◌, ◌<◌, true, List, [], ◌∷◌}
+use Rattle.std.specs.Prelude.{◌≡◌, ℕ, ◌<◌, true, List, [], ◌∷◌, Option, None}
 use Rattle.turn_cell.specs.declared.entry.Entry.{Entry}
-use Rattle.turn_cell.specs.Sitting.{Begun, Sitting, IsSeatOf}
+use Rattle.turn_cell.specs.Sitting.{Begun, Sitting, IsSeatOf, either_count}
 use Rattle.turn_cell.specs.Passes.{EachSeat}
 
 module _ {O C R : Type 0} where
@@ -18,3 +18,8 @@ module _ {O C R : Type 0} where
   AreClosed stands [] [] [] = Unit {0}
   AreClosed stands (cell ∷ cells) (seat ∷ seats) (object ∷ objects) = stands cell.first seat.seen object × AreClosed stands cells seats objects
   AreClosed stands _ _ _ = ⊥
+
+  -- the first count that one of these seats shows
+  abbrev pub count_shown : List (Sitting O C R) → Option ℕ
+  count_shown [] = None
+  count_shown (seat ∷ seats) = either_count seat.count (count_shown seats)

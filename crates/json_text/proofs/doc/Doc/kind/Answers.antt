@@ -3,4 +3,4 @@ use Rattle.json_text.proofs.Walks.{own_spot, for_first}
 use Rattle.json_text.proofs.doc.Doc.kind.Goals as goal
 
 pub returns : goal.returns
-returns c values h = for_first values _ _ (own_spot c.args.self.now c.args.n.number c.entry.result.now values c.entry.ensures h) (λ s children later e. ap (λ x. x.kind) e)
+returns c values h = for_first values _ _ (own_spot c.args.self.now c.args.n.number c.entry.result values c.entry.ensures h) (λ s children later e. ap (λ x. x.kind) e)

@@ -5,4 +5,4 @@ use Rattle.json_text.proofs.Walks.{own_spot, for_first}
 use Rattle.json_text.proofs.doc.Doc.name_bytes.Goals as goal
 
 pub returns : goal.returns
-returns c values h = for_first values _ _ (own_spot c.args.self.now c.args.n.number c.entry.result.now values c.entry.ensures h) (λ s children later e. c.of_inside.ensures ∙ c.name_inside.ensures ∙ ap (name_shown (bytes_read c.args.self.now)) e)
+returns c values h = for_first values _ _ (own_spot c.args.self.now c.args.n.number c.entry.result values c.entry.ensures h) (λ s children later e. c.of_inside.ensures ∙ c.name_inside.ensures ∙ ap (name_shown (bytes_read c.args.self.now)) e)

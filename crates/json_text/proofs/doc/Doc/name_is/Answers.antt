@@ -6,4 +6,4 @@ use Rattle.json_text.proofs.Walks.{own_spot, for_first}
 use Rattle.json_text.proofs.doc.Doc.name_is.Goals as goal
 
 pub returns : goal.returns
-returns c values h = for_first values _ _ (own_spot c.args.self.now c.args.n.number c.entry.result.now values c.entry.ensures h) (λ s children later e. subst (λ x. IsTrue c.has_name.result ↔ HasName (bytes_read c.args.self.now) x c.args.name.now) e c.has_name.ensures)
+returns c values h = for_first values _ _ (own_spot c.args.self.now c.args.n.number c.entry.result values c.entry.ensures h) (λ s children later e. subst (λ x. IsTrue c.has_name.result ↔ HasName (bytes_read c.args.self.now) x c.args.name.now) e c.has_name.ensures)

@@ -10,11 +10,11 @@ use Rattle.json_text.proofs.doc.Doc.name_of.Goals as goal
 pub text_from-requires : goal.text_from-requires
 text_from-requires c =
     let bytes = bytes_read c.args.self.now in
-    subst IsUtf8 (sym (c.in-Ok.ensures.ok ∙ ap (λ l. l ++ name_shown bytes c.entry.result.now.spot) c.new-out.ensures ∙ ap (λ e. name_shown bytes e.spot) c.entry.ensures))
-    (IsUtf8-from_is_utf8 _ (c.args.self.now.readable c.args.n.number c.entry.result.now c.requires).1)
+    subst IsUtf8 (sym (c.in-Ok.ensures.ok ∙ ap (λ l. l ++ name_shown bytes c.entry.result.spot) c.new-out.ensures ∙ ap (λ e. name_shown bytes e.spot) c.entry.ensures))
+    (IsUtf8-from_is_utf8 _ (c.args.self.now.readable c.args.n.number c.entry.result c.requires).1)
 
 pub returns-in-Ok : goal.returns-in-Ok
 returns-in-Ok c values h =
     let bytes = bytes_read c.args.self.now in
-    for_first values _ _ (own_spot c.args.self.now c.args.n.number c.entry.result.now values c.entry.ensures h)
-    (λ s children later e. subst (λ x. IfOk c.text_from.result (λ text. text ≡ x)) (c.in-Ok.ensures.ok ∙ ap (λ l. l ++ name_shown bytes c.entry.result.now.spot) c.new-out.ensures ∙ ap (name_shown bytes) e) c.text_from.ensures)
+    for_first values _ _ (own_spot c.args.self.now c.args.n.number c.entry.result values c.entry.ensures h)
+    (λ s children later e. subst (λ x. IfOk c.text_from.result (λ text. text ≡ x)) (c.in-Ok.ensures.ok ∙ ap (λ l. l ++ name_shown bytes c.entry.result.spot) c.new-out.ensures ∙ ap (name_shown bytes) e) c.text_from.ensures)

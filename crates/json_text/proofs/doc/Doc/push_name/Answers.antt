@@ -8,5 +8,5 @@ use Rattle.json_text.proofs.doc.Doc.push_name.Goals as goal
 pub returns-clause-ok : goal.returns-clause-ok
 returns-clause-ok c values h =
     let bytes = bytes_read c.args.self.now in
-    for_first values _ _ (own_spot c.args.self.now c.args.n.number c.entry.result.now values c.entry.ensures h)
+    for_first values _ _ (own_spot c.args.self.now c.args.n.number c.entry.result values c.entry.ensures h)
     (λ s children later e. subst (λ x. OnOk c.push_name_of.result (c.push_name_of.new.out ≡ c.args.out.now ++ name_shown bytes x)) e c.push_name_of.ensures.ok)

@@ -6,8 +6,8 @@ use Rattle.json_text.proofs.Tokens.{read_close, open_inside}
 use Rattle.json_text.proofs.Steps.{ascii_on, nothing_open}
 use Rattle.json_text.proofs.reader.Reader.close.Goals as goal
 
-pub index-kept-requires : goal.index-kept-requires
-index-kept-requires c =
+pub index-requires : goal.index-requires
+index-requires c =
     let self = c.args.self.now in
     omega (arith, open_inside self.bytes.now self.at c.args.here self.nodes.items self.opened.items c.pop.new.self.items c.in-Some.opening c.requires.faces.reader.reads c.in-Some.ensures.items)
 
@@ -32,12 +32,12 @@ returns-clause-reader c =
     let self = c.args.self.now in
     let nodes = self.nodes.items in
     let o = c.in-Some.opening in
-    let kept = c.index-kept.result.now in
+    let kept = c.unpacked-kept.result in
     let counted : c.len.result ≡ length nodes = omega (arith, c.len.ensures) in
-    let written : set nodes o.node c.ended.result ≡ set nodes o.node (record { spot = spot kept.spot.kind kept.spot.span.start (self.at + 1) kept.spot.name; depth = kept.depth; size = length nodes - o.node }) =
-    ap (set nodes o.node) c.ended.ensures ∙ ap (λ n. set nodes o.node (record { spot = spot kept.spot.kind kept.spot.span.start (self.at + 1) kept.spot.name; depth = kept.depth; size = n - o.node })) counted in
+    let written : set nodes o.node c.in-Some-of.packed ≡ set nodes o.node (record { spot = spot kept.spot.kind kept.spot.span.start (self.at + 1) kept.spot.name; depth = kept.depth; size = length nodes - o.node }) =
+    ap (set nodes o.node) (c.in-Some-of.ensures ∙ c.ended.ensures) ∙ ap (λ n. set nodes o.node (record { spot = spot kept.spot.kind kept.spot.span.start (self.at + 1) kept.spot.name; depth = kept.depth; size = n - o.node })) counted in
     record {
       reads = subst (λ n. Reads self.bytes.now (self.at + 1) rest n c.pop.new.self.items) (sym written)
-          (read_close self.bytes.now self.at c.args.here nodes self.opened.items c.args.level c.requires.faces.reader.reads c.requires.faces.between c.pop.new.self.items o kept c.in-Some.ensures.items c.requires.closes c.index-kept.ensures);
+          (read_close self.bytes.now self.at c.args.here nodes self.opened.items c.args.level c.requires.faces.reader.reads c.requires.faces.between c.pop.new.self.items o kept c.in-Some.ensures.items c.requires.closes (c.unpacked-kept.ensures ∙ c.index.ensures ∙ ap (get_or nodes o.node) (sym c.unpacked-kept.ensures)));
       known = ascii_on self.bytes.now self.at self.ascii c.requires.faces.reader.known;
     }

@@ -24,13 +24,13 @@ returns-clause-reader c =
     let at = self.at in
     let counted : c.len-depth.result ≡ length opened = omega (arith, c.len-depth.ensures) in
     let placed : c.len-node.result ≡ length nodes = omega (arith, c.len-node.ensures) in
-    let pushed : c.push.new.self.items ≡ nodes ++ record { spot = spot (bracket_kind c.args.bracket) at at c.args.name; depth = length opened; size = 0 } ∷ [] =
-    c.in-Ok.ensures.items ∙ ap (λ s. nodes ++ record { spot = s; depth = c.len-depth.result; size = 0 } ∷ []) (c.spot_of.ensures ∙ ap (λ k. spot k at at c.args.name) c.kind_of.ensures)
+    let pushed : c.keep.new.nodes.items ≡ nodes ++ record { spot = spot (bracket_kind c.args.bracket) at at c.args.name; depth = length opened; size = 0 } ∷ [] =
+    c.in-Ok.ensures ∙ ap (λ s. nodes ++ record { spot = s; depth = c.len-depth.result; size = 0 } ∷ []) (c.spot_of.ensures ∙ ap (λ k. spot k at at c.args.name) c.kind_of.ensures)
     ∙ ap (λ d. nodes ++ record { spot = spot (bracket_kind c.args.bracket) at at c.args.name; depth = d; size = 0 } ∷ []) counted in
-    let opened_now : c.push-2.new.self.items ≡ opened ++ record { bracket = c.args.bracket; node = length nodes } ∷ [] =
+    let opened_now : c.push.new.self.items ≡ opened ++ record { bracket = c.args.bracket; node = length nodes } ∷ [] =
     c.in-Ok-push.ensures.items ∙ ap (λ n. opened ++ record { bracket = c.args.bracket; node = n } ∷ []) placed in
     record {
-      reads = subst (λ n. Reads self.bytes.now (at + 1) start n c.push-2.new.self.items) (sym pushed) (subst (λ o. Reads self.bytes.now (at + 1) start (nodes ++ record { spot = spot (bracket_kind c.args.bracket) at at c.args.name; depth = length opened; size = 0 } ∷ []) o) (sym opened_now)
+      reads = subst (λ n. Reads self.bytes.now (at + 1) start n c.push.new.self.items) (sym pushed) (subst (λ o. Reads self.bytes.now (at + 1) start (nodes ++ record { spot = spot (bracket_kind c.args.bracket) at at c.args.name; depth = length opened; size = 0 } ∷ []) o) (sym opened_now)
           (read_open self.bytes.now at c.args.here nodes opened c.args.level f.faces.reader.reads f.faces.between c.args.name c.args.bracket f.no_close f.no_turn c.requires.takes c.requires.bracket room));
       known = ascii_on self.bytes.now at self.ascii f.faces.reader.known;
     }

@@ -30,8 +30,8 @@ returns-clause-reader c =
     let word = c.in-Ok.word in
     let nodes = self.nodes.items in
     let counted : c.len.result ≡ length self.opened.items = omega (arith, c.len.ensures) in
-    let pushed : c.push.new.self.items ≡ nodes ++ record { spot = spot word.kind self.at word.end c.args.name; depth = length self.opened.items; size = 1 } ∷ [] =
-    c.in-Ok-push.ensures.items ∙ ap (λ s. nodes ++ record { spot = s; depth = c.len.result; size = 1 } ∷ []) c.spot_of.ensures
+    let pushed : c.keep.new.nodes.items ≡ nodes ++ record { spot = spot word.kind self.at word.end c.args.name; depth = length self.opened.items; size = 1 } ∷ [] =
+    c.in-Ok-keep.ensures ∙ ap (λ s. nodes ++ record { spot = s; depth = c.len.result; size = 1 } ∷ []) c.spot_of.ensures
     ∙ ap (λ d. nodes ++ record { spot = spot word.kind self.at word.end c.args.name; depth = d; size = 1 } ∷ []) counted in
     record {
       reads = subst (λ n. Reads self.bytes.now word.end rest n self.opened.items) (sym pushed)

@@ -1,6 +1,6 @@
 use Rattle.std.proofs.Common.{sym, ap, ◌∙◌, subst, arith}
 use Rattle.turn_cell.specs.Sitting.{Meets}
-use Rattle.turn_cell.specs.Play.{sitting}
+use Rattle.turn_cell.specs.Play.{Rests, sitting}
 use Rattle.turn_cell.proofs.Joins.{joins}
 use Rattle.turn_cell.proofs.Meets.{meets}
 use Rattle.turn_cell.proofs.Rested.{meet_rests, meet_told}
@@ -23,9 +23,9 @@ load-requires g c = (
 )
 
 pub invariant_of-seat : goal.invariant_of-seat
-invariant_of-seat g c = meet_rests g.O.Object c.seat.inside.token c.other.inside.token c.join_seat.new.seat c.load.new.seat c.seat.inside.made c.seat.invariant c.join_seat.ensures.2 c.load.ensures.2 c.args.self.now.first (ap (λ z. z.first) c.seat.view_is ∙ c.requires.seat.1)
+invariant_of-seat g c = subst (λ n. Rests g.O.Object c.load.new.seat c.seat.inside.made n) (sym c.either_count-seat-inside.ensures) (meet_rests g.O.Object c.seat.inside.token c.other.inside.token c.join_seat.new.seat c.load.new.seat c.seat.inside.made c.seat.inside.count c.seat.invariant c.join_seat.ensures.2 c.load.ensures.2 c.args.self.now.first (ap (λ z. z.first) c.seat.view_is ∙ c.requires.seat.1) c.other.inside.made c.other.inside.count c.other.invariant)
 
 pub returns : goal.returns
-returns g c = let told = meet_told g.O.Object c.seat.inside.token c.other.inside.token c.join_seat.new.seat c.load.new.seat c.seat.inside.made c.seat.invariant c.join_seat.ensures.2 c.load.ensures.2 c.args.self.now.first
+returns g c = let told = meet_told g.O.Object c.seat.inside.token c.other.inside.token c.join_seat.new.seat c.load.new.seat c.seat.inside.made c.seat.inside.count c.seat.invariant c.join_seat.ensures.2 c.load.ensures.2 c.args.self.now.first
     (ap (λ z. z.first) c.seat.view_is ∙ c.requires.seat.1) (ap (λ z. z.is_root) c.seat.view_is ∙ c.requires.root) (c.load.ensures.0 ∙ c.join_seat.ensures.0) in
     subst (λ z. Meets g.O.Object c.args.self.now.first c.args.seat.now z (sitting c.load.new.seat)) c.other.view_is (subst (λ z. Meets g.O.Object c.args.self.now.first z (sitting c.other.inside.token) (sitting c.load.new.seat)) c.seat.view_is told)

@@ -11,10 +11,10 @@ split_seat-token-requires g c = let seen = c.seat.view_is in (
 )
 
 pub invariant_of-seat : goal.invariant_of-seat
-invariant_of-seat g c = parent_rests g.O.Object c.seat.inside.token c.split_seat-token.new.seat c.seat.inside.made c.seat.invariant (ap (λ z. z.is_root) c.seat.view_is ∙ c.requires.root) c.split_seat-token.ensures.2
+invariant_of-seat g c = parent_rests g.O.Object c.seat.inside.token c.split_seat-token.new.seat c.seat.inside.made c.seat.inside.count c.seat.invariant (ap (λ z. z.is_root) c.seat.view_is ∙ c.requires.root) c.split_seat-token.ensures.2
 
 pub invariant_of-result : goal.invariant_of-result
-invariant_of-result g c = child_rests g.O.Object c.seat.inside.token c.split_seat-token.result c.seat.inside.made c.seat.invariant (ap (λ z. z.is_root) c.seat.view_is ∙ c.requires.root) c.split_seat-token.ensures.4
+invariant_of-result g c = child_rests g.O.Object c.seat.inside.token c.split_seat-token.result c.seat.inside.made c.seat.inside.count c.seat.invariant (ap (λ z. z.is_root) c.seat.view_is ∙ c.requires.root) c.split_seat-token.ensures.4
 
 pub returns-clause-sound : goal.returns-clause-sound
 returns-clause-sound g c = let first = c.args.self.now.first in split_sound g.O.Object first c.seat.inside.token c.split_seat-token.new.seat c.split_seat-token.result _ (ap (λ z. z.is_root) c.seat.view_is ∙ c.requires.root)

@@ -11,8 +11,8 @@ new-requires g c = let first = c.args.first in let items = c.in_default.ensures.
     subst (λ k. Rule g.O.Object k (opening (0 ∷ 0 ∷ []) c.push.new.self.items (opening_view k))) (sym c.of-key.ensures)
     (subst (λ l. Rule g.O.Object first (opening (0 ∷ 0 ∷ []) l (opening_view first))) (sym items) (opens g.O.Object first (g.met.O.Object.opens first c.requires)))
 
-pub invariant_of-result-2 : goal.invariant_of-result-2
-invariant_of-result-2 g c = start_rests g.O.Object c.args.first c.in-Ok.made.1 c.of-key.result.value c.of-key.ensures c.in-Ok.ensures.ok.4 (g.met.O.Object.opens c.args.first c.requires)
+pub invariant_of-seat : goal.invariant_of-seat
+invariant_of-seat g c = start_rests g.O.Object c.args.first c.in-Ok.made.1 c.of-key.result.value c.of-key.ensures c.in-Ok.ensures.ok.4 (g.met.O.Object.opens c.args.first c.requires)
 
 pub returns-clause-sound : goal.returns-clause-sound
 returns-clause-sound g c = (start_rests g.O.Object c.args.first c.in-Ok.made.1 c.of-key.result.value c.of-key.ensures c.in-Ok.ensures.ok.4 (g.met.O.Object.opens c.args.first c.requires)).sound

@@ -1,0 +1,48 @@
+// Hexadecimal digits, and the surrogates among the units that numbered escapes write (Unicode, section 3.8).
+ghost use Rattle.std.specs.Prelude.{◌≡◌, ◌≤◌, IsTrue, SomeIff};
+ghost use Rattle.json_text.specs.Lexeme.{is_hex_digit, hex_value, is_high_surrogate, is_low_surrogate};
+
+/// The value of a hexadecimal digit, in either case.
+pub(crate) fn hex_digit(byte: u8) -> Option<u8>
+    ensures { SomeIff result (IsTrue (is_hex_digit byte)) (hex_value byte) }
+{
+    match byte {
+        b'0'..=b'9' => Some(byte - b'0'),
+        b'A'..=b'F' => Some(byte - b'A' + 10),
+        b'a'..=b'f' => Some(byte - b'a' + 10),
+        _ => None,
+    }
+}
+
+/// Whether a byte is a hexadecimal digit.
+pub(crate) fn is_hex(byte: u8) -> bool
+    ensures { result ≡ is_hex_digit byte }
+{
+    byte.is_ascii_digit() || (byte >= b'A' && byte <= b'F') || (byte >= b'a' && byte <= b'f')
+}
+
+/// The value of a byte that is a hexadecimal digit.
+pub(crate) fn value_of(byte: u8) -> u32
+    ensures exact { result ≡ hex_value byte }
+    ensures bound { result ≤ 255 }
+{
+    if byte.is_ascii_digit() {
+        (byte - b'0') as u32
+    } else if byte >= b'A' && byte <= b'F' {
+        (byte - b'A' + 10) as u32
+    } else {
+        byte.saturating_sub(b'a' - 10) as u32
+    }
+}
+
+pub(crate) fn is_high(unit: u32) -> bool
+    ensures { result ≡ is_high_surrogate unit }
+{
+    unit >= 0xd800 && unit <= 0xdbff
+}
+
+pub(crate) fn is_low(unit: u32) -> bool
+    ensures { result ≡ is_low_surrogate unit }
+{
+    unit >= 0xdc00 && unit <= 0xdfff
+}
