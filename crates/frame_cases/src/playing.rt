@@ -1,12 +1,10 @@
 // A case, played and compared.
 
-use crate::lines::Lines;
 use crate::messages::{play_request, play_response};
 use crate::routing::{play_error, play_routes, play_target};
-use crate::section::{Section, sections};
 use crate::sets::{is_method, play_set};
 use crate::streams::play_stream;
-use case_text::Piece;
+use case_text::{Lines, Piece, Section, sections};
 use side_base::{NoMemory, Text};
 use std::alloc::Global;
 

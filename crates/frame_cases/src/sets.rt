@@ -1,9 +1,8 @@
 // Methods and sets of them.
 
 use crate::given::named;
-use crate::lines::Lines;
-use crate::section::{Section, name_in};
 use api_routes::Methods;
+use case_text::{Lines, Section, name_in};
 use side_base::{Blob, Method, NoMemory};
 use std::alloc::Global;
 
