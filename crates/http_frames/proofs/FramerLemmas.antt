@@ -1,8 +1,6 @@
 -- What a framer's calls do to what it holds.
-use Rattle.std.proofs.Common.{◌≡◌, ℕ, ◌+◌, ◌<◌, ◌≤◌, Bool, true, false, List, [], ◌++◌, length, drop, Option, Some, None, Result, Ok, Err, ◌⊎◌, inl, inr, refl, sym, ap, ◌∙◌, subst, arith, length-append, length-drop, cond}
+use Rattle.std.proofs.Common.{◌≡◌, ℕ, ◌+◌, ◌<◌, ◌≤◌, Bool, true, false, List, [], length, drop, Some, None, Result, Ok, Err, ◌⊎◌, inl, inr, refl, sym, ap, ◌∙◌, subst, arith, length-append, length-drop}
 use Rattle.std.proofs.lemmas.List.{drop_all}
-use Rattle.std.specs.Prelude.{OnOk, OnErr}
-use Rattle.std.specs.Result.{is_ok}
 use Rattle.std.specs.declared.alloc.AllocError.{AllocError}
 use Rattle.httparse.specs.Grammar.{RequestHead, print_request}
 use Rattle.side_base.specs.declared.message.Request.{Request}
@@ -14,15 +12,13 @@ use Rattle.http_frames.specs.declared.framer.Stage.TheVariants as stage
 use Rattle.http_frames.specs.declared.turn.Turn.{Turn}
 use Rattle.http_frames.specs.declared.turn.Turn.TheVariants as turn
 use Rattle.http_frames.specs.declared.progress.Content.{Content}
-use Rattle.http_frames.specs.Framing.{State, Kept, Stands, Answers, waiting, ended, grown, fed, held, HELD_LIMIT, IsRefusal, IsNext}
+use Rattle.http_frames.specs.Framing.{State, Kept, Stands, Answers, waiting, ended, held, HELD_LIMIT, IsRefusal, IsNext}
 use Rattle.http_frames.specs.HeadRules.{HEAD_LIMIT}
 use Rattle.http_frames.specs.Framer.{kept_at, IsStage}
 use Rattle.http_frames.specs.Lines.{beginning}
 use Rattle.http_frames.specs.declared.lines.Place.{Place}
 use Rattle.http_frames.specs.Progress.{HoldsContent}
-use Rattle.http_frames.specs.Turns.{IsOpen, Holds, IsTurn, TakesTurn, Leaves}
-use Rattle.http_frames.proofs.PlaceLemmas.{place_more}
-use Rattle.http_frames.proofs.TurnLemmas.{grown_content}
+use Rattle.http_frames.specs.Turns.{Holds, IsTurn, TakesTurn, Leaves}
 
 -- what is kept of an open stream stands for these bytes exactly where they are those that were read and the rest
 pub stands_so : (pending rest : List ℕ) (continued : Bool) (next : Stage) → Holds pending rest next → Stands (waiting pending continued) (kept_at rest continued next)
@@ -155,79 +151,6 @@ gives_refusal state rest rest' others continued flag old next e is took head =
     (λ error was same.
     let again : e ≡ error = let both = ap (λ (x : Stage × Result Turn AllocError). x.1) same in cc in
     record { new = ended e; next = gives_error e (ended error) (ended e) refl (inl (ap ended (sym again))); stands = stands; room = tt })
-
--- ---- the stage is held as the bytes go on
-
-pub grown_stage : (rest more : List ℕ) (continued : Bool) (old : Stage) → IsStage rest continued old → IsStage (rest ++ more) continued old
-grown_stage rest more continued (stage.Head place) is = (is.0, place_more rest more place is.1)
-grown_stage rest more continued (stage.Content content) is = is
-grown_stage rest more continued (stage.Refused error) is = is
-
-pub grown_stands : (state : State) (rest more : List ℕ) (continued : Bool) (old : Stage) → IsOpen old → Stands state (kept_at rest continued old)
-    → Stands (fed state more) (kept_at (rest ++ more) continued old)
-grown_stands state rest more continued (stage.Head place) open_ is =
-    let P : Option FrameErr → Type 0 = λ r. Stands (grown r state more) (kept_at (rest ++ more) continued (stage.Head place)) in
-    subst P (sym is.refused) (record { pending = ap (λ (t : List ℕ). t ++ more) is.pending; continued = is.continued; refused = refl })
-grown_stands state rest more continued (stage.Content content) open_ is =
-    let P : Option FrameErr → Type 0 = λ r. Stands (grown r state more) (kept_at (rest ++ more) continued (stage.Content content)) in
-    subst P (sym is.refused) (record { pending = grown_content state.pending rest more content is.pending; continued = is.continued; refused = refl })
-grown_stands state rest more continued (stage.Refused error) open_ is = absurd open_
-
--- a refused stream takes none
-pub refused_stands : (state : State) (piece rest : List ℕ) (continued : Bool) (old : Stage) (error : FrameErr) → old ≡ stage.Refused error
-    → Stands state (kept_at rest continued old) → Stands (fed state piece) (kept_at rest continued old)
-refused_stands state piece rest continued old error is stands =
-    let K : Stage → Type 0 = λ s. Stands state (kept_at rest continued s) in
-    let was = subst K is stands in
-    let P : Option FrameErr → Type 0 = λ r. Stands (grown r state piece) (kept_at rest continued old) in
-    subst P (sym was.refused) stands
-
-pub open_of : (old : Stage) → ((error : FrameErr) → ¬ (old ≡ stage.Refused error)) → IsOpen old
-open_of (stage.Head place) other = tt
-open_of (stage.Content content) other = tt
-open_of (stage.Refused error) other = other error refl
-
--- a piece is fed, or there is no memory
-pub fed_ok : {T : Type 0} (result : Result T AllocError) (bytes old piece : List ℕ) (continued : Bool) (at : Stage) (kept : Kept) → IsOpen at
-    → kept_at old continued at ≡ kept → bytes ≡ cond (is_ok result) (old ++ piece) old
-    → OnOk result ((state : State) → Stands state kept → Stands (fed state piece) (kept_at bytes continued at))
-fed_ok (Ok x) bytes old piece continued at kept open_ was same = λ state is.
-    let V : Kept → Type 0 = λ k. Stands state k in
-    let P : List ℕ → Type 0 = λ t. Stands (fed state piece) (kept_at t continued at) in
-    subst P (sym same) (grown_stands state old piece continued at open_ (subst V (sym was) is))
-fed_ok (Err e) bytes old piece continued at kept open_ was same = tt
-
-pub fed_err : {T : Type 0} (result : Result T AllocError) (bytes old piece : List ℕ) (continued : Bool) (at : Stage) (kept : Kept)
-    → kept_at old continued at ≡ kept → bytes ≡ cond (is_ok result) (old ++ piece) old
-    → OnErr result ((state : State) → Stands state kept → Stands state (kept_at bytes continued at))
-fed_err (Ok x) bytes old piece continued at kept was same = tt
-fed_err (Err e) bytes old piece continued at kept was same = λ state is.
-    let V : Kept → Type 0 = λ k. Stands state k in
-    let P : List ℕ → Type 0 = λ t. Stands state (kept_at t continued at) in
-    subst P (sym same) (subst V (sym was) is)
-
--- no more is held then than was, and the piece
-pub fed_room : {T : Type 0} (result : Result T AllocError) (bytes old piece : List ℕ) (continued : Bool) (at : Stage) (kept : Kept)
-    → kept_at old continued at ≡ kept → bytes ≡ cond (is_ok result) (old ++ piece) old → held (kept_at bytes continued at) ≤ held kept + length piece
-fed_room result bytes old piece continued at kept was same =
-    let P : Kept → Type 0 = λ k. held (kept_at bytes continued at) ≤ held k + length piece in
-    subst P was (at_most at (longest (is_ok result) same))
-  where
-    longest : (ok : Bool) → bytes ≡ cond ok (old ++ piece) old → length bytes ≤ length old + length piece
-    longest true e = omega (arith, ap length e, length-append old piece)
-    longest false e = omega (arith, ap length e)
-
-    at_most : (s : Stage) → length bytes ≤ length old + length piece → held (kept_at bytes continued s) ≤ held (kept_at old continued s) + length piece
-    at_most (stage.Head place) few = omega (arith, few)
-    at_most (stage.Content content) few = omega (arith, few)
-    at_most (stage.Refused error) few = omega (arith, few)
-
-pub grown_bytes : (bytes old piece : List ℕ) (continued : Bool) (old_stage : Stage) (ok : Bool) → IsStage old continued old_stage
-    → bytes ≡ cond ok (old ++ piece) old → IsStage bytes continued old_stage
-grown_bytes bytes old piece continued old_stage true is same =
-    let P : List ℕ → Type 0 = λ t. IsStage t continued old_stage in subst P (sym same) (grown_stage old piece continued old_stage is)
-grown_bytes bytes old piece continued old_stage false is same =
-    let P : List ℕ → Type 0 = λ t. IsStage t continued old_stage in subst P (sym same) is
 
 -- ---- what is held
 

@@ -3,6 +3,7 @@ mod ChunkStepLemmas
 mod ContentLemmas
 mod DataLemmas
 mod EndLemmas
+mod FeedLemmas
 mod FramerLemmas
 mod FrontLemmas
 mod HeadLemmas
@@ -18,6 +19,7 @@ mod ProgressLemmas
 mod RequestLemmas
 mod RowLemmas
 mod RunLemmas
+mod SentLemmas
 mod SplitLemmas
 mod StreamLemmas
 mod TargetLemmas

@@ -347,13 +347,6 @@ opens_at l m some none (inr (blank, method, target, token, uri, e)) = absurd (op
 pub no_lines : (text : List ℕ) → AreLines text 0
 no_lines text = record { within = omega arith; short = omega arith; opens = λ some. absurd (omega arith) }
 
-pub lines_more : (text more : List ℕ) (lines : ℕ) → AreLines text lines → AreLines (text ++ more) lines
-lines_more text more lines is = record {
-  within = omega (arith, is.within, length-append text more);
-  short = is.short;
-  opens = λ some. subst OpensHead (sym (take-append-le lines text more is.within)) (is.opens some);
-}
-
 -- the same of the front that a head is read in
 pub lines_front : (text : List ℕ) (lines : ℕ) → AreLines text lines → AreLines (take HEAD_LIMIT text) lines
 lines_front text lines is =

@@ -10,7 +10,7 @@ use Rattle.httparse.proofs.GrammarLemmas.{cons-append}
 use Rattle.http_frames.specs.HeadRules.{HEAD_LIMIT}
 use Rattle.http_frames.specs.Lines.{AreLines, IsInValue, IsPlace, beginning}
 use Rattle.http_frames.specs.declared.lines.Place.{Place}
-use Rattle.http_frames.proofs.OpenLemmas.{lines_of, before_feed, end_is, no_feed_none, field_no_feed, no_lines, lines_more, lines_front, partial_behind, rest_of}
+use Rattle.http_frames.proofs.OpenLemmas.{lines_of, before_feed, end_is, no_feed_none, field_no_feed, no_lines, lines_front, partial_behind, rest_of}
 
 -- in a value no section ends, and one may
 abbrev field_in : (text : List ℕ) → IsInValue text → Field
@@ -71,15 +71,6 @@ place_start text = record {
   short = omega arith;
   some = λ wrong. absurd (omega arith);
   value = λ wrong. absurd (omega arith);
-}
-
-pub place_more : (text more : List ℕ) (place : Place) → IsPlace text place → IsPlace (text ++ more) place
-place_more text more place is = record {
-  lines = lines_more text more place.lines is.lines;
-  within = omega (arith, is.within, length-append text more);
-  short = is.short;
-  some = is.some;
-  value = λ behind. subst IsInValue (ap (drop place.lines) (sym (take-append-le place.value text more is.within))) (is.value behind);
 }
 
 pub place_front : (text : List ℕ) (place : Place) → IsPlace text place → IsPlace (take HEAD_LIMIT text) place

@@ -23,7 +23,7 @@ use Rattle.http_frames.proofs.WholeLemmas.{head_some}
 
 -- ---- decimal digits
 
-all_digits : (text : List ℕ) → AllDigits 10 text → AllPass is_ascii_digit text
+pub all_digits : (text : List ℕ) → AllDigits 10 text → AllPass is_ascii_digit text
 all_digits [] is = All-nil (λ b. is_ascii_digit b ≡ true)
 all_digits (b ∷ text) is =
     let range = digit_from_value b is.0 in
@@ -37,7 +37,7 @@ digits_stay (b ∷ text) is =
     let other : is_ows b ≡ false = grind (arith, nat_tests) in
     rw other refl
 
-digits_trim : (text : List ℕ) → AllPass is_ascii_digit text → trim_ows (32 ∷ text) ≡ text
+pub digits_trim : (text : List ℕ) → AllPass is_ascii_digit text → trim_ows (32 ∷ text) ≡ text
 digits_trim text is = trim_ows_space text (digits_stay text is) (digits_stay (reverse text) (AllPass-reverse is_ascii_digit text is))
 
 digits_value_bytes : (text : List ℕ) → AllPass is_ascii_digit text → AllPass is_value_byte text
@@ -80,7 +80,7 @@ head_for method target content = record {
 prints_field : (field : Field) → print_field (line_of field) ≡ field_line field
 prints_field field = ap (λ (t : List ℕ). t ++ line_end) (sym (append_assoc field.name (codes ": ") field.value))
 
-prints_fields : (fields : List Field) → flat_map print_field (map line_of fields) ≡ flat_map field_line fields
+pub prints_fields : (fields : List Field) → flat_map print_field (map line_of fields) ≡ flat_map field_line fields
 prints_fields [] = refl
 prints_fields (field ∷ fields) =
     ap (λ (t : List ℕ). t ++ flat_map print_field (map line_of fields)) (prints_field field) ∙ ap (λ (t : List ℕ). field_line field ++ t) (prints_fields fields)
@@ -100,7 +100,7 @@ host_valid = record {
   raw = AllPass-from_list_all is_value_byte (32 ∷ codes "a") refl;
 }
 
-length_valid : (len : ℕ) → AllPass is_ascii_digit (decimal len) → IsField (line_of (length_field len))
+pub length_valid : (len : ℕ) → AllPass is_ascii_digit (decimal len) → IsField (line_of (length_field len))
 unfolding is_token_byte
 length_valid len digits = record {
   name = (omega arith, AllPass-from_list_all is_token_byte (codes "Content-Length") refl);

@@ -14,6 +14,7 @@ pub mod Printed
 pub mod Progress
 pub mod Refusals
 pub mod Requests
+pub mod Sent
 pub mod Streams
 pub mod Turns
 pub mod ValueTest

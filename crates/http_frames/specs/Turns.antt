@@ -43,12 +43,6 @@ IsTurn pending rest continued (next, Ok turn.Need) =
 IsTurn pending rest continued (next, Ok (turn.Refused error)) = IsRefused pending error × IsQuiet pending continued
 IsTurn pending rest continued (next, Err error) = Holds pending rest next
 
--- the stream is not refused
-abbrev pub IsOpen : Stage → Type 0
-IsOpen (stage.Head place) = Unit {0}
-IsOpen (stage.Content content) = Unit {0}
-IsOpen (stage.Refused error) = ⊥
-
 -- what is left behind a turn, of which rest was not read
 abbrev pub Leaves : List ℕ → Bool → Stage × Result Turn AllocError → Type 0
 Leaves rest continued (next, Ok (turn.Request request end)) = (next ≡ stage.Head beginning) × (end ≤ length rest)

@@ -2,7 +2,7 @@ ghost use Rattle.std.specs.Prelude.{◌≡◌, ◌≤◌, ◌+◌, [], false, Is
 ghost use Rattle.http_frames.specs.Framing.{State, Stands, Answers, waiting, fed, held};
 
 use crate::lines::{Place, start};
-use crate::progress::Content;
+use crate::progress::{Content, feed_content};
 use crate::turn::{Turn, take_turn};
 use crate::{FrameErr, Step};
 use side_base::NoMemory;
@@ -61,7 +61,7 @@ impl Framer {
         }
     }
 
-    /// Takes the bytes that came. A refused stream takes none. Without memory nothing has changed.
+    /// Takes the bytes that came: those of a content that are due move into it once. A refused stream takes none. Without memory nothing has changed.
     pub fn feed(&mut self, piece: &[u8]) -> Result<(), NoMemory>
         ensures ok { OnOk result ((state : State) → Stands state self.old → Stands (fed state piece.now) self.new) }
         ensures err { OnErr result ((state : State) → Stands state self.old → Stands state self.new) }
@@ -72,6 +72,9 @@ impl Framer {
         }
         remove_front(&mut self.bytes, self.start);
         self.start = 0;
+        if let Stage::Content(content) = &mut self.stage {
+            return feed_content(&mut self.bytes, content, piece);
+        }
         self.bytes.extend_from_slice(piece)
     }
 

@@ -1,9 +1,12 @@
 //! What holds of all bytes and all requests, as functions whose contract is the law.
-ghost use Rattle.std.specs.Prelude.{◌≡◌, ◌⊎◌, ◌↔◌, ◌++◌, ◌∷◌, ℕ, [], List, false, Option, None, Result};
+ghost use Rattle.std.specs.Prelude.{◌≡◌, ◌⊎◌, ◌↔◌, ◌++◌, ◌∷◌, ℕ, [], List, Bool, false, Option, None, Result};
 ghost use Rattle.http_frames.specs.Framing.{State, waiting, fed, IsNext, IsNeedStep};
 ghost use Rattle.http_frames.specs.Printed.{printed, printed_request, MayBePrinted, IsOneWhole, AreWhole};
 ghost use Rattle.http_frames.specs.Streams.{Whole, IsStream, Gives, Run, HasEnded, IsFront, IsAnswerAfter, Midway, HasGiven, GoesOn};
+ghost use Rattle.http_frames.specs.Written.{written, content, continue_bytes};
+ghost use Rattle.http_frames.specs.Sent.{MayBeSent, IsOneHead, sent_fields};
 ghost use Rattle.side_base.specs.declared.message.Request.{Request};
+ghost use Rattle.side_base.specs.declared.message.Response.{Response};
 ghost use Rattle.http_frames.specs.declared.refusal.FrameErr.{FrameErr};
 ghost use Rattle.http_frames.specs.declared.step.Step.{Step};
 
@@ -75,4 +78,11 @@ pub fn printed_requests_are_whole()
 pub fn whole_requests_are_a_stream()
     ensures none { AreWhole [] [] }
     ensures more { (text rest : List ℕ) (request : Request) (requests : List Request) → IsOneWhole text request → AreWhole rest requests → AreWhole (text ++ rest) (request ∷ requests) }
+{}
+
+/// What `push_response` writes is one head of HTTP/1.1 as the grammar of responses has it, with the response's status, its phrase, its fields, the content's
+/// length and the connection's end, and then the content: for each response whose fields are valid. So are the bytes of `100 Continue`, without a field.
+pub fn written_responses_are_read()
+    ensures written { (response : Response) (head_only close : Bool) → MayBeSent response → IsOneHead (written response head_only close) response.status (sent_fields response close) (content response head_only) }
+    ensures continues { IsOneHead continue_bytes 100 [] [] }
 {}

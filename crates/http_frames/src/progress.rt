@@ -1,4 +1,4 @@
-ghost use Rattle.std.specs.Prelude.{◌≡◌, ◌≤◌, ℕ, List, Some, true, false, IfOk, MatchResult, length, drop};
+ghost use Rattle.std.specs.Prelude.{◌≡◌, ◌≤◌, ◌+◌, ◌++◌, ℕ, List, Some, true, false, IfOk, OnOk, OnErr, MatchResult, length, drop};
 ghost use Rattle.http_frames.specs.HeadRules.{is_chunked};
 ghost use Rattle.http_frames.specs.Progress.{HoldsContent, IsSound, IsProgress, EndsWithin};
 
@@ -109,4 +109,52 @@ fn take_rest(
         return Ok(Progress::Need);
     }
     Ok(Progress::Whole { len: 0 })
+}
+
+/// Takes a piece of the stream behind bytes that were not read yet. Where there are none, what is due of the content goes into the body at once, and the
+/// rest of the piece behind it is kept. Without memory nothing has changed.
+pub(crate) fn feed_content(
+    bytes: &mut Vec<u8>,
+    content: &mut Content,
+    piece: &[u8],
+) -> Result<(), NoMemory>
+    requires { IsSound content.old }
+    ensures sound { IsSound content.new }
+    ensures ok { OnOk result ((pending : List ℕ) → HoldsContent pending bytes.old.items content.old → HoldsContent (pending ++ piece.now) bytes.new.items content.new) }
+    ensures err { OnErr result ((pending : List ℕ) → HoldsContent pending bytes.old.items content.old → HoldsContent pending bytes.new.items content.new) }
+    ensures room { length bytes.new.items + length content.new.body.bytes ≤ length bytes.old.items + length content.old.body.bytes + length piece.now }
+{
+    match content.body.left {
+        Some(left) => feed_left(bytes, content, piece, left),
+        None => bytes.extend_from_slice(piece),
+    }
+}
+
+/// The same, where so many bytes of the content are due.
+fn feed_left(
+    bytes: &mut Vec<u8>,
+    content: &mut Content,
+    piece: &[u8],
+    left: usize,
+) -> Result<(), NoMemory>
+    requires sound { IsSound content.old }
+    requires left { content.old.body.left ≡ Some left }
+    ensures sound { IsSound content.new }
+    ensures ok { OnOk result ((pending : List ℕ) → HoldsContent pending bytes.old.items content.old → HoldsContent (pending ++ piece.now) bytes.new.items content.new) }
+    ensures err { OnErr result ((pending : List ℕ) → HoldsContent pending bytes.old.items content.old → HoldsContent pending bytes.new.items content.new) }
+    ensures room { length bytes.new.items + length content.new.body.bytes ≤ length bytes.old.items + length content.old.body.bytes + length piece.now }
+{
+    if !bytes.is_empty() {
+        return bytes.extend_from_slice(piece);
+    }
+    let (_, rest) = piece.split_at(left.min(piece.len()));
+    bytes.extend_from_slice(rest)?;
+    let mut at = 0;
+    match take_due(piece, &mut at, &mut content.body, left) {
+        Ok(_) => Ok(()),
+        Err(error) => {
+            bytes.clear();
+            Err(error)
+        }
+    }
 }

@@ -11,7 +11,7 @@ use crate::kind::Kind;
 use crate::lexeme::{Lexeme, meaning, next_word};
 use crate::surrogates::is_lone_at;
 use byte_lanes::{first_above, first_special};
-use simdutf8::compat::from_utf8;
+use std::str::from_utf8;
 
 /// A word that has ended: the place after it, what it means, and a place up to which the bytes after it are ASCII.
 #[derive(Clone, Copy)]

@@ -1,6 +1,6 @@
 -- Each status has its cause.
 use Rattle.std.specs.Prelude.{◌≡◌, ◌≢◌, ◌⊎◌, ℕ, ◌+◌, zero, suc, List, [], ◌∷◌, ◌++◌, length, map, Option, Some, None, IsSome, unwrap_or, Result, Ok, Err, refl}
-use Rattle.std.proofs.Common.{◌∙◌, sym, subst, ap, inl, inr, arith, true≢false}
+use Rattle.std.proofs.Common.{◌∙◌, sym, subst, ap, inl, inr, ⊎_elim, arith, true≢false}
 use Rattle.std.proofs.lemmas.List.{length-append, length-map}
 use Rattle.std.specs.Option.{option_or}
 use mathlib.Core.Option.{some, some-injective, some-ne-none}
@@ -15,7 +15,7 @@ use Rattle.policy_run.specs.Effects.{Clocked}
 use Rattle.turn_cell.specs.declared.error.Exhausted.{Exhausted}
 use Rattle.ledger_core.specs.declared.reply.LedgerReply.{LedgerReply}
 use Rattle.turn_cell.specs.declared.object.Object.{Ghosts as ObjectGhosts}
-use Rattle.turn_cell.specs.Sitting.{Begun, Sitting, root_of}
+use Rattle.turn_cell.specs.Sitting.{Begun, Sitting, root_of, either_count}
 use Rattle.turn_cell.specs.Passes.{IsRootOf, EachAlone, EachSeat, EachSound}
 use Rattle.turn_cell.proofs.Lists.{in_range, one_place, there}
 use Rattle.state_core.specs.declared.store.Store.{Store}
@@ -40,7 +40,8 @@ use Rattle.sidecar_core.specs.declared.config.Config.{Config}
 use Rattle.sidecar_core.specs.declared.objects.Objects.{Objects}
 use Rattle.sidecar_core.specs.declared.objects.Pass.{Pass}
 use Rattle.sidecar_core.specs.Composed.{lone_stays, sound_stays}
-use Rattle.sidecar_core.specs.Did.{CellsAt, IsLone, IsSoundPass, Kinds, SeatsAt, Shows, ShowsAt, Standing}
+use Rattle.sidecar_core.specs.Did.{CellsAt, IsLone, IsSoundPass, Kinds, SeatsAt, Shows, ShowsAt, Standing, spent_of}
+use Rattle.turn_pass.specs.Pass.{count_shown}
 use Rattle.sidecar_core.specs.Did as shown
 use Rattle.sidecar_core.specs.Pass.{cells_of, seats_of}
 use Rattle.sidecar_core.specs.Started.{IsStarted}
@@ -136,6 +137,34 @@ module _ {O : Type 0} (kinds : Kinds O) (cells : CellsAt O) (clock : Clocked) (c
       let well = sound_stays kinds cells (record { seats = seats; clock = clock; calls = calls; words = words }) d.events (record { seats = between; clock = clock; calls = calls; words = words }) d.went sound in
       one_shown place c.name seats between text spent later one one.result refl e still well (λ behind. counts_shown (suc place) cs between texts later seats' others behind still well)
 
+-- a seat of the list shows its first count
+shown_at : {O C R : Type 0} (seats : List (Sitting O C R)) (count : ℕ) → count_shown seats ≡ Some count → (k : ℕ) × ShowsAt k count seats
+shown_at [] count e = absurd (none_is_none e)
+shown_at {O} {C} {R} (seat ∷ seats) count e = first seat.count refl e
+  where
+    first : (read : Option ℕ) → seat.count ≡ read → either_count read (count_shown seats) ≡ Some count → (k : ℕ) × ShowsAt k count (seat ∷ seats)
+    first None is either = let later = shown_at seats count either in (suc later.0, later.1)
+    first (Some n) is either = (0, seat, refl, is ∙ either)
+
+one_of : (one other : Option ℕ) (count : ℕ) → option_or one other ≡ Some count → (one ≡ Some count) ⊎ (other ≡ Some count)
+one_of None other count e = inr e
+one_of (Some n) other count e = inl e
+
+-- a seat of the pass shows its first count
+pub spent_shown : {O : Type 0} (seats : SeatsAt O) (count : ℕ) → spent_of seats ≡ Some count → Shows seats count
+spent_shown seats count e = ⊎_elim (λ is. let at = shown_at seats.stores count is in shown.store at.0 at.1)
+    (λ later. ⊎_elim (λ is. let at = shown_at seats.ledgers count is in shown.ledger at.0 at.1)
+    (λ last. ⊎_elim (λ is. let at = shown_at seats.breakers count is in shown.breaker at.0 at.1) (λ is. shown.notes is)
+    (one_of (count_shown seats.breakers) seats.notes.count count last)) (one_of (count_shown seats.ledgers) (option_or (count_shown seats.breakers) seats.notes.count) count later))
+    (one_of (count_shown seats.stores) (option_or (count_shown seats.ledgers) (option_or (count_shown seats.breakers) seats.notes.count)) count e)
+
+-- what is spent behind a pass is shown by it, or as the ledgers are counted by it
+pub met_of : {O : Type 0} (kinds : Kinds O) (cells : CellsAt O) (clock : Clocked) (calls : Option (List LinkCall)) (words : Stream) (count : ℕ) (cs : List Loaded) (seats : SeatsAt O) (texts : List (List ℕ)) (counted : Option ℕ) (seats' : SeatsAt O)
+    → AreCountedOf kinds cells 0 cs seats texts counted seats' → IsLone cells seats → IsSoundPass kinds cells seats → option_or (spent_of seats) counted ≡ Some count → IsShown kinds cells count
+met_of kinds cells clock calls words count cs seats texts counted seats' told lone sound e =
+    ⊎_elim (λ is. record { seats = seats; lone = lone; sound = sound; shows = spent_shown seats count is })
+    (λ is. counts_shown kinds cells clock calls words count 0 cs seats texts counted seats' told is lone sound) (one_of (spent_of seats) counted count e)
+
 -- an error of a start that isn't want of memory
 abbrev pub TellsMore : KeepersErr → Type 0
 TellsMore lack.NoMemory = ⊥
@@ -201,8 +230,9 @@ module _ {D : Type 0} {disking : Keeps D} {keeping : Ghosts (AnyKeeper D disking
         let went = s.served.served.acted in
         let before : Standing (Store (AnyKeeper D disking) keeping) = record { seats = seats_of s.pass; clock = s.started.clock; calls = s.started.link; words = s.words } in
         let behind : Standing (Store (AnyKeeper D disking) keeping) = record { seats = seats_of s.after; clock = s.over.clock; calls = s.over.link; words = s.served.rest } in
-        let met = counts_shown kinds (cells_of s.objects) s.over.clock s.over.link s.served.rest count 0 _ (seats_of s.after) _ spent (seats_of s.last) s.told.counted e
-        (lone_stays kinds (cells_of s.objects) before _ behind went s.lone) (sound_stays kinds (cells_of s.objects) before _ behind went s.sound) in
+        let lone = lone_stays kinds (cells_of s.objects) before _ behind went s.lone in
+        let sound = sound_stays kinds (cells_of s.objects) before _ behind went s.sound in
+        let met = met_of kinds (cells_of s.objects) s.over.clock s.over.link s.served.rest count _ (seats_of s.after) _ s.counted (seats_of s.last) s.told.counted lone sound (sym s.spent_is ∙ e) in
         record { ended = ended; spent = spent; session = s; seats = met.seats; lone = met.lone; sound = met.sound; full = full_of kinds (cells_of s.objects) met.seats count met.lone met.sound met.shows }
 
     spent_in : {spent : Option ℕ} (count : ℕ) → HasSession disking keeping kinds world world' (ends.Spent count) spent → IsSpent disking keeping kinds world world' count
@@ -299,7 +329,9 @@ module _ {D : Type 0} {disking : Keeps D} {keeping : Ghosts (AnyKeeper D disking
       lone = begins_lone up.started;
       sound = up.sound;
       served = session.served;
+      counted = session.finished.counted;
       told = session.finished.told;
+      spent_is = session.finished.spent_is;
       before = record { source = ap (λ w. w.source) rest ∙ read.untouched.source; sink = ap (λ w. w.sink) rest ∙ read.untouched.sink };
       behind = record { source = ap (λ w. w.source) session.rest; sink = ap (λ w. w.sink) session.rest };
     })

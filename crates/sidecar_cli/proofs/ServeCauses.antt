@@ -46,7 +46,7 @@ use Rattle.sidecar_cli.specs.World.{OutsideAt, WorldAt}
 use Rattle.sidecar_cli.specs.declared.status.Device.TheVariants as device
 use Rattle.sidecar_cli.specs.declared.status.Status.{Status}
 use Rattle.sidecar_cli.specs.declared.status.Status.TheVariants as status
-use Rattle.sidecar_cli.proofs.Causes.{IsFiles, TellsMore, WhyUnread, counts_shown, full_of, none_is_none, same_count, why_unread}
+use Rattle.sidecar_cli.proofs.Causes.{IsFiles, TellsMore, WhyUnread, full_of, met_of, none_is_none, same_count, why_unread}
 use Rattle.sidecar_cli.proofs.Countings.{silent, still}
 use Rattle.sidecar_cli.proofs.Fitting.{root_started}
 use Rattle.sidecar_cli.proofs.Serves.{served_sound}
@@ -202,7 +202,7 @@ module _ {D : Type 0} {disking : Keeps D} {keeping : Ghosts (AnyKeeper D disking
   why_spent_counting : (count : ℕ) → HasServing disking keeping kinds world world' (Some count) → IsSpentInServing disking keeping kinds world world' count
   why_spent_counting count serving =
       let cells = cells_of serving.objects in
-      let met = counts_shown kinds cells still None silent count 0 _ (seats_of serving.after) _ (Some count) (seats_of serving.last) serving.told.counted refl serving.met.lone serving.sound in
+      let met = met_of kinds cells still None silent count _ (seats_of serving.after) _ serving.counted (seats_of serving.last) serving.told.counted serving.met.lone serving.sound (sym serving.spent_is) in
       record {
         spent = Some count;
         serving = serving;
@@ -259,7 +259,9 @@ module _ {D : Type 0} {disking : Keeps D} {keeping : Ghosts (AnyKeeper D disking
           met = met;
           ended = ran;
           sound = served_sound kinds (cells_of objects) config given.port words started.calls over.calls (hub_of disking keeping kinds (seats_of pass) started) (hub_of disking keeping kinds (seats_of after) over) end (root_started up.started) up.sound served.served;
+          counted = finished.counted;
           told = finished.told;
+          spent_is = finished.spent_is;
         }) refl refl)
     why_went after over end spent served opens finished (serves.unopened workers asked between few low met waits told failed (inl is)) = absurd (none_is_none (sym (subst (λ (e : End). refusal_of e ≡ None) is opens)))
     why_went after over end spent served opens finished (serves.unopened workers asked between few low met waits told failed (inr is)) = absurd (none_is_none (sym (subst (λ (e : End). refusal_of e ≡ None) is opens)))

@@ -1,5 +1,6 @@
 -- Why a run on standard input, or a check, ended with its status.
 use Rattle.std.specs.Prelude.{◌≡◌, ◌⊎◌, ℕ, ◌<◌, ◌^◌, List, [], ◌++◌, length, Option, Some, None, Ok, codes, decimal}
+use Rattle.std.specs.Option.{option_or}
 use mathlib.Core.Option.{some}
 use lib.ListN.{get_elem?}
 use Rattle.side_world.specs.declared.disk.Disk.{Ghosts as Keeps}
@@ -22,7 +23,7 @@ use Rattle.sidecar_keepers.specs.Refused.{IsRefusedAtOne}
 use Rattle.sidecar_core.specs.declared.config.Config.{Config}
 use Rattle.sidecar_core.specs.declared.objects.Objects.{Objects}
 use Rattle.sidecar_core.specs.declared.objects.Pass.{Pass}
-use Rattle.sidecar_core.specs.Did.{IsLone, IsSoundPass, Kinds, SeatsAt}
+use Rattle.sidecar_core.specs.Did.{IsLone, IsSoundPass, Kinds, SeatsAt, spent_of}
 use Rattle.sidecar_core.specs.Pass.{cells_of, seats_of}
 use Rattle.sidecar_words.specs.declared.given.Words.{Words}
 use Rattle.sidecar_cli.specs.Configured.{IsConfigured}
@@ -90,8 +91,8 @@ pub data IsFull {O : Type 0} (seats : SeatsAt O) (count : ℕ) : Type 0 where
   notes : seats.notes.count ≡ Some count → length seats.notes.seen ≡ 2 ^ 62 → IsFull seats count
 
 module _ {D : Type 0} (disking : Keeps D) (keeping : Ghosts (AnyKeeper D disking)) (kinds : Kinds (Store (AnyKeeper D disking) keeping)) where
-  -- A session was served, over objects that had just begun, and the ledgers were counted behind it: it ended so, and this was read of the first exhausted cell
-  -- of a ledger, if there is one. Nothing was read or written but by it
+  -- A session was served, over objects that had just begun, and the ledgers were counted behind it: it ended so, and this is the first count that a seat of the
+  -- pass shows behind it, or else what was read of the first exhausted cell of a ledger, if there is one. Nothing was read or written but by it
   pub record HasSession (world world' : WorldAt) (ended : Ended) (spent : Option ℕ) : Type 0 where
     pub config : Config
     pub objects : Objects (AnyKeeper D disking) keeping
@@ -104,7 +105,9 @@ module _ {D : Type 0} (disking : Keeps D) (keeping : Ghosts (AnyKeeper D disking
     pub lone : IsLone (cells_of objects) (seats_of pass)
     pub sound : IsSoundPass kinds (cells_of objects) (seats_of pass)
     pub served : IsServed disking keeping kinds config objects pass after words started over ended
-    pub told : IsTold kinds (cells_of objects) config.components (seats_of after) (seats_of last) over.note world'.note spent
+    pub counted : Option ℕ
+    pub told : IsTold kinds (cells_of objects) config.components (seats_of after) (seats_of last) over.note world'.note counted
+    pub spent_is : spent ≡ option_or (spent_of (seats_of after)) counted
     pub before : IsUntouched world started
     pub behind : IsUntouched over world'
 

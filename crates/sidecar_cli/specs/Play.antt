@@ -1,5 +1,6 @@
 -- A run on standard input: the random numbers, the resources, the keepers, the start, and one session.
 use Rattle.std.specs.Prelude.{◌≡◌, ℕ, List, [], ◌∷◌, ◌++◌, ◌⊎◌, Option, map, Ok, Err, codes, decimal}
+use Rattle.std.specs.Option.{option_or}
 use Rattle.side_world.specs.declared.disk.Disk.{Ghosts as Keeps}
 use Rattle.side_world.specs.Faults.{RoseWith}
 use Rattle.side_world.specs.Told.{Tells}
@@ -23,7 +24,7 @@ use Rattle.sidecar_keepers.specs.Refused.{Counts, IsRefused}
 use Rattle.sidecar_core.specs.declared.config.Config.{Config}
 use Rattle.sidecar_core.specs.declared.objects.Objects.{Objects}
 use Rattle.sidecar_core.specs.declared.objects.Pass.{Pass}
-use Rattle.sidecar_core.specs.Did.{IsSoundPass, Kinds, Shows, Standing, Went}
+use Rattle.sidecar_core.specs.Did.{IsSoundPass, Kinds, Shows, Standing, Went, spent_of}
 use Rattle.sidecar_core.specs.Exchange.{Exchange}
 use Rattle.sidecar_core.specs.Pass.{cells_of, seats_of}
 use Rattle.sidecar_core.specs.Started.{IsStarted}
@@ -84,10 +85,13 @@ module _ {D : Type 0} (disking : Keeps D) (keeping : Ghosts (AnyKeeper D disking
     pub calls : outside'.calls ≡ outside.calls
     pub numbers : outside'.numbers ≡ outside.numbers
 
-  -- by this pass, which is alone, the ledgers were counted and told; then the cells were closed, and the disks went back. The histories are legal, and have what the seats did
+  -- By this pass, which is alone, the ledgers were counted and told; then the cells were closed, and the disks went back. The histories are legal, and have what the seats did.
+  -- What is spent is the first count that a seat of the pass shows, or else what was read of the first exhausted cell of a ledger
   pub record IsFinished (config : Config) (objects : Objects (AnyKeeper D disking) keeping) (pass : Pass (AnyKeeper D disking) keeping) (note note' : SinkAt) (outside outside' : OutsideAt) (spent : Option ℕ) : Type 0 where
     pub last : Pass (AnyKeeper D disking) keeping
-    pub told : IsTold kinds (cells_of objects) config.components (seats_of pass) (seats_of last) note note' spent
+    pub counted : Option ℕ
+    pub told : IsTold kinds (cells_of objects) config.components (seats_of pass) (seats_of last) note note' counted
+    pub spent_is : spent ≡ option_or (spent_of (seats_of pass)) counted
     pub sound : IsSoundPass kinds (cells_of objects) (seats_of last)
     pub closed : IsClosed config objects last outside outside'
 

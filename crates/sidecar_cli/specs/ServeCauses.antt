@@ -1,5 +1,6 @@
 -- Why a run that serves on a port ended with its status.
 use Rattle.std.specs.Prelude.{◌≡◌, ◌⊎◌, ℕ, List, ◌∷◌, ◌++◌, length, All, Option, Some, None, IsSome}
+use Rattle.std.specs.Option.{option_or}
 use Rattle.side_world.specs.declared.disk.Disk.{Ghosts as Keeps}
 use Rattle.side_world.specs.Answer.{failed}
 use Rattle.side_world.specs.Faults.{Rose}
@@ -10,7 +11,7 @@ use Rattle.state_core.specs.declared.store.Store.{Store}
 use Rattle.sidecar_core.specs.declared.config.Config.{Config}
 use Rattle.sidecar_core.specs.declared.objects.Objects.{Objects}
 use Rattle.sidecar_core.specs.declared.objects.Pass.{Pass}
-use Rattle.sidecar_core.specs.Did.{IsLone, IsSoundPass, Kinds, SeatsAt}
+use Rattle.sidecar_core.specs.Did.{IsLone, IsSoundPass, Kinds, SeatsAt, spent_of}
 use Rattle.sidecar_core.specs.Pass.{cells_of, seats_of}
 use Rattle.sidecar_core.specs.Started.{IsStarted}
 use Rattle.sidecar_workers.specs.declared.exit.Exit.{Exit}
@@ -52,8 +53,8 @@ module _ {D : Type 0} (disking : Keeps D) (keeping : Ghosts (AnyKeeper D disking
   abbrev pub hub_of : SeatsAt (Store (AnyKeeper D disking) keeping) → OutsideAt → HubAt (Store (AnyKeeper D disking) keeping)
   hub_of seats outside = record { seats = seats; backs = outside.backs; faults = outside.faults }
 
-  -- Workers were opened over objects that had just begun; each ran until it ended, and was met; and the ledgers were counted behind them: this was read of the
-  -- first exhausted cell of a ledger, if there is one
+  -- Workers were opened over objects that had just begun; each ran until it ended, and was met; and the ledgers were counted behind them: this is the first
+  -- count that a seat of the pass shows that met them, or else what was read of the first exhausted cell of a ledger, if there is one
   pub record HasServing (world world' : WorldAt) (spent : Option ℕ) : Type 0 where
     pub config : Config
     pub keepers : List (AnyKeeper D disking)
@@ -70,7 +71,9 @@ module _ {D : Type 0} (disking : Keeps D) (keeping : Ghosts (AnyKeeper D disking
     pub met : WereMet config kinds (cells_of objects) words workers (hub_of (seats_of pass) started) (hub_of (seats_of after) over)
     pub ended : All (λ w. IsSome w.ended) workers
     pub sound : IsSoundPass kinds (cells_of objects) (seats_of after)
-    pub told : IsTold kinds (cells_of objects) config.components (seats_of after) (seats_of last) world.note world'.note spent
+    pub counted : Option ℕ
+    pub told : IsTold kinds (cells_of objects) config.components (seats_of after) (seats_of last) world.note world'.note counted
+    pub spent_is : spent ≡ option_or (spent_of (seats_of after)) counted
 
   -- the acceptor of a worker failed, with its last answer, and as it came back the outside's count of faults rose
   pub record HasFailedAcceptor (world world' : WorldAt) : Type 0 where
@@ -86,7 +89,7 @@ module _ {D : Type 0} (disking : Keeps D) (keeping : Ghosts (AnyKeeper D disking
     pub later : AreMet kinds (cells_of serving.objects) among.before after (hub_of (seats_of serving.after) serving.over)
     pub rose : Rose at.faults after.faults
 
-  -- this count was read by a worker that it ended, or as the ledgers were counted
+  -- this count was read by a worker that it ended, or it is shown behind all workers or was read as the ledgers were counted
   pub data IsRead (world world' : WorldAt) {spent : Option ℕ} (serving : HasServing world world' spent) (count : ℕ) : Type 0 where
     working : (w : WorkerAt (Store (AnyKeeper D disking) keeping)) → IsAmong w serving.workers → w.ended ≡ Some (exits.Spent count) → IsRead world world' serving count
     counting : spent ≡ Some count → IsRead world world' serving count

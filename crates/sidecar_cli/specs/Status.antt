@@ -74,6 +74,6 @@ abbrev pub spent_or : Option ℕ → Status → Status
 spent_or None status = status
 spent_or (Some count) status = Spent count
 
--- how a run ends whose connection ended so, and then what was read in the first exhausted cell of a ledger, if there is one
+-- how a run ends whose connection ended so, where this was read in an exhausted cell, if there is one
 abbrev pub status_after : Ended → Option ℕ → Status
 status_after ended spent = spent_or (option_or (spent_in ended) spent) (status_of ended)

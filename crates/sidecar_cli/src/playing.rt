@@ -149,8 +149,8 @@ fn served<S: Source, N: Sink, E: Sink, F: Files, L: Link, C: Clock, O: Outside, 
     )
 }
 
-/// Tells the counts of the ledgers by a pass that is alone, ends the cells, and gives the disks back. Answers what was read of the first cell of a ledger that is
-/// exhausted, if one is.
+/// Tells the counts of the ledgers by a pass that is alone, ends the cells, and gives the disks back. Answers the first count that a seat of the pass shows of an
+/// exhausted cell, or else what was read of the first cell of a ledger that is exhausted, if one is.
 pub(crate) fn finish<E: Sink, O: Outside, W: Wait>(
     rt: &W,
     shared: Shared<AnyKeeper<O::Disk>>,
@@ -166,9 +166,10 @@ pub(crate) fn finish<E: Sink, O: Outside, W: Wait>(
     requires fit { AllFit (stores_of shared.config.components) (map (λ cell. keeper_of cell.first) shared.objects.stores.items) }
     ensures { IsFinished O.Disk.Disk ⟦<AnyKeeper<O::Disk> as Keeper>⟧ ⟦<Store<AnyKeeper<O::Disk>> as ObjectKinds>⟧.kinds shared.config shared.objects pass (sink_at E.Sink note.old) (sink_at E.Sink note.new) (outside_at O.Outside outside.old) (outside_at O.Outside outside.new) result }
 {
-    let spent = tell_ledgers(rt, &shared, &mut pass, note);
+    let shown = pass.spent();
+    let counted = tell_ledgers(rt, &shared, &mut pass, note);
     close(shared, pass, room, outside);
-    spent
+    shown.or(counted)
 }
 
 /// Ends the cells by a pass that is alone, and gives the disks back.

@@ -211,7 +211,7 @@ fn refusal_of(end: End) -> Option<Status>
     }
 }
 
-/// How a run ends whose workers ended so, where this was read in the first cell of a ledger that is exhausted, if one is.
+/// How a run ends whose workers ended so, where this was read in an exhausted cell, if one is.
 fn status_after_serving(end: End, spent: Option<u64>) -> Status
     ensures { result ≡ status_after_serving end spent }
 {

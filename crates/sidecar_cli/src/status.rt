@@ -139,7 +139,7 @@ fn status_of(ended: Ended) -> Status
     }
 }
 
-/// How a run ended whose one connection ended so, where this was read in the first cell of a ledger that is exhausted, if one is.
+/// How a run ended whose one connection ended so, where this was read in an exhausted cell, if one is.
 pub(crate) fn status_after(ended: Ended, spent: Option<u64>) -> Status
     ensures { result ≡ status_after ended spent }
 {

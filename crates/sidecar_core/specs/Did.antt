@@ -1,6 +1,7 @@
 -- What events did: to the seats of a pass, to the clock, the link and the random words.
 use Rattle.std.specs.Prelude.{◌≡◌, ℕ, List, Option, Some}
 use Rattle.std.specs.List.{sum_by, flat_map}
+use Rattle.std.specs.Option.{option_or}
 use mathlib.Core.Option.{some}
 use lib.ListN.{get_elem?}
 use Rattle.rand_core.specs.Stream.{Stream, next_u64}
@@ -11,6 +12,7 @@ use Rattle.turn_cell.specs.declared.object.Object.{Ghosts}
 use Rattle.turn_cell.specs.Sitting.{Begun, Sitting, IsSeatOf, IsSound}
 use Rattle.turn_cell.specs.Passes.{IsRootOf, EachSeated, EachAlone, EachSound}
 use Rattle.turn_cell.specs.Growth.{Grew, EachGrew}
+use Rattle.turn_pass.specs.Pass.{count_shown}
 use Rattle.state_core.specs.declared.command.Cmd.{Cmd}
 use Rattle.state_core.specs.declared.reply.Reply.{Reply}
 use Rattle.ledger_core.specs.declared.ledger.Ledger.{Ledger}
@@ -111,3 +113,7 @@ pub data Shows {O : Type 0} (seats : SeatsAt O) (count : ℕ) : Type 0 where
   ledger : (k : ℕ) → ShowsAt k count seats.ledgers → Shows seats count
   breaker : (k : ℕ) → ShowsAt k count seats.breakers → Shows seats count
   notes : seats.notes.count ≡ Some count → Shows seats count
+
+-- the first count that a seat of the pass shows, of the stores, the ledgers, the breakers, then of the book
+abbrev pub spent_of : {O : Type 0} → SeatsAt O → Option ℕ
+spent_of seats = option_or (count_shown seats.stores) (option_or (count_shown seats.ledgers) (option_or (count_shown seats.breakers) seats.notes.count))

@@ -98,14 +98,14 @@ module _ (prefix : Prefix) where
   abbrev item_next : RawItem → List ℕ → Result Item What
   item_next raw key = followed (mode_of raw.concurrency) (λ mode. followed (ttl_of raw.ttl) (λ ttl. Ok (record { key = key; value = raw.value; etag = etag_of raw.etag; mode = mode; ttl = ttl })))
 
-  item_fine : (raw : RawItem) (item : Item) → item_of prefix raw ≡ Ok item → IsFine raw
+  pub item_fine : (raw : RawItem) (item : Item) → item_of prefix raw ≡ Ok item → IsFine raw
   item_fine raw item h =
       let key = followed_ok (stored_key prefix raw.key) (item_next raw) item h in
       let mode = followed_ok (mode_of raw.concurrency) (λ mode. followed (ttl_of raw.ttl) (λ ttl. Ok (record { key = key.0; value = raw.value; etag = etag_of raw.etag; mode = mode; ttl = ttl }))) item key.2 in
       let ttl = followed_ok (ttl_of raw.ttl) (λ ttl. Ok (record { key = key.0; value = raw.value; etag = etag_of raw.etag; mode = mode.0; ttl = ttl })) item mode.2 in
       record { key = key_ok prefix raw.key key.0 key.1; concurrency = mode_ok raw.concurrency mode.0 mode.1; ttl = ttl_ok raw.ttl ttl.0 ttl.1 }
 
-  item_fault : (raw : RawItem) (what : What) → item_of prefix raw ≡ Err what → IsFaultOf raw what
+  pub item_fault : (raw : RawItem) (what : What) → item_of prefix raw ≡ Err what → IsFaultOf raw what
   item_fault raw what h = elim (followed_err (stored_key prefix raw.key) (item_next raw) what h) [
     | inl is ↦ let fault = key_err prefix raw.key what is in subst (IsFaultOf raw) fault.0 fault.1
     | inr key ↦ let good = key_ok prefix raw.key key.0 key.1 in

@@ -1,5 +1,5 @@
 -- What a save means, in terms of its items and their words.
-use Rattle.std.specs.Prelude.{◌≡◌, ◌≢◌, ◌≤◌, ◌⊎◌, ℕ, List, [], ◌∷◌, ◌++◌, length, codes, decimal, Option, Some, None, Ok, Err, All}
+use Rattle.std.specs.Prelude.{◌≡◌, ◌≢◌, ◌≤◌, ◌⊎◌, ℕ, List, [], ◌∷◌, ◌++◌, length, map, codes, decimal, Option, Some, None, Ok, Err, All}
 use Rattle.side_base.specs.declared.message.Request.{Request}
 use Rattle.api_routes.specs.declared.route.Route.TheVariants as route
 use Rattle.state_core.specs.declared.command.Prefix.{Prefix}
@@ -106,3 +106,8 @@ AsksSave prefix request store items = Asks prefix request (route.Save store) (Ok
 pub record AreKeyed (prefix : Prefix) (items : List Item) : Type 0 where
   pub few : length items ≤ 1024
   pub keys : All (λ item. IsStored prefix item.key) items
+
+-- these are the items of a save, in their order: each under its key behind what the prefix puts before it, with its value
+pub record AreOf (prefix : Prefix) (raws : List RawItem) (items : List Item) : Type 0 where
+  pub keys : map (λ (item : Item). item.key) items ≡ map (λ (raw : RawItem). front_of prefix ++ raw.key) raws
+  pub values : map (λ (item : Item). item.value) items ≡ map (λ (raw : RawItem). raw.value) raws

@@ -1,17 +1,19 @@
 //! What holds of the definitions that the contracts cite, as functions whose contract is the law.
-ghost use Rattle.std.specs.Prelude.{◌≡◌, List, ℕ, Result};
+ghost use Rattle.std.specs.Prelude.{◌≡◌, ◌≤◌, ◌<◌, List, ℕ, length, Result, All};
 ghost use Rattle.side_base.specs.declared.message.Request.{Request};
 ghost use Rattle.api_routes.specs.declared.route.Route.{Route};
 ghost use Rattle.state_core.specs.declared.command.Prefix.{Prefix};
 ghost use Rattle.state_core.specs.declared.command.Cmd.{Cmd};
 ghost use Rattle.state_api.specs.declared.what.What.{What};
+ghost use Rattle.state_api.specs.declared.what.What.TheVariants.{TooMany};
+ghost use Rattle.state_api.specs.declared.raw.RawItem.{RawItem};
 ghost use Rattle.state_core.specs.declared.command.Item.{Item};
 ghost use Rattle.state_api.specs.declared.running.Ran.{Ran};
 ghost use Rattle.state_api.specs.Moment.{IsSame};
 ghost use Rattle.state_api.specs.Ran.{IsAnswer};
 ghost use Rattle.state_api.specs.Response.{IsCut, response_of};
 ghost use Rattle.state_api.specs.Asked.{Asks};
-ghost use Rattle.state_api.specs.Laws.{AreKeyed, AsksSave, IsFaultySave, IsOfWords, RefusesSave};
+ghost use Rattle.state_api.specs.Laws.{AreKeyed, AreOf, AsksSave, HasItems, IsFaultySave, IsFine, IsOfWords, RefusesSave};
 
 use json_text::laws::a_text_has_one_tree;
 
@@ -40,4 +42,13 @@ pub fn a_save_has_few_keyed_items()
 /// the first that has a fault: for its key, or else its concurrency, or else its time to live.
 pub fn a_save_is_refused_for_its_first_faulty_item()
     ensures { (prefix : Prefix) (request : Request) (store : List ℕ) (what : What) → IsOfWords what → RefusesSave prefix request store what → IsFaultySave request what }
+{}
+
+/// The other way round: a save of at most 1,024 items in whose words nothing is wrong is a command, which stores these items in their
+/// order; where an item has a fault, that of the first such item refuses the save; and more items than 1,024 refuse it, whatever their
+/// words are.
+pub fn a_save_is_refused_for_its_items_alone()
+    ensures fine { (prefix : Prefix) (request : Request) (store : List ℕ) (raws : List RawItem) → HasItems request raws → length raws ≤ 1024 → All IsFine raws → (items : List Item) × AsksSave prefix request store items × AreOf prefix raws items }
+    ensures faulty { (prefix : Prefix) (request : Request) (store : List ℕ) (what : What) → IsFaultySave request what → RefusesSave prefix request store what }
+    ensures many { (prefix : Prefix) (request : Request) (store : List ℕ) (raws : List RawItem) → HasItems request raws → 1024 < length raws → RefusesSave prefix request store TooMany }
 {}

@@ -7,5 +7,10 @@ use turn_cell::{Object, Seat};
 pub fn count_shown<O: Object>(seats: &[Seat<O>]) -> Option<u64>
     ensures { result ≡ count_shown seats.now }
 {
-    seats.iter().find_map(|seat| seat.count())
+    for seat in seats {
+        if let Some(count) = seat.count() {
+            return Some(count);
+        }
+    }
+    None
 }

@@ -1,9 +1,9 @@
 -- Steps over the lines of a block.
-use Rattle.std.proofs.Common.{◌≡◌, ℕ, zero, suc, ◌+◌, ◌-◌, ◌<◌, ◌≤◌, Bool, true, false, List, [], ◌∷◌, ◌++◌, length, take, drop, get_or, refl, sym, ap, subst, ◌∙◌, arith, append_assoc, append-nil, Some, None}
-use Rattle.std.specs.Prelude.{if◌then◌else◌}
+use Rattle.std.proofs.Common.{◌≡◌, ℕ, zero, suc, ◌+◌, ◌-◌, ◌<◌, ◌≤◌, Bool, true, false, List, [], ◌∷◌, ◌++◌, length, take, drop, get_or, refl, sym, ap, subst, ◌∙◌, arith, append_assoc, append-nil}
+use Rattle.std.specs.Prelude.{if◌then◌else◌, replicate}
 use Rattle.std.specs.Borrow.{Bor}
 use Rattle.yaml_subset.specs.Blank.{spaces_of, is_blank_line}
-use Rattle.yaml_subset.specs.Block.{in_block, block_lines, own_indent, before_blank, without_blank_end, line_text, lines_text, is_shallow, shallow_line, first_shallow}
+use Rattle.yaml_subset.specs.Block.{own_indent, in_block, block_lines, blank_lead, is_empty_line, before_empty, without_empty_end, lines_text, text_behind}
 use Rattle.yaml_subset.specs.Texts.{texts}
 
 pub line_at : (k : ℕ) (lines : List (Bor (List ℕ))) (d : Bor (List ℕ)) → k < length lines → texts (drop k lines) ≡ (get_or lines k d).now ∷ texts (drop (k + 1) lines)
@@ -91,10 +91,10 @@ pub own_end : (k : ℕ) (lines : List (Bor (List ℕ))) → length lines ≤ k �
 unfolding own_indent
 own_end k lines h = ap own_indent (line_end k lines h)
 
-pub text_on : (indent k : ℕ) (lines : List (Bor (List ℕ))) (d : Bor (List ℕ)) (text : List ℕ) → k < length lines → text ++ lines_text indent (texts (drop k lines)) ≡ ((text ++ line_text indent (get_or lines k d).now) ++ (10 ∷ [])) ++ lines_text indent (texts (drop (k + 1) lines))
+pub text_on : (indent k : ℕ) (lines : List (Bor (List ℕ))) (d : Bor (List ℕ)) (text : List ℕ) → k < length lines → text ++ lines_text indent (texts (drop k lines)) ≡ ((text ++ drop indent (get_or lines k d).now) ++ (10 ∷ [])) ++ lines_text indent (texts (drop (k + 1) lines))
 unfolding lines_text
 text_on indent k lines d text h =
-    let line : List ℕ = line_text indent (get_or lines k d).now in
+    let line : List ℕ = drop indent (get_or lines k d).now in
     let rest : List ℕ = lines_text indent (texts (drop (k + 1) lines)) in
     ap (λ l. text ++ lines_text indent l) (line_at k lines d h)
     ∙ sym (append_assoc text line (10 ∷ rest))
@@ -104,21 +104,6 @@ pub text_end : (indent k : ℕ) (lines : List (Bor (List ℕ))) (text : List ℕ
 unfolding lines_text
 text_end indent k lines text h = ap (λ l. text ++ lines_text indent l) (line_end k lines h) ∙ append-nil text
 
-pub shallow_on : (indent number k : ℕ) (lines : List (Bor (List ℕ))) (d : Bor (List ℕ)) → k < length lines → is_shallow indent (get_or lines k d).now ≡ false → first_shallow indent (number + k) (texts (drop k lines)) ≡ first_shallow indent (number + (k + 1)) (texts (drop (k + 1) lines))
-unfolding first_shallow
-shallow_on indent number k lines d h b = ap (first_shallow indent (number + k)) (line_at k lines d h) ∙ rw b (ap (λ n. first_shallow indent n (texts (drop (k + 1) lines))) next)
-  where
-    next : number + k + 1 ≡ number + (k + 1)
-    next = omega arith
-
-pub shallow_here : (indent number k : ℕ) (lines : List (Bor (List ℕ))) (d : Bor (List ℕ)) → k < length lines → is_shallow indent (get_or lines k d).now ≡ true → first_shallow indent (number + k) (texts (drop k lines)) ≡ Some (shallow_line (number + k) (get_or lines k d).now)
-unfolding first_shallow
-shallow_here indent number k lines d h b = ap (first_shallow indent (number + k)) (line_at k lines d h) ∙ rw b
-
-pub shallow_end : (indent number k : ℕ) (lines : List (Bor (List ℕ))) → length lines ≤ k → first_shallow indent (number + k) (texts (drop k lines)) ≡ None
-unfolding first_shallow
-shallow_end indent number k lines h = ap (first_shallow indent (number + k)) (line_end k lines h)
-
 -- the last line of the first ones
 take_last : (k : ℕ) (lines : List (Bor (List ℕ))) (d : Bor (List ℕ)) → k < length lines → texts (take (suc k) lines) ≡ texts (take k lines) ++ ((get_or lines k d).now ∷ [])
 take_last zero [] d h = absurd (omega (arith, h))
@@ -126,43 +111,74 @@ take_last zero (x ∷ xs) d h = refl
 take_last (suc k) [] d h = absurd (omega (arith, h))
 take_last (suc k) (x ∷ xs) d h = ap (λ l. x.now ∷ l) (take_last k xs d (omega (arith, h)))
 
-blank_snoc : (lines : List (List ℕ)) (line : List ℕ) → is_blank_line line ≡ true → without_blank_end (lines ++ (line ∷ [])) ≡ without_blank_end lines
-unfolding without_blank_end
-blank_snoc [] line b = rw b
-blank_snoc (x ∷ xs) line b = ap (before_blank x) (blank_snoc xs line b)
+empty_snoc : (indent : ℕ) (lines : List (List ℕ)) (line : List ℕ) → is_empty_line indent line ≡ true → without_empty_end indent (lines ++ (line ∷ [])) ≡ without_empty_end indent lines
+unfolding without_empty_end
+empty_snoc indent [] line b = rw b
+empty_snoc indent (x ∷ xs) line b = ap (before_empty indent x) (empty_snoc indent xs line b)
 
-other_snoc : (lines : List (List ℕ)) (line : List ℕ) → is_blank_line line ≡ false → without_blank_end (lines ++ (line ∷ [])) ≡ lines ++ (line ∷ [])
-unfolding without_blank_end
-other_snoc [] line b = rw b
-other_snoc (x ∷ xs) line b = ap (before_blank x) (other_snoc xs line b) ∙ whole xs
+other_snoc : (indent : ℕ) (lines : List (List ℕ)) (line : List ℕ) → is_empty_line indent line ≡ false → without_empty_end indent (lines ++ (line ∷ [])) ≡ lines ++ (line ∷ [])
+unfolding without_empty_end
+other_snoc indent [] line b = rw b
+other_snoc indent (x ∷ xs) line b = ap (before_empty indent x) (other_snoc indent xs line b) ∙ whole xs
   where
-    whole : (xs : List (List ℕ)) → before_blank x (xs ++ (line ∷ [])) ≡ x ∷ (xs ++ (line ∷ []))
+    whole : (xs : List (List ℕ)) → before_empty indent x (xs ++ (line ∷ [])) ≡ x ∷ (xs ++ (line ∷ []))
     whole [] = refl
     whole (y ∷ ys) = refl
 
-pub last_blank : (k : ℕ) (lines : List (Bor (List ℕ))) (d : Bor (List ℕ)) → 0 < k → k ≤ length lines → is_blank_line (get_or lines (k - 1) d).now ≡ true → without_blank_end (texts (take (k - 1) lines)) ≡ without_blank_end (texts (take k lines))
-last_blank zero lines d p h b = absurd (omega (arith, p))
-last_blank (suc k) lines d p h b = at less
+pub last_empty : (indent k : ℕ) (lines : List (Bor (List ℕ))) (d : Bor (List ℕ)) → 0 < k → k ≤ length lines → is_empty_line indent (get_or lines (k - 1) d).now ≡ true → without_empty_end indent (texts (take (k - 1) lines)) ≡ without_empty_end indent (texts (take k lines))
+last_empty indent zero lines d p h b = absurd (omega (arith, p))
+last_empty indent (suc k) lines d p h b = at less
   where
     less : suc k - 1 ≡ k
     less = omega arith
 
-    blank : is_blank_line (get_or lines k d).now ≡ true
-    blank = subst (λ (n : ℕ). is_blank_line (get_or lines n d).now ≡ true) less b
+    is_empty : is_empty_line indent (get_or lines k d).now ≡ true
+    is_empty = subst (λ (n : ℕ). is_empty_line indent (get_or lines n d).now ≡ true) less b
 
-    at : suc k - 1 ≡ k → without_blank_end (texts (take (suc k - 1) lines)) ≡ without_blank_end (texts (take (suc k) lines))
-    at e = ap (λ n. without_blank_end (texts (take n lines))) e ∙ sym (ap without_blank_end (take_last k lines d (omega (arith, h))) ∙ blank_snoc (texts (take k lines)) (get_or lines k d).now blank)
+    at : suc k - 1 ≡ k → without_empty_end indent (texts (take (suc k - 1) lines)) ≡ without_empty_end indent (texts (take (suc k) lines))
+    at e = ap (λ n. without_empty_end indent (texts (take n lines))) e ∙ sym (ap (without_empty_end indent) (take_last k lines d (omega (arith, h))) ∙ empty_snoc indent (texts (take k lines)) (get_or lines k d).now is_empty)
 
-pub last_other : (k : ℕ) (lines : List (Bor (List ℕ))) (d : Bor (List ℕ)) → 0 < k → k ≤ length lines → is_blank_line (get_or lines (k - 1) d).now ≡ false → texts (take k lines) ≡ without_blank_end (texts (take k lines))
-last_other zero lines d p h b = absurd (omega (arith, p))
-last_other (suc k) lines d p h b =
+pub last_other : (indent k : ℕ) (lines : List (Bor (List ℕ))) (d : Bor (List ℕ)) → 0 < k → k ≤ length lines → is_empty_line indent (get_or lines (k - 1) d).now ≡ false → texts (take k lines) ≡ without_empty_end indent (texts (take k lines))
+last_other indent zero lines d p h b = absurd (omega (arith, p))
+last_other indent (suc k) lines d p h b =
     let e = take_last k lines d (omega (arith, h)) in
-    e ∙ sym (ap without_blank_end e ∙ other_snoc (texts (take k lines)) (get_or lines k d).now (subst (λ (n : ℕ). is_blank_line (get_or lines n d).now ≡ false) less b))
+    e ∙ sym (ap (without_empty_end indent) e ∙ other_snoc indent (texts (take k lines)) (get_or lines k d).now (subst (λ (n : ℕ). is_empty_line indent (get_or lines n d).now ≡ false) less b))
   where
     less : suc k - 1 ≡ k
     less = omega arith
 
-pub none_left : (k : ℕ) (lines : List (Bor (List ℕ))) → k ≤ 0 → without_blank_end (texts (take k lines)) ≡ []
-unfolding without_blank_end
-none_left zero lines h = refl
-none_left (suc k) lines h = absurd (omega (arith, h))
+pub none_left : (indent k : ℕ) (lines : List (Bor (List ℕ))) → k ≤ 0 → without_empty_end indent (texts (take k lines)) ≡ []
+unfolding without_empty_end
+none_left indent zero lines h = refl
+none_left indent (suc k) lines h = absurd (omega (arith, h))
+
+pub lead_on : (k : ℕ) (lines : List (Bor (List ℕ))) (d : Bor (List ℕ)) → k < length lines → is_blank_line (get_or lines k d).now ≡ true → k + blank_lead (texts (drop k lines)) ≡ k + 1 + blank_lead (texts (drop (k + 1) lines))
+unfolding blank_lead
+lead_on k lines d h b =
+    let step : blank_lead (texts (drop k lines)) ≡ suc (blank_lead (texts (drop (k + 1) lines))) = ap blank_lead (line_at k lines d h) ∙ rw b in
+    omega (arith, step)
+
+pub lead_stop : (k : ℕ) (lines : List (Bor (List ℕ))) (d : Bor (List ℕ)) → k < length lines → is_blank_line (get_or lines k d).now ≡ false → k + blank_lead (texts (drop k lines)) ≡ k
+unfolding blank_lead
+lead_stop k lines d h b =
+    let step : blank_lead (texts (drop k lines)) ≡ 0 = ap blank_lead (line_at k lines d h) ∙ rw b in
+    omega (arith, step)
+
+pub lead_end : (k : ℕ) (lines : List (Bor (List ℕ))) → length lines ≤ k → k + blank_lead (texts (drop k lines)) ≡ k
+unfolding blank_lead
+lead_end k lines h =
+    let step : blank_lead (texts (drop k lines)) ≡ 0 = ap blank_lead (line_end k lines h) in
+    omega (arith, step)
+
+pub texts_drop : (k : ℕ) (lines : List (Bor (List ℕ))) → texts (drop k lines) ≡ drop k (texts lines)
+texts_drop zero lines = refl
+texts_drop (suc k) [] = refl
+texts_drop (suc k) (x ∷ xs) = texts_drop k xs
+
+pub behind_none : (empties indent : ℕ) (lines : List (Bor (List ℕ))) → length lines ≡ 0 → text_behind empties indent (texts lines) ≡ []
+behind_none empties indent [] e = refl
+behind_none empties indent (x ∷ xs) e = absurd (omega (arith, e))
+
+pub behind_some : (empties indent : ℕ) (lines : List (Bor (List ℕ))) → (length lines ≡ 0 → ⊥) → text_behind empties indent (texts lines) ≡ replicate empties 10 ++ lines_text indent (texts lines)
+behind_some empties indent [] n = absurd (n refl)
+behind_some empties indent (x ∷ xs) n = refl

@@ -12,7 +12,7 @@ use Rattle.yaml_subset.specs.Front.{Frame, Front, IsTip}
 use Rattle.yaml_subset.specs.Line.{Line}
 use Rattle.yaml_subset.specs.Reading.{Says, IsRefused}
 use Rattle.yaml_subset.specs.Refusal.{with_row, after_line}
-use Rattle.yaml_subset.specs.Held.{node_shown, entries_open, openings, Stands, StandsAfter, IsCause}
+use Rattle.yaml_subset.specs.Held.{node_shown, entries_open, openings, AreNames, Stands, StandsAfter, IsCause}
 use Rattle.yaml_subset.specs.ReadLines.{Holds, IsLinesCause}
 use Rattle.yaml_subset.proofs.Machine.{closed}
 use Rattle.yaml_subset.proofs.Whole.{nothing_yet}
@@ -27,9 +27,9 @@ pub record Halfway (reader : Reader) (left all : List Line) : Type 0 where
   pub are : AreRead before front
   pub stands : Stands reader front
 
-pub at_first : (reader : Reader) (all : List Line) → reader.nodes.items ≡ [] → reader.opened.items ≡ [] → reader.tip ≡ tips.Absent → Halfway reader all all
-unfolding entries_open openings
-at_first reader all n o t = record { before = []; front = nothing_yet; whole = refl; are = read_nothing; stands = record { nodes = ap (map node_shown) n; openings_are = o; tip = t } }
+pub at_first : (reader : Reader) (all : List Line) → reader.nodes.items ≡ [] → reader.opened.items ≡ [] → reader.names.items ≡ [] → reader.tip ≡ tips.Absent → Halfway reader all all
+unfolding entries_open openings AreNames
+at_first reader all n o a t = record { before = []; front = nothing_yet; whole = refl; are = read_nothing; stands = record { nodes = ap (map node_shown) n; openings_are = o; names_are = a; tip = t } }
 
 pub one_more : (old new : Reader) (line : Line) (left rest all : List Line) (h : Halfway old left all) → left ≡ line ∷ rest → StandsAfter new (after_line line h.front) → Halfway new rest all
 one_more old new line left rest all h e s = record {

@@ -1,9 +1,7 @@
 -- What a line adds to the entries and to what is open.
-use Rattle.std.proofs.Common.{◌≡◌, ◌≢◌, ℕ, zero, suc, ◌+◌, ◌<◌, ◌≤◌, Bool, true, false, ◌&&◌, ◌||◌, ◌==◌, List, [], ◌∷◌, ◌++◌, length, take, drop, refl, sym, ap, ◌∙◌, arith, append_assoc, append-nil, Some, None}
+use Rattle.std.proofs.Common.{◌≡◌, ◌≢◌, ℕ, zero, suc, ◌+◌, ◌≤◌, Bool, true, false, ◌&&◌, ◌||◌, ◌==◌, List, [], ◌∷◌, ◌++◌, length, take, refl, sym, ap, ◌∙◌, arith, subst, append_assoc, append-nil, Some, None}
 use Rattle.std.specs.Prelude.{nat_lt, if◌then◌else◌, map, bytes_eq}
-use Rattle.std.specs.List.{list_any}
 use Rattle.std.proofs.lemmas.List.{length-append}
-use Rattle.std.proofs.lemmas.Bool.{false_from_ne_true}
 use Rattle.std.proofs.lemmas.Bool.Decides.{Decides-eqb}
 use Rattle.yaml_subset.specs.declared.kind.PartKind.{PartKind}
 use Rattle.yaml_subset.specs.declared.kind.PartKind.TheVariants as kinds
@@ -12,12 +10,14 @@ use Rattle.yaml_subset.specs.declared.open.Holder.{Holder}
 use Rattle.yaml_subset.specs.declared.open.Holder.TheVariants as holders
 use Rattle.yaml_subset.specs.declared.open.Open.{Open}
 use Rattle.yaml_subset.specs.declared.value.Item.{Item}
-use Rattle.yaml_subset.specs.Tree.{Scalar, Leaf, What, absent, leaf, rows, Forest, empty, grows, one, append, Entry, holder_kind, leaf_entries, item_entries, row_entries, entries}
+use Rattle.yaml_subset.specs.Tree.{Scalar, Leaf, What, absent, leaf, rows, Forest, empty, grows, one, append, Entry, holder_kind, item_entries, row_entries, entries}
 use Rattle.yaml_subset.specs.Front.{Frame}
 use Rattle.yaml_subset.specs.Refusal.{is_holder, with_row, turned, may_have, name_is_taken}
-use Rattle.yaml_subset.specs.Held.{node_shown, is_row_named, entries_open, opened, openings, last_with, with_kind}
+use Rattle.yaml_subset.specs.Names.{has_name}
+use Rattle.yaml_subset.specs.Held.{node_shown, entries_open, opened, openings, AreNames, last_with, with_kind}
 use Rattle.yaml_subset.specs.Kept.{kept_count}
 use Rattle.yaml_subset.specs.Shown.{item_shown}
+use Rattle.yaml_subset.proofs.Known.{or_exchange}
 use Rattle.yaml_subset.proofs.Rows.{entries_append}
 
 pub last_snoc : (kind : PartKind) (text : List ℕ) (xs : List Entry) (e : Entry) → last_with kind text (xs ++ (e ∷ [])) ≡ xs ++ (with_kind kind text e ∷ [])
@@ -74,13 +74,35 @@ pub row_added : (d : ℕ) (before : Forest) (line : ℕ) (name : List ℕ) (what
 unfolding entries
 row_added d before line name what inner = entries_append d before (one line name what inner) ∙ ap (λ l. entries d before ++ (row_entries d line name what ++ l)) (append-nil (entries (suc d) inner))
 
+-- the names of the parts that stay open, of which the innermost has these whole rows
+pub record StayNamed (outer : List Frame) (before : Forest) (kept : List (List (List ℕ))) : Type 0 where
+  pub others : List (List (List ℕ))
+  pub own : List (List ℕ)
+  pub is : kept ≡ others ++ (own ∷ [])
+  pub has : (other : List ℕ) → has_name own other ≡ name_is_taken before other
+  pub outside : AreNames outer others
+
+names_long : (frames : List Frame) (all : List (List (List ℕ))) → AreNames frames all → length all ≡ length frames
+unfolding AreNames
+names_long [] all e = ap length e
+names_long (f ∷ outer) all named = let e = names_long outer named.0 named.4 in let s : length (named.0 ++ (named.1 ∷ [])) ≡ length named.0 + 1 = length-append named.0 (named.1 ∷ []) in let l : length all ≡ length (named.0 ++ (named.1 ∷ [])) = ap length named.2 in omega (arith, e, s, l)
+
+-- one more whole row
+taken_with : (before : Forest) (line : ℕ) (name : List ℕ) (what : What) (inner : Forest) (other : List ℕ) → name_is_taken (append before (one line name what inner)) other ≡ (bytes_eq other name || name_is_taken before other)
+unfolding append
+taken_with empty line name what inner other = refl
+taken_with (grows at first has own later) line name what inner other =
+    ap (λ b. bytes_eq other first || b) (taken_with later line name what inner other)
+    ∙ or_exchange (bytes_eq other first) (bytes_eq other name) (name_is_taken later other)
+
 -- what rows that take one more come to
 pub record TurnedTo (h : Holder) (c line : ℕ) (name : List ℕ) (frames : List Frame) (what : What) (inner : Forest) (count : ℕ) : Type 0 where
   pub outer : List Frame
   pub before : Forest
   pub is : turned h c line name frames what inner ≡ Some (record { holder = h; column = c; before = before; line = line; name = name } ∷ outer)
   pub counted : count ≡ suc (length outer)
-  pub kept : take count (openings frames) ≡ openings outer ++ (opened (record { holder = h; column = c; before = before; line = line; name = name }) outer ∷ [])
+  pub kept : take count (openings frames) ≡ openings outer ++ (opened (record { holder = h; column = c; before = before; line = line; name = name }) ∷ [])
+  pub names : (all : List (List (List ℕ))) → AreNames frames all → StayNamed outer before (take count all)
   pub split : entries_with frames what inner ≡ entries_open outer (rows h c) ++ entries (length outer) before
 
 take_snoc : {T : Type 0} (xs ys : List T) → take (length xs) (xs ++ ys) ≡ xs
@@ -90,7 +112,7 @@ take_snoc (x ∷ xs) ys = ap (λ l. x ∷ l) (take_snoc xs ys)
 openings_long : (frames : List Frame) → length (openings frames) ≡ length frames
 unfolding openings
 openings_long [] = refl
-openings_long (f ∷ outer) = let e = openings_long outer in let l : length (openings outer ++ (opened f outer ∷ [])) ≡ length (openings outer) + 1 = length-append (openings outer) (opened f outer ∷ []) in omega (arith, e, l)
+openings_long (f ∷ outer) = let e = openings_long outer in let l : length (openings outer ++ (opened f ∷ [])) ≡ length (openings outer) + 1 = length-append (openings outer) (opened f ∷ []) in omega (arith, e, l)
 
 take_front : {T : Type 0} (n : ℕ) (xs ys : List T) → n ≤ length xs → take n (xs ++ ys) ≡ take n xs
 take_front zero xs ys h = refl
@@ -133,7 +155,7 @@ kept_below h c (f ∷ outer) count e = by_match (λ k. kept_below h c outer coun
     by_match again false false e = omega (arith, again e)
 
 turned_here : (f : Frame) (outer : List Frame) (h : Holder) (c line : ℕ) (name : List ℕ) (what : What) (inner : Forest) (count : ℕ) → (is_holder f.holder h && f.column == c) ≡ true → Some (suc (length outer)) ≡ Some count → TurnedTo h c line name (f ∷ outer) what inner count
-unfolding turned openings entries_with
+unfolding turned openings entries_with AreNames
 turned_here f outer h c line name what inner count m e =
     let p = both (is_holder f.holder h) (f.column == c) m in
     let same : f.holder ≡ h = same_holder f.holder h p.0 in
@@ -144,8 +166,15 @@ turned_here f outer h c line name what inner count m e =
       before = with_row f what inner;
       is = rw m (ap (λ x. Some (record { holder = x; column = f.column; before = with_row f what inner; line = line; name = name } ∷ outer)) same ∙ ap (λ x. Some (record { holder = h; column = x; before = with_row f what inner; line = line; name = name } ∷ outer)) at);
       counted = counted;
-      kept = take_all count (openings outer ++ (opened f outer ∷ [])) (omega (arith, counted, openings_long outer, length-append (openings outer) (opened f outer ∷ [])))
-          ∙ ap (λ (o : Open). openings outer ++ (o ∷ [])) (ap (λ x. record { holder = x; column = f.column; first = length (entries_open outer (rows x f.column)) }) same ∙ ap (λ x. record { holder = h; column = x; first = length (entries_open outer (rows h x)) }) at);
+      kept = take_all count (openings outer ++ (opened f ∷ [])) (omega (arith, counted, openings_long outer, length-append (openings outer) (opened f ∷ [])))
+          ∙ ap (λ (o : Open). openings outer ++ (o ∷ [])) (ap (λ x. record { holder = x; column = f.column }) same ∙ ap (λ x. record { holder = h; column = x }) at);
+      names = λ all named. record {
+        others = named.0;
+        own = named.1;
+        is = take_all count all (omega (arith, counted, names_long (f ∷ outer) all named)) ∙ named.2;
+        has = λ other. named.3 other ∙ sym (taken_with f.before f.line f.name what inner other);
+        outside = named.4;
+      };
       split = ap (λ l. entries_open outer (rows f.holder f.column) ++ l) (sym (row_added (length outer) f.before f.line f.name what inner))
           ∙ ap (λ x. entries_open outer (rows x f.column) ++ entries (length outer) (with_row f what inner)) same ∙ ap (λ x. entries_open outer (rows h x) ++ entries (length outer) (with_row f what inner)) at;
     }
@@ -165,13 +194,16 @@ closed_with f (g ∷ rest) what inner n =
     ∙ sym (append_assoc a (b ++ r) x)
 
 turned_past : (f : Frame) (outer : List Frame) (h : Holder) (c line : ℕ) (name : List ℕ) (what : What) (inner : Forest) (count : ℕ) → (is_holder f.holder h && f.column == c) ≡ false → nat_lt f.column c ≡ false → kept_count h c outer ≡ Some count → TurnedTo h c line name outer (rows f.holder f.column) (with_row f what inner) count → TurnedTo h c line name (f ∷ outer) what inner count
-unfolding turned openings kept_count
+unfolding turned openings kept_count AreNames
 turned_past f outer h c line name what inner count m l k t = record {
   outer = t.outer;
   before = t.before;
   is = rw (m, l) t.is;
   counted = t.counted;
-  kept = take_front count (openings outer) (opened f outer ∷ []) (omega (arith, kept_below h c outer count k, openings_long outer)) ∙ t.kept;
+  kept = take_front count (openings outer) (opened f ∷ []) (omega (arith, kept_below h c outer count k, openings_long outer)) ∙ t.kept;
+  names = λ all named. subst (StayNamed t.outer t.before)
+      (sym (ap (take count) named.2 ∙ take_front count named.0 (named.1 ∷ []) (omega (arith, kept_below h c outer count k, names_long outer named.0 named.4))))
+      (t.names named.0 named.4);
   split = sym (closed_with f outer what inner (some_outer outer k)) ∙ t.split;
 }
   where
@@ -201,68 +233,6 @@ turned_none (f ∷ outer) h c line name what inner e =
     by_match again false true e = refl
     by_match again false false e = again e
 
--- names of rows at one depth
-any_append : {T : Type 0} (p : T → Bool) (xs ys : List T) → list_any p (xs ++ ys) ≡ (list_any p xs || list_any p ys)
-any_append p [] ys = refl
-any_append p (x ∷ xs) ys = by_test (p x) (any_append p xs ys)
-  where
-    by_test : (b : Bool) → list_any p (xs ++ ys) ≡ (list_any p xs || list_any p ys) → (b || list_any p (xs ++ ys)) ≡ ((b || list_any p xs) || list_any p ys)
-    by_test true e = refl
-    by_test false e = e
-
-apart : (d k : ℕ) → d < k → (k == d) ≡ false
-apart d k l = false_from_ne_true (k == d) (λ t. let e : k ≡ d = (Decides-eqb k d).0 t in absurd (omega (arith, l, e)))
-
-items_deeper : (d k line : ℕ) (name : List ℕ) (items : List Scalar) → d < k → list_any (is_row_named d name) (item_entries k line items) ≡ false
-items_deeper d k line name [] l = refl
-items_deeper d k line name (item ∷ items) l = rw (apart d k l) (items_deeper d k line name items l)
-
-leaf_deeper : (d k : ℕ) (name : List ℕ) (what : What) → d < k → list_any (is_row_named d name) (leaf_entries k what) ≡ false
-leaf_deeper d k name absent l = refl
-leaf_deeper d k name (leaf line c v) l = items_deeper d k line name v.items l
-leaf_deeper d k name (rows h c) l = refl
-
-rows_deeper : (d k : ℕ) (name : List ℕ) (f : Forest) → d < k → list_any (is_row_named d name) (entries k f) ≡ false
-unfolding entries
-rows_deeper d k name empty l = refl
-rows_deeper d k name (grows line other what inner later) l =
-    let own : list_any (is_row_named d name) (row_entries k line other what) ≡ false = rw (apart d k l) (leaf_deeper d (suc k) name what (omega (arith, l))) in
-    any_append (is_row_named d name) (row_entries k line other what) (entries (suc k) inner ++ entries k later)
-    ∙ ap (λ b. b || list_any (is_row_named d name) (entries (suc k) inner ++ entries k later)) own
-    ∙ any_append (is_row_named d name) (entries (suc k) inner) (entries k later)
-    ∙ ap (λ b. b || list_any (is_row_named d name) (entries k later)) (rows_deeper d (suc k) name inner (omega (arith, l)))
-    ∙ rows_deeper d k name later l
-
-pub named_rows : (d : ℕ) (name : List ℕ) (f : Forest) → list_any (is_row_named d name) (entries d f) ≡ name_is_taken f name
-unfolding entries
-named_rows d name empty = refl
-named_rows d name (grows line other what inner later) =
-    let self : (d == d) ≡ true = (Decides-eqb d d).1 refl in
-    let own : list_any (is_row_named d name) (row_entries d line other what) ≡ bytes_eq name other = rw self (ap (λ b. bytes_eq name other || b) (leaf_deeper d (suc d) name what (omega arith)) ∙ or_false (bytes_eq name other)) in
-    any_append (is_row_named d name) (row_entries d line other what) (entries (suc d) inner ++ entries d later)
-    ∙ ap (λ b. list_any (is_row_named d name) (row_entries d line other what) || b)
-    (any_append (is_row_named d name) (entries (suc d) inner) (entries d later)
-    ∙ ap (λ b. b || list_any (is_row_named d name) (entries d later)) (rows_deeper d (suc d) name inner (omega arith))
-    ∙ named_rows d name later)
-    ∙ ap (λ b. b || name_is_taken later name) own
-  where
-    or_false : (b : Bool) → (b || false) ≡ b
-    or_false true = refl
-    or_false false = refl
-
-pub any_shown : (p : Entry → Bool) (nodes : List Node) → list_any (λ node. p (node_shown node)) nodes ≡ list_any p (map node_shown nodes)
-any_shown p [] = refl
-any_shown p (node ∷ nodes) = ap (λ b. p (node_shown node) || b) (any_shown p nodes)
-
-pub drop_shown : (n : ℕ) (nodes : List Node) → map node_shown (drop n nodes) ≡ drop n (map node_shown nodes)
-drop_shown zero nodes = refl
-drop_shown (suc n) [] = refl
-drop_shown (suc n) (node ∷ nodes) = drop_shown n nodes
-
-pub drop_front : {T : Type 0} (xs ys : List T) → drop (length xs) (xs ++ ys) ≡ ys
-drop_front [] ys = refl
-drop_front (x ∷ xs) ys = drop_front xs ys
-
 pub shown_append : (a b : List Node) → map node_shown (a ++ b) ≡ map node_shown a ++ map node_shown b
 shown_append [] b = refl
 shown_append (x ∷ a) b = ap (λ l. node_shown x ∷ l) (shown_append a b)
@@ -283,14 +253,14 @@ pub shown_length : (nodes : List Node) → length (map node_shown nodes) ≡ len
 shown_length [] = refl
 shown_length (x ∷ nodes) = ap suc (shown_length nodes)
 
-pub opened_more : (h : Holder) (c line : ℕ) (name : List ℕ) (frames : List Frame) → openings frames ++ (record { holder = h; column = c; first = length (entries_open frames (rows h c)) } ∷ []) ≡ openings (record { holder = h; column = c; before = empty; line = line; name = name } ∷ frames)
+pub opened_more : (h : Holder) (c line : ℕ) (name : List ℕ) (frames : List Frame) → openings frames ++ (record { holder = h; column = c } ∷ []) ≡ openings (record { holder = h; column = c; before = empty; line = line; name = name } ∷ frames)
 unfolding openings
 opened_more h c line name frames = refl
 
 pub turned_added : (h : Holder) (c line : ℕ) (name : List ℕ) (before : Forest) (outer : List Frame) → (entries_open outer (rows h c) ++ entries (length outer) before) ++ (record { depth = length outer; line = line; kind = kinds.Empty; name = name; text = [] } ∷ []) ≡ entries_open (record { holder = h; column = c; before = before; line = line; name = name } ∷ outer) absent
 turned_added h c line name before outer = sym (open_split (record { holder = h; column = c; before = before; line = line; name = name }) outer absent)
 
-pub opened_row : (f : Frame) (outer : List Frame) → openings outer ++ (opened f outer ∷ []) ≡ openings (f ∷ outer)
+pub opened_row : (f : Frame) (outer : List Frame) → openings outer ++ (opened f ∷ []) ≡ openings (f ∷ outer)
 unfolding openings
 opened_row f outer = refl
 

@@ -2,7 +2,6 @@
 use Rattle.std.proofs.Common.{◌≡◌, ℕ, Bool, true, false, ◌||◌, List, [], ◌∷◌, ◌++◌, length, refl, sym, ap, subst, ◌∙◌, append_assoc, append-nil, Option, Some, None, Result, Ok, Err}
 use Rattle.std.specs.Prelude.{if◌then◌else◌}
 use Rattle.yaml_subset.specs.declared.error.YamlErr.{YamlErr}
-use Rattle.yaml_subset.specs.declared.shallow.Shallow.{Shallow}
 use Rattle.yaml_subset.specs.declared.error.YamlErr.TheVariants.{Tab, LeftOut, Repeated, Scalar}
 use Rattle.yaml_subset.specs.declared.open.Holder.{Holder}
 use Rattle.yaml_subset.specs.declared.open.Holder.TheVariants as holders
@@ -10,7 +9,7 @@ use Rattle.yaml_subset.specs.Tree.{Leaf, What, rows, Forest, empty, one}
 use Rattle.yaml_subset.specs.Layout.{Mark, inside, marks, Fits}
 use Rattle.yaml_subset.specs.Front.{Frame, Front, AreOpen, IsTip, IsFront, marks_then}
 use Rattle.yaml_subset.specs.Line.{Line, Name, Value, name_in, value_in, first_of, Spelled, good, left_out, wrong, line_marks, IsGood, IsGoodName, IsGoodValue, IsClean, marks_of, AreClean}
-use Rattle.yaml_subset.specs.Refusal.{with_row, ◌>>=◌, with_start, with_parts, goes_on, byte_left_out, name_left_out, value_left_out, first_of_two, what_left_out, is_wrong, wrong_name_in, wrong_value_in, has_wrong, repeats, block_or, placed, unless_left_out, unless_goes_on, after_line}
+use Rattle.yaml_subset.specs.Refusal.{with_row, ◌>>=◌, with_start, with_parts, goes_on, byte_left_out, name_left_out, value_left_out, first_of_two, what_left_out, is_wrong, wrong_name_in, wrong_value_in, has_wrong, repeats, placed, unless_left_out, unless_goes_on, after_line}
 use Rattle.yaml_subset.specs.Reading.{Says, IsRefused}
 use Rattle.yaml_subset.proofs.Rows.{marks_append, marks_one, RowFits, fits_snoc}
 use Rattle.yaml_subset.proofs.Machine.{run, run_append, closed}
@@ -56,10 +55,6 @@ placed_clean line front next e = by_tab line.tab refl e
     ends : YamlErr → Result Front YamlErr
     ends error = Err error
 
-    by_block : (o : Option Shallow) (f : Front) → block_or f o ≡ Ok next → o ≡ None
-    by_block None f e = refl
-    by_block (Some error) f e = cc
-
     one_false : (a b : Bool) → (a || b) ≡ false → (a ≡ false) × (b ≡ false)
     one_false true b e = cc
     one_false false b e = (refl, e)
@@ -68,13 +63,13 @@ placed_clean line front next e = by_tab line.tab refl e
     two_none None b e = (refl, e)
     two_none (Some byte) b e = cc
 
-    by_right : line.tab ≡ false → what_left_out line ≡ None → (w r : Bool) (f : Front) → has_wrong line ≡ w → (if w then ends (Scalar line.number) else if r then ends (Repeated line.number) else block_or f line.block) ≡ Ok next → IsClean line
+    by_right : line.tab ≡ false → what_left_out line ≡ None → (w r : Bool) (f : Front) → has_wrong line ≡ w → (if w then ends (Scalar line.number) else if r then ends (Repeated line.number) else Ok f) ≡ Ok next → IsClean line
     by_right t o true r f h e = cc
     by_right t o false true f h e = cc
     by_right t o false false f h e =
         let w = one_false (wrong_name_in (name_in line.parts)) (wrong_value_in (value_in line.parts)) h in
         let l = two_none (name_left_out (name_in line.parts)) (value_left_out (value_in line.parts)) o in
-        record { no_tab = t; name = good_name_from (name_in line.parts) l.0 w.0; value = good_value_from (value_in line.parts) l.1 w.1; block = by_block line.block f e }
+        record { no_tab = t; name = good_name_from (name_in line.parts) l.0 w.0; value = good_value_from (value_in line.parts) l.1 w.1 }
 
     by_placed : line.tab ≡ false → what_left_out line ≡ None → (r : Result Front YamlErr) → placed line r ≡ Ok next → IsClean line
     by_placed t o (Err error) e = cc

@@ -12,6 +12,7 @@ pub mod Blocks
 pub mod Sources
 pub mod Opens
 pub mod Growth
+pub mod Known
 pub mod Causes
 pub mod Finished
 pub mod Walks

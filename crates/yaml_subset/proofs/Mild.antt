@@ -3,11 +3,10 @@ use Rattle.std.proofs.Common.{◌≡◌, ℕ, [], Bool, true, false, Option, Som
 use Rattle.std.specs.Prelude.{if◌then◌else◌}
 use Rattle.yaml_subset.specs.declared.error.YamlErr.{YamlErr}
 use Rattle.yaml_subset.specs.declared.error.YamlErr.TheVariants.{Tab, Indent, LeftOut, Repeated, Scalar, NotUtf8, NoMemory}
-use Rattle.yaml_subset.specs.declared.shallow.Shallow.{Shallow}
 use Rattle.yaml_subset.specs.declared.open.Holder.TheVariants as holders
 use Rattle.yaml_subset.specs.Front.{Front}
 use Rattle.yaml_subset.specs.Line.{Line, Name, Value, Parts, dashed, member, alone, name_in, text_said, first_of}
-use Rattle.yaml_subset.specs.Refusal.{Misplaced, too_deep, no_column, other_kind, at_line, ◌>>=◌, with_lead, with_value, with_start, with_name, with_leaf, with_parts, counts_as_level, leaf_said, goes_on, has_wrong, repeats, block_or, placed, unless_left_out, unless_goes_on, what_left_out, after_line}
+use Rattle.yaml_subset.specs.Refusal.{Misplaced, too_deep, no_column, other_kind, at_line, ◌>>=◌, with_lead, with_value, with_start, with_name, with_leaf, with_parts, counts_as_level, leaf_said, goes_on, has_wrong, repeats, placed, unless_left_out, unless_goes_on, what_left_out, after_line}
 
 -- a line is never refused as a file is
 abbrev pub IsOfLine : YamlErr → Type 0
@@ -51,17 +50,12 @@ mild_parts n (alone v) front = mild_leaf n (Some v) front
 
 mild_placed : (line : Line) (r : Result Front YamlErr) → Mild r → Mild (placed line r)
 mild_placed line (Err error) m = m
-mild_placed line (Ok front) m = by_tests (has_wrong line) (repeats (name_in line.parts) front.frames) line.block
+mild_placed line (Ok front) m = by_tests (has_wrong line) (repeats (name_in line.parts) front.frames)
   where
-    by_tab : (b : Bool) (n : ℕ) → IsOfLine (if b then Tab n else Indent n)
-    by_tab true n = tt
-    by_tab false n = tt
-
-    by_tests : (w r : Bool) (o : Option Shallow) → Mild (if w then Err (Scalar line.number) else if r then Err (Repeated line.number) else block_or front o)
-    by_tests true r o = tt
-    by_tests false true o = tt
-    by_tests false false None = tt
-    by_tests false false (Some s) = by_tab s.tab s.line
+    by_tests : (w r : Bool) → Mild (if w then Err (Scalar line.number) else if r then Err (Repeated line.number) else Ok front)
+    by_tests true r = tt
+    by_tests false true = tt
+    by_tests false false = tt
 
 mild_left : (line : Line) (o : Option ℕ) (front : Front) → Mild (unless_left_out line o front)
 mild_left line (Some byte) front = tt

@@ -39,7 +39,7 @@ not_nil (y ∷ xs) x e = absurd (omega (arith, e))
 pub openings_length : (frames : List Frame) → length (openings frames) ≡ length frames
 unfolding openings
 openings_length [] = refl
-openings_length (f ∷ outer) = let e = openings_length outer in let l : length (openings outer ++ (opened f outer ∷ [])) ≡ length (openings outer) + 1 = length-append (openings outer) (opened f outer ∷ []) in omega (arith, e, l)
+openings_length (f ∷ outer) = let e = openings_length outer in let l : length (openings outer ++ (opened f ∷ [])) ≡ length (openings outer) + 1 = length-append (openings outer) (opened f ∷ []) in omega (arith, e, l)
 
 any_append : {T : Type 0} (p : T → Bool) (xs ys : List T) → list_any p (xs ++ ys) ≡ (list_any p xs || list_any p ys)
 any_append p [] ys = refl
@@ -59,8 +59,8 @@ pub any_opening : (column : ℕ) (frames : List Frame) → list_any (λ (part : 
 unfolding openings
 any_opening column [] = refl
 any_opening column (f ∷ outer) =
-    any_append (λ (part : Open). part.column == column) (openings outer) (opened f outer ∷ [])
-    ∙ ap (λ b. b || list_any (λ (part : Open). part.column == column) (opened f outer ∷ [])) (any_opening column outer)
+    any_append (λ (part : Open). part.column == column) (openings outer) (opened f ∷ [])
+    ∙ ap (λ b. b || list_any (λ (part : Open). part.column == column) (opened f ∷ [])) (any_opening column outer)
     ∙ or_swap (has_column column outer) (f.column == column)
 
 -- the last opening is that of the innermost rows
@@ -68,18 +68,18 @@ pub record Innermost (last : Open) (outer_openings : List Open) (frames : List F
   pub f : Frame
   pub outer : List Frame
   pub are : frames ≡ f ∷ outer
-  pub last_is : last ≡ opened f outer
+  pub last_is : last ≡ opened f
   pub outer_are : outer_openings ≡ openings outer
 
 pub innermost : (last : Open) (rest : List Open) (frames : List Frame) → rest ++ (last ∷ []) ≡ openings frames → Innermost last rest frames
 unfolding openings
 innermost last rest [] e = absurd (not_nil rest last (ap length e))
-innermost last rest (f ∷ outer) e = let p = snoc_last rest (openings outer) last (opened f outer) e in record { f = f; outer = outer; are = refl; last_is = p.1; outer_are = p.0 }
+innermost last rest (f ∷ outer) e = let p = snoc_last rest (openings outer) last (opened f) e in record { f = f; outer = outer; are = refl; last_is = p.1; outer_are = p.0 }
 
 pub no_frames : (opens : List Open) (frames : List Frame) → length opens ≡ 0 → opens ≡ openings frames → frames ≡ []
 unfolding openings
 no_frames opens [] z e = refl
-no_frames opens (f ∷ outer) z e = absurd (not_nil (openings outer) (opened f outer) (sym (ap length e) ∙ z))
+no_frames opens (f ∷ outer) z e = absurd (not_nil (openings outer) (opened f) (sym (ap length e) ∙ z))
 
 -- looking for rows, from the innermost
 pub record KeptFrom (holder : Holder) (column : ℕ) (left : List Open) (frames : List Frame) : Type 0 where

@@ -7,7 +7,7 @@ use Rattle.yaml_subset.specs.Line.{Line}
 use Rattle.yaml_subset.specs.LineText.{Cut, cut_line, line_with, lines_below, holder_column}
 use Rattle.yaml_subset.specs.Contents.{contents}
 use Rattle.yaml_subset.specs.Texts.{texts}
-use Rattle.yaml_subset.proofs.Blocks.{line_at, line_end}
+use Rattle.yaml_subset.proofs.Blocks.{line_at, line_end, texts_drop}
 
 pub contents_mark : (at least : ℕ) (starts : Bool) (lines : List (Bor (List ℕ))) (d : Bor (List ℕ)) → at < length lines → is_mark (get_or lines at d).now ≡ true → contents (at + 1 + 1) true 0 0 (texts (drop (at + 1) lines)) ≡ contents (at + 1) starts least 0 (texts (drop at lines))
 unfolding contents
@@ -33,11 +33,6 @@ contents_skip number least (suc skip) starts (raw ∷ raws) = contents_skip (num
     next : number + 1 + skip ≡ number + suc skip
     next = omega arith
 
-texts_drop : (k : ℕ) (lines : List (Bor (List ℕ))) → texts (drop k lines) ≡ drop k (texts lines)
-texts_drop zero lines = refl
-texts_drop (suc k) [] = refl
-texts_drop (suc k) (x ∷ xs) = texts_drop k xs
-
 drop_none : (n : ℕ) → drop {A = List ℕ} n [] ≡ []
 drop_none zero = refl
 drop_none (suc n) = refl
@@ -53,14 +48,14 @@ drop_twice j (suc k) (x ∷ xs) = drop_twice j k xs ∙ ap (λ n. drop n (x ∷ 
     next : suc (k + j) ≡ suc k + j
     next = omega arith
 
-pub contents_take : (at least count : ℕ) (starts : Bool) (lines others : List (Bor (List ℕ))) (d : Bor (List ℕ)) (c : Cut) (line : Line) (next_least : ℕ) → at < length lines → others ≡ drop (at + 1) lines → is_mark (get_or lines at d).now ≡ false → is_passed_over (get_or lines at d).now ≡ false → c ≡ cut_line least (get_or lines at d).now (texts others) → line ≡ line_with (at + 1) starts (get_or lines at d).now (texts others) c → next_least ≡ holder_column least c.parts → count ≡ lines_below (texts others) c.block → contents (at + 1) starts least 0 (texts (drop at lines)) ≡ line ∷ contents (at + 1 + count + 1) false next_least 0 (texts (drop (at + 1 + count) lines))
+pub contents_take : (at least count : ℕ) (starts : Bool) (lines others : List (Bor (List ℕ))) (d : Bor (List ℕ)) (c : Cut) (line : Line) (next_least : ℕ) → at < length lines → others ≡ drop (at + 1) lines → is_mark (get_or lines at d).now ≡ false → is_passed_over (get_or lines at d).now ≡ false → c ≡ cut_line least (get_or lines at d).now (texts others) → line ≡ line_with (at + 1) starts (get_or lines at d).now c → next_least ≡ holder_column least c.parts → count ≡ lines_below (texts others) c.block → contents (at + 1) starts least 0 (texts (drop at lines)) ≡ line ∷ contents (at + 1 + count + 1) false next_least 0 (texts (drop (at + 1 + count) lines))
 unfolding contents
 contents_take at least count starts lines others d c line next_least h o m p e l n k =
     let raw : List ℕ = (get_or lines at d).now in
     let made = cut_line least raw (texts others) in
     ap (contents (at + 1) starts least 0) (line_at at lines d h ∙ ap (λ x. raw ∷ texts x) (sym o))
     ∙ rw (m, p) (
-    ap (λ (x : Cut). line_with (at + 1) starts raw (texts others) x ∷ contents (at + 1 + 1) false (holder_column least x.parts) (lines_below (texts others) x.block) (texts others)) (sym e)
+    ap (λ (x : Cut). line_with (at + 1) starts raw x ∷ contents (at + 1 + 1) false (holder_column least x.parts) (lines_below (texts others) x.block) (texts others)) (sym e)
     ∙ ap (λ x. x ∷ contents (at + 1 + 1) false (holder_column least c.parts) (lines_below (texts others) c.block) (texts others)) (sym l)
     ∙ ap (λ x. line ∷ contents (at + 1 + 1) false x (lines_below (texts others) c.block) (texts others)) (sym n)
     ∙ ap (λ x. line ∷ contents (at + 1 + 1) false next_least x (texts others)) (sym k)

@@ -13,4 +13,4 @@ contents number starts least (suc skip) (raw ∷ lines) = contents (number + 1) 
 contents number starts least zero (raw ∷ lines) =
     if is_mark raw then contents (number + 1) true 0 0 lines
     else if is_passed_over raw then contents (number + 1) starts least 0 lines
-    else line_with number starts raw lines (cut_line least raw lines) ∷ contents (number + 1) false (holder_column least (cut_line least raw lines).parts) (lines_below lines (cut_line least raw lines).block) lines
+    else line_with number starts raw (cut_line least raw lines) ∷ contents (number + 1) false (holder_column least (cut_line least raw lines).parts) (lines_below lines (cut_line least raw lines).block) lines

@@ -1,8 +1,9 @@
 -- How a reader's own lists stand to the front of a layout.
-use Rattle.std.specs.Prelude.{◌≡◌, ℕ, ◌&&◌, ◌==◌, bytes_eq, Bool, List, [], ◌∷◌, ◌++◌, length, map, if◌then◌else◌, Option, Some, Result, Ok, Err}
+use Rattle.std.specs.Prelude.{◌≡◌, ℕ, ◌||◌, bytes_eq, Bool, List, [], ◌∷◌, ◌++◌, length, map, if◌then◌else◌, Option, Some, Result, Ok, Err}
 use Rattle.yaml_subset.specs.declared.error.YamlErr.{YamlErr}
 use Rattle.yaml_subset.specs.declared.error.YamlErr.TheVariants.{Tab, Indent, LeftOut, Repeated, Scalar, NotUtf8, NoMemory}
-use Rattle.yaml_subset.specs.Refusal.{is_repeated, repeats}
+use Rattle.yaml_subset.specs.Refusal.{is_repeated, name_is_taken, repeats}
+use Rattle.yaml_subset.specs.Names.{has_name}
 use Rattle.yaml_subset.specs.Line.{Name}
 use Rattle.yaml_subset.specs.declared.kind.PartKind.{PartKind}
 use Rattle.yaml_subset.specs.declared.node.Node.{Node}
@@ -16,22 +17,40 @@ use Rattle.yaml_subset.specs.Front.{Frame, Front}
 abbrev pub node_shown : Node → Entry
 node_shown node = record { depth = node.depth; line = node.line; kind = node.kind; name = node.name.items; text = node.text.items }
 
--- a row this deep that has the name
-abbrev pub is_row_named : ℕ → List ℕ → Entry → Bool
-is_row_named depth name e = e.depth == depth && bytes_eq name e.name
-
 -- all rows that have begun, of which the last has this
 unfoldable pub entries_open : List Frame → What → List Entry
 entries_open [] what = []
 entries_open (f ∷ outer) what = entries_open outer (rows f.holder f.column) ++ (entries (length outer) f.before ++ row_entries (length outer) f.line f.name what)
 
-abbrev pub opened : Frame → List Frame → Open
-opened f outer = record { holder = f.holder; column = f.column; first = length (entries_open outer (rows f.holder f.column)) }
+abbrev pub opened : Frame → Open
+opened f = record { holder = f.holder; column = f.column }
 
 -- the parts that are open, the outermost first
 unfoldable pub openings : List Frame → List Open
 openings [] = []
-openings (f ∷ outer) = openings outer ++ opened f outer ∷ []
+openings (f ∷ outer) = openings outer ++ opened f ∷ []
+
+-- the names of rows that are open
+abbrev pub AreNamesOf : Frame → List (List ℕ) → Type 0
+AreNamesOf f names = (name : List ℕ) → has_name names name ≡ (bytes_eq name f.name || name_is_taken f.before name)
+
+-- those of all parts that are open, of the outermost first
+unfoldable pub AreNames : List Frame → List (List (List ℕ)) → Type 0
+AreNames [] all = all ≡ []
+AreNames (f ∷ outer) all = (others : List (List (List ℕ))) × (own : List (List ℕ)) × (all ≡ others ++ own ∷ []) × AreNamesOf f own × AreNames outer others
+
+-- a part was opened, whose first row has the name
+pub record OpensNames (old new : List (List (List ℕ))) (name : List ℕ) : Type 0 where
+  pub own : List (List ℕ)
+  pub is : new ≡ old ++ own ∷ []
+  pub has : (other : List ℕ) → has_name own other ≡ bytes_eq other name
+
+-- the last one got a row of this name
+pub record AddsName (outer : List (List (List ℕ))) (last : List (List ℕ)) (new : List (List (List ℕ))) (name : List ℕ) (was_there : Bool) : Type 0 where
+  pub own : List (List ℕ)
+  pub is : new ≡ outer ++ own ∷ []
+  pub has : (other : List ℕ) → has_name own other ≡ (bytes_eq other name || has_name last other)
+  pub told : was_there ≡ has_name last name
 
 abbrev pub tip_of : What → Tip
 tip_of absent = tips.Absent
@@ -42,6 +61,7 @@ tip_of (rows holder column) = tips.Other
 pub record Stands (reader : Reader) (front : Front) : Type 0 where
   pub nodes : map node_shown reader.nodes.items ≡ entries_open front.frames front.tip
   pub openings_are : reader.opened.items ≡ openings front.frames
+  pub names_are : AreNames front.frames reader.names.items
   pub tip : reader.tip ≡ tip_of front.tip
 
 -- entries of which the last one has this kind and text

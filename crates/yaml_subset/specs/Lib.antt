@@ -19,6 +19,7 @@ pub mod Contents
 pub mod LineShown
 pub mod Left
 pub mod Refusal
+pub mod Names
 pub mod Held
 pub mod Kept
 pub mod Reading

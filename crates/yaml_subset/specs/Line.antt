@@ -1,6 +1,5 @@
 -- A line that has content: what stands in it, each part with its column.
 use Rattle.std.specs.Prelude.{◌≡◌, ℕ, Bool, true, false, List, [], ◌∷◌, ◌++◌, Option, Some, None}
-use Rattle.yaml_subset.specs.declared.shallow.Shallow.{Shallow}
 use Rattle.yaml_subset.specs.Tree.{Leaf}
 use Rattle.yaml_subset.specs.Layout.{Mark, Says, start, item, named, value}
 
@@ -55,8 +54,6 @@ pub record Line : Type 0 where
   -- a tab stands in its indent
   pub tab : Bool
   pub parts : Parts
-  -- a line of the literal block below it that stands less deep than the block
-  pub block : Option Shallow
 
 abbrev pub mark : ℕ → ℕ → Says → Mark
 mark line column says = record { line = line; column = column; says = says }
@@ -110,7 +107,6 @@ pub record IsClean (line : Line) : Type 0 where
   pub no_tab : line.tab ≡ false
   pub name : IsGoodName (name_in line.parts)
   pub value : IsGoodValue (value_in line.parts)
-  pub block : line.block ≡ None
 
 unfoldable pub marks_of : List Line → List Mark
 marks_of [] = []

@@ -33,4 +33,4 @@ abbrev pub cut_shown : LineCut → Cut
 cut_shown c = record { tab = c.tab; parts = parts_shown c.parts; block = c.block }
 
 abbrev pub line_shown : LineHeld → Line
-line_shown l = record { number = l.number; starts = l.starts; tab = l.tab; parts = parts_shown l.parts; block = l.block }
+line_shown l = record { number = l.number; starts = l.starts; tab = l.tab; parts = parts_shown l.parts }

@@ -1,11 +1,10 @@
 -- What stands in a line that has content.
 use Rattle.std.specs.Prelude.{ℕ, ◌+◌, ◌-◌, Bool, true, false, ◌&&◌, ◌||◌, not, ◌==◌, if◌then◌else◌, List, [], ◌∷◌, length, drop, take, Option, Some, None}
-use Rattle.yaml_subset.specs.declared.shallow.Shallow.{Shallow}
 use Rattle.yaml_subset.specs.Blank.{spaces_of, whites_of, begins_with, is_tail}
 use Rattle.yaml_subset.specs.Plain.{trimmed, ends_name, colon_place, begins_plain, is_left_out}
 use Rattle.yaml_subset.specs.Quoted.{quoted_len, text_within}
 use Rattle.yaml_subset.specs.ValueText.{value_text, opens_block}
-use Rattle.yaml_subset.specs.Block.{block_lines, block_error}
+use Rattle.yaml_subset.specs.Block.{block_below}
 use Rattle.yaml_subset.specs.Line.{Spelled, good, left_out, wrong, Name, Value, Parts, dashed, member, alone, Line}
 
 abbrev pub first_byte : List ℕ → ℕ
@@ -111,17 +110,13 @@ holder_column least (dashed column (Some name) v) = name.column
 holder_column least (member name v) = name.column
 holder_column least (alone v) = least
 
-abbrev pub error_below : ℕ → List (List ℕ) → Option ℕ → Option Shallow
-error_below number lines None = None
-error_below number lines (Some least) = block_error least (number + 1) lines
-
 -- how many lines below belong to the literal block
 abbrev pub lines_below : List (List ℕ) → Option ℕ → ℕ
 lines_below lines None = 0
-lines_below lines (Some least) = length (block_lines least lines)
+lines_below lines (Some least) = length (block_below least lines)
 
 abbrev pub cut_line : ℕ → List ℕ → List (List ℕ) → Cut
 cut_line least raw lines = cut (spaces_of raw + 1) least (drop (spaces_of raw) raw) lines
 
-abbrev pub line_with : ℕ → Bool → List ℕ → List (List ℕ) → Cut → Line
-line_with number starts raw lines c = record { number = number; starts = starts; tab = begins_with 9 (drop (spaces_of raw) raw) || c.tab; parts = c.parts; block = error_below number lines c.block }
+abbrev pub line_with : ℕ → Bool → List ℕ → Cut → Line
+line_with number starts raw c = record { number = number; starts = starts; tab = begins_with 9 (drop (spaces_of raw) raw) || c.tab; parts = c.parts }

@@ -1,7 +1,6 @@
 -- Where a line may stand behind a front, and why it is refused.
 use Rattle.std.specs.Prelude.{ℕ, Bool, true, false, ◌&&◌, ◌||◌, ◌==◌, nat_lt, bytes_eq, if◌then◌else◌, List, [], ◌∷◌, length, Option, Some, None, Result, Ok, Err}
 use Rattle.yaml_subset.specs.declared.error.YamlErr.{YamlErr}
-use Rattle.yaml_subset.specs.declared.shallow.Shallow.{Shallow}
 use Rattle.yaml_subset.specs.declared.error.YamlErr.TheVariants.{Tab, Indent, LeftOut, Repeated, Scalar}
 use Rattle.yaml_subset.specs.declared.open.Holder.{Holder}
 use Rattle.yaml_subset.specs.declared.open.Holder.TheVariants as holders
@@ -196,21 +195,13 @@ abbrev pub repeats : Option Name → List Frame → Bool
 repeats None frames = false
 repeats (Some name) frames = is_repeated frames
 
--- a line that stands less deep than the literal block that it is in: a tab, or an indent that no open part has
-abbrev pub shallow_error : Shallow → YamlErr
-shallow_error s = if s.tab then Tab s.line else Indent s.line
-
-abbrev pub block_or : Front → Option Shallow → Result Front YamlErr
-block_or front (Some s) = Err (shallow_error s)
-block_or front None = Ok front
-
--- a line that is placed is refused for what is wrong in it, then for its name, then for the block below it
+-- a line that is placed is refused for what is wrong in it, then for its name
 abbrev pub placed : Line → Result Front YamlErr → Result Front YamlErr
 placed line (Err error) = Err error
 placed line (Ok front) =
     if has_wrong line then Err (Scalar line.number)
     else if repeats (name_in line.parts) front.frames then Err (Repeated line.number)
-    else block_or front line.block
+    else Ok front
 
 abbrev pub unless_left_out : Line → Option ℕ → Front → Result Front YamlErr
 unless_left_out line (Some byte) front = Err (LeftOut line.number byte)

@@ -1,8 +1,7 @@
 // What a line adds to what has been read.
-ghost use Rattle.std.specs.Prelude.{◌≡◌, ◌==◌, ◌&&◌, ◌++◌, ◌∷◌, [], ℕ, List, Some, Ok, true, false, IfOk, OnOk, bytes_eq, map, take, drop, length, if◌then◌else◌};
-ghost use Rattle.std.specs.List.{list_any};
+ghost use Rattle.std.specs.Prelude.{◌≡◌, ◌&&◌, ◌++◌, ◌∷◌, [], ℕ, List, Some, Ok, true, false, IfOk, OnOk, map, if◌then◌else◌};
 ghost use Rattle.yaml_subset.specs.Front.{Frame, Front};
-ghost use Rattle.yaml_subset.specs.Held.{Stands, node_shown, is_row_named, last_with, Led, Placed, Turned};
+ghost use Rattle.yaml_subset.specs.Held.{Stands, node_shown, last_with, Led, Placed, Turned, OpensNames, AddsName};
 ghost use Rattle.yaml_subset.specs.Kept.{kept_count};
 ghost use Rattle.yaml_subset.specs.LineShown.{value_shown};
 ghost use Rattle.yaml_subset.specs.Refusal.{is_holder, is_absent, may_begin, is_deep, turned, may_have, misplaced, misplaced_in, at_line, with_lead, with_value, counts_as_level, leaf_said, with_leaf};
@@ -12,6 +11,7 @@ ghost use Rattle.yaml_subset.specs.Tree.{absent, leaf, empty, holder_kind, item_
 use crate::error::YamlErr;
 use crate::kind::PartKind;
 use crate::line::Value;
+use crate::names::Names;
 use crate::node::Node;
 use crate::open::{Holder, Open, Tip};
 use crate::reader::Reader;
@@ -49,41 +49,38 @@ fn node_of(alloc: Global, depth: usize, line: usize, name: Vec<u8>) -> Node
     }
 }
 
-fn is_node_named(node: &Node, depth: usize, name: &[u8]) -> bool
-    ensures { result ≡ is_row_named depth name.now (node_shown node.now) }
+// Only members may not have the name of an earlier row.
+fn is_repeated_in(holder: Holder, was_there: bool) -> bool
+    ensures { result ≡ (is_holder holder Holder.Mapping && was_there) }
 {
-    node.depth == depth && name == node.name.as_slice()
-}
-
-// Whether a row this deep has that name, from the first one on.
-fn is_named(nodes: &[Node], first: usize, depth: usize, name: &[u8]) -> bool
-    ensures { result ≡ list_any (λ node. is_row_named depth name.now (node_shown node)) (drop first nodes.now) }
-{
-    nodes
-        .iter()
-        .skip(first)
-        .any(|node| is_node_named(node, depth, name))
-}
-
-// Whether an earlier member of the innermost mapping has that name.
-fn is_taken(nodes: &[Node], opened: &[Open], depth: usize, name: &[u8]) -> bool
-    ensures { (outer : List Open) (last : Open) → opened.now ≡ outer ++ last ∷ [] → result ≡ (is_holder last.holder Holder.Mapping && list_any (λ node. is_row_named depth name.now (node_shown node)) (drop last.first nodes.now)) }
-{
-    match opened.split_last() {
-        Some((part, _)) => match part.holder {
-            Holder::Mapping => is_named(nodes, part.first, depth, name),
-            Holder::File => false,
-            Holder::Sequence => false,
-        },
-        None => false,
+    match holder {
+        Holder::File => false,
+        Holder::Mapping => was_there,
+        Holder::Sequence => false,
     }
 }
 
-// The same of lists that the caller names.
-fn is_name_taken(nodes: &[Node], opened: &[Open], depth: usize, name: &[u8]) -> bool
-    ensures { (outer : List Open) (last : Open) (all : List Node) (text : List ℕ) → opened.now ≡ outer ++ last ∷ [] → nodes.now ≡ all → name.now ≡ text → result ≡ (is_holder last.holder Holder.Mapping && list_any (λ node. is_row_named depth text (node_shown node)) (drop last.first all)) }
+// A part is opened, whose first row has this name.
+fn open_names(alloc: Global, names: &mut Vec<Names>, name: &[u8]) -> Result<(), AllocError>
+    ensures { OnOk result (OpensNames names.old.items names.new.items name.now) }
 {
-    is_taken(nodes, opened, depth, name)
+    let first = Names::of(alloc, name)?;
+    names.push(first)?;
+    Ok(())
+}
+
+// The innermost part that is open gets a row of this name. Tells whether an earlier one has it.
+fn add_name(alloc: Global, names: &mut Vec<Names>, name: &[u8]) -> Result<bool, AllocError>
+    ensures { IfOk result (λ was_there. (outer : List (List (List ℕ))) (last : List (List ℕ)) → names.old.items ≡ outer ++ last ∷ [] → AddsName outer last names.new.items name.now was_there) }
+{
+    match names.pop() {
+        Some(mut last) => {
+            let was_there = last.add(alloc, name)?;
+            names.push(last)?;
+            Ok(was_there)
+        }
+        None => Ok(false),
+    }
 }
 
 fn tip_for(plain: bool) -> Tip
@@ -149,10 +146,10 @@ impl Reader {
         ensures { OnOk result ((front : Front) → Stands self.old front → front.tip ≡ absent → Stands self.new (record { frames = record { holder = row.holder; column = row.column; before = empty; line = row.line; name = row.name.items } ∷ front.frames; tip = absent })) }
     {
         set_last(&mut self.nodes, kind_of_holder(row.holder), Vec::new(alloc))?;
+        open_names(alloc, &mut self.names, &row.name)?;
         let part = Open {
             holder: row.holder,
             column: row.column,
-            first: self.nodes.len(),
         };
         let node = node_of(alloc, self.opened.len(), row.line, row.name);
         self.opened.push(part)?;
@@ -166,9 +163,11 @@ impl Reader {
         ensures { IfOk result (λ repeated. (front : Front) → Stands self.old front → kept_count row.holder row.column front.frames ≡ Some count → Turned self.new repeated (turned row.holder row.column row.line row.name.items front.frames front.tip empty)) }
     {
         self.opened.truncate(count);
-        let depth = count.saturating_sub(1);
-        let repeated = is_name_taken(&self.nodes, &self.opened, depth, &row.name);
-        self.nodes.push(node_of(alloc, depth, row.line, row.name))?;
+        self.names.truncate(count);
+        let was_there = add_name(alloc, &mut self.names, &row.name)?;
+        let repeated = is_repeated_in(row.holder, was_there);
+        let node = node_of(alloc, count.saturating_sub(1), row.line, row.name);
+        self.nodes.push(node)?;
         self.tip = Tip::Absent;
         Ok(repeated)
     }

@@ -2,7 +2,7 @@
 ghost use Rattle.std.specs.Prelude.{◌≡◌, ◌∷◌, ◌+◌, ◌<◌, ◌≤◌, ◌^◌, ◌&&◌, IsTrue, false, length, drop, Some, None, option_map, IfOk, OnOk, IfSome};
 ghost use Rattle.yaml_subset.specs.Line.{Name, Value};
 ghost use Rattle.yaml_subset.specs.LineShown.{name_shown, value_shown, parts_shown, name_end_shown, behind_shown, cut_shown, line_shown};
-ghost use Rattle.yaml_subset.specs.LineText.{first_byte, quoted_name, colon_behind, quoted_name_at, plain_name, plain_name_at, name_by, name_at, NameAt, block_from, value_at, value_behind, item_named, item_cut, line_named, is_item, cut, holder_column, error_below, lines_below, cut_line, line_with};
+ghost use Rattle.yaml_subset.specs.LineText.{lines_below as count_of_block, first_byte, quoted_name, colon_behind, quoted_name_at, plain_name, plain_name_at, name_by, name_at, NameAt, block_from, value_at, value_behind, item_named, item_cut, line_named, is_item, cut, holder_column, cut_line, line_with};
 ghost use Rattle.yaml_subset.specs.Blank.{spaces_of};
 ghost use Rattle.yaml_subset.specs.Plain.{ends_name, colon_place};
 ghost use Rattle.yaml_subset.specs.Quoted.{quoted_len, text_within};
@@ -10,11 +10,10 @@ ghost use Rattle.yaml_subset.specs.Shown.{spelled_shown};
 ghost use Rattle.yaml_subset.specs.Texts.{texts};
 
 use crate::blank::{SPACE, TAB, begins, is_tail_of, leading_spaces, leading_whites};
-use crate::block::{error_of_block, lines_of_block};
+use crate::block::lines_below;
 use crate::plain::{begins_left_out, may_be_plain, name_colon, trim};
 use crate::quoted::{quoted_length, unquoted};
 use crate::scalar::{Below, begins_block, value_of};
-use crate::shallow::Shallow;
 use crate::value::{Leaf, Spelled};
 use std::alloc::{AllocError, Global};
 
@@ -63,8 +62,6 @@ pub struct Line {
     /// A tab stands in its indent.
     pub tab: bool,
     pub parts: Parts,
-    /// A line of the literal block below it that stands less deep than the block.
-    pub block: Option<Shallow>,
 }
 
 /// A name, and how many bytes there are up to its colon and with it.
@@ -405,33 +402,15 @@ pub(crate) fn cut_of_line(
     cut_content(alloc, count + 1, &raw[count..], below)
 }
 
-fn error_in_block(number: usize, lines: &[&[u8]], block: Option<usize>) -> Option<Shallow>
-    requires { number + 1 + length lines.now < 2 ^ 64 }
-    ensures { result ≡ error_below number (texts lines.now) block }
-{
-    match block {
-        Some(least) => error_of_block(least, number + 1, lines),
-        None => None,
-    }
-}
-
 /// The line of this number, of which the cut was made.
-pub(crate) fn line_from(
-    number: usize,
-    starts: bool,
-    raw: &[u8],
-    lines: &[&[u8]],
-    cut: LineCut,
-) -> Line
-    requires { number + 1 + length lines.now < 2 ^ 64 }
-    ensures { line_shown result ≡ line_with number starts raw.now (texts lines.now) (cut_shown cut) }
+pub(crate) fn line_from(number: usize, starts: bool, raw: &[u8], cut: LineCut) -> Line
+    ensures { line_shown result ≡ line_with number starts raw.now (cut_shown cut) }
 {
     Line {
         number,
         starts,
         tab: begins(&raw[leading_spaces(raw)..], TAB) || cut.tab,
         parts: cut.parts,
-        block: error_in_block(number, lines, cut.block),
     }
 }
 
@@ -455,11 +434,11 @@ pub(crate) fn column_of_holder(least: usize, parts: &Parts) -> usize
 
 /// How many lines below belong to the literal block.
 pub(crate) fn count_below(lines: &[&[u8]], block: Option<usize>) -> usize
-    ensures exact { result ≡ lines_below (texts lines.now) block }
+    ensures exact { result ≡ count_of_block (texts lines.now) block }
     ensures inside { result ≤ length lines.now }
 {
     match block {
-        Some(least) => lines_of_block(least, lines).len(),
+        Some(least) => lines_below(least, lines).len(),
         None => 0,
     }
 }

@@ -19,6 +19,7 @@ pub(crate) fn nodes_of(alloc: Global, lines: Source<'_>) -> Result<Vec<Node>, Ya
     let mut reader = Reader {
         nodes: Vec::new(alloc),
         opened: Vec::new(alloc),
+        names: Vec::new(alloc),
         tip: Tip::Absent,
     };
     loop {

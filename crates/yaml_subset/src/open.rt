@@ -6,12 +6,11 @@ pub enum Holder {
     Sequence,
 }
 
-/// A part that is open: the column of its rows, and the place of the first one.
+/// A part that is open, with the column of its rows.
 #[derive(Clone, Copy, Debug)]
 pub struct Open {
     pub holder: Holder,
     pub column: usize,
-    pub first: usize,
 }
 
 /// What the last row has so far: nothing, a plain scalar, or another value.

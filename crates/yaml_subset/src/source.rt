@@ -69,7 +69,7 @@ impl<'a> Source<'a> {
         let cut = cut_of_line(alloc, raw, below)?;
         let least = column_of_holder(self.least, &cut.parts);
         let count = count_below(others, cut.block);
-        let line = line_from(self.at + 1, self.starts, raw, others, cut);
+        let line = line_from(self.at + 1, self.starts, raw, cut);
         self.at = self.at + 1 + count;
         self.starts = false;
         self.least = least;

@@ -1,16 +1,15 @@
 // Lines, one after the other.
-ghost use Rattle.std.specs.Prelude.{◌≡◌, ◌||◌, Some, option_map, Err, if◌then◌else◌};
+ghost use Rattle.std.specs.Prelude.{◌≡◌, ◌||◌, Some, option_map, Ok, Err, if◌then◌else◌};
 ghost use Rattle.yaml_subset.specs.Front.{Front};
 ghost use Rattle.yaml_subset.specs.Held.{Stands, Placed, IsCheck};
 ghost use Rattle.yaml_subset.specs.Line.{name_in, value_in, column_of, first_of};
 ghost use Rattle.yaml_subset.specs.LineShown.{name_shown, value_shown, parts_shown, line_shown};
-ghost use Rattle.yaml_subset.specs.Refusal.{byte_left_out, name_left_out, value_left_out, first_of_two, wrong_name_in, wrong_value_in, shallow_error, block_or, placed, with_parts, with_start, what_left_out, unless_left_out, unless_goes_on, after_line};
+ghost use Rattle.yaml_subset.specs.Refusal.{byte_left_out, name_left_out, value_left_out, first_of_two, wrong_name_in, wrong_value_in, placed, with_parts, with_start, what_left_out, unless_left_out, unless_goes_on, after_line};
 ghost use Rattle.yaml_subset.specs.Shown.{leaf_shown, spelled_shown};
 
 use crate::error::YamlErr;
 use crate::line::{Line, Name, Parts, Value};
 use crate::reader::Reader;
-use crate::shallow::Shallow;
 use crate::value::Spelled;
 use std::alloc::Global;
 
@@ -167,33 +166,15 @@ fn first_of_parts(parts: &Parts) -> u8
     }
 }
 
-fn error_of_shallow(shallow: Shallow) -> YamlErr
-    ensures { result ≡ shallow_error shallow }
-{
-    if shallow.tab {
-        YamlErr::Tab { line: shallow.line }
-    } else {
-        YamlErr::Indent { line: shallow.line }
-    }
-}
-
-fn checked(
-    number: usize,
-    wrong: bool,
-    repeated: bool,
-    block: Option<Shallow>,
-) -> Result<(), YamlErr>
-    ensures { (front : Front) → IsCheck result (if wrong then Err (YamlErr.Scalar number) else if repeated then Err (YamlErr.Repeated number) else block_or front block) front }
+fn checked(number: usize, wrong: bool, repeated: bool) -> Result<(), YamlErr>
+    ensures { (front : Front) → IsCheck result (if wrong then Err (YamlErr.Scalar number) else if repeated then Err (YamlErr.Repeated number) else Ok front) front }
 {
     if wrong {
         Err(YamlErr::Scalar { line: number })
     } else if repeated {
         Err(YamlErr::Repeated { line: number })
     } else {
-        match block {
-            Some(shallow) => Err(error_of_shallow(shallow)),
-            None => Ok(()),
-        }
+        Ok(())
     }
 }
 
@@ -204,9 +185,8 @@ impl Reader {
     {
         let wrong = has_wrong_part(&line.parts);
         let number = line.number;
-        let block = line.block;
         match self.parts(alloc, number, line.parts) {
-            Ok(repeated) => checked(number, wrong, repeated, block),
+            Ok(repeated) => checked(number, wrong, repeated),
             Err(error) => Err(error),
         }
     }

@@ -7,10 +7,10 @@ abbrev no_line : Bor (List ℕ)
 no_line = record { ref_ptr = (0, 0); now = [] }
 
 pub returns-then-not-belongs : goal.returns-then-not-belongs
-returns-then-not-belongs c = block_taken c.args.least c.loop-count.count c.args.lines.now (c.loop-count.invariant ∙ block_stop c.args.least c.loop-count.count c.args.lines.now no_line c.loop-count-test.true (sym c.belongs.ensures ∙ c.if-not-belongs.true))
+returns-then-not-belongs c = block_taken c.args.indent c.loop-count.count c.args.lines.now (c.loop-count.invariant ∙ block_stop c.args.indent c.loop-count.count c.args.lines.now no_line c.loop-count-test.true (sym c.belongs.ensures ∙ c.if-not-belongs.true))
 
 pub loop-count-preserved : goal.loop-count-preserved
-loop-count-preserved c = c.loop-count.invariant ∙ block_on c.args.least c.loop-count.count c.args.lines.now no_line c.loop-count-test.true (sym c.belongs.ensures ∙ c.if-not-belongs.false)
+loop-count-preserved c = c.loop-count.invariant ∙ block_on c.args.indent c.loop-count.count c.args.lines.now no_line c.loop-count-test.true (sym c.belongs.ensures ∙ c.if-not-belongs.false)
 
 pub returns : goal.returns
-returns c = block_whole c.args.least c.loop-count.count c.args.lines.now c.loop-count-test.false (c.loop-count.invariant ∙ block_end c.args.least c.loop-count.count c.args.lines.now c.loop-count-test.false)
+returns c = block_whole c.args.indent c.loop-count.count c.args.lines.now c.loop-count-test.false (c.loop-count.invariant ∙ block_end c.args.indent c.loop-count.count c.args.lines.now c.loop-count-test.false)

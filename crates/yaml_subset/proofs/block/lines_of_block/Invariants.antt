@@ -4,4 +4,4 @@ use Rattle.yaml_subset.specs.Texts.{texts}
 use Rattle.yaml_subset.proofs.block.lines_of_block.Given as goal
 
 abbrev pub invariant-loop-count : goal.invariant-loop-count
-invariant-loop-count l = length (block_lines l.least (texts l.lines)) ≡ l.count + length (block_lines l.least (texts (drop l.count l.lines)))
+invariant-loop-count l = length (block_lines l.indent (texts l.lines)) ≡ l.count + length (block_lines l.indent (texts (drop l.count l.lines)))

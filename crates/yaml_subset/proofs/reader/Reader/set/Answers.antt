@@ -17,5 +17,6 @@ returns c front column stands waits have =
           ∙ ap (λ n. last_with v.kind v.text (entries_open frames absent) ++ item_entries n c.args.line v.items) depth
           ∙ leaf_set c.args.line column v frames have;
       openings_are = stands.openings_are;
+      names_are = stands.names_are;
       tip = c.tip_for-self.ensures;
     }
