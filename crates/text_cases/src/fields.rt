@@ -8,9 +8,11 @@ use std::alloc::Global;
 // The two parts of a text that a byte parts.
 fn parted(text: &[u8], by: u8) -> (&[u8], &[u8]) {
     for at in 0..text.len() {
-        if text[at] == by {
-            let (front, behind) = text.split_at(at);
-            return (front, &behind[1..]);
+        let (front, behind) = text.split_at(at);
+        if let [first, rest @ ..] = behind
+            && *first == by
+        {
+            return (front, rest);
         }
     }
     (text, b"")

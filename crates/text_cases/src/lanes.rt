@@ -1,7 +1,6 @@
 // Searches over bytes, compared with plain loops.
 
 use crate::numbers::number_in;
-use crate::told::add_flag;
 use byte_lanes::{escaped_len, first_above, first_special};
 use case_text::Lines;
 
@@ -80,40 +79,36 @@ fn are_found(bytes: &[u8]) -> bool {
     escaped_len(bytes) == u128::from(plain_len(bytes))
 }
 
-// The same with this byte in place of each letter in turn.
-fn are_found_with(letters: &mut [u8], byte: u8) -> bool {
-    for place in 0..letters.len() {
-        let before = letters[place];
+// The same for a text of so many letters, with this byte in place of each in turn, and without it.
+fn are_found_with(len: usize, byte: u8) -> bool {
+    let len = len.min(LONGEST);
+    let mut letters = [b'a'; LONGEST];
+    for place in 0..len {
         letters[place] = byte;
-        let found = are_found(letters);
-        letters[place] = before;
-        if !found {
+        if !are_found(&letters[..len]) {
             return false;
         }
+        letters[place] = b'a';
     }
-    are_found(letters)
+    are_found(&letters[..len])
 }
 
-/// Whether all searches of texts of each length up to 97 that have this byte at one place, and of one with two of them, find what
-/// plain loops find.
+/// The lengths up to 97 at which not all searches of texts with this byte at one place find what plain loops find.
 pub(crate) fn add_lanes(given: &[u8], lines: &mut Lines) {
     let byte = (number_in(given) % 256) as u8;
-    let mut letters = [b'a'; LONGEST];
-    let mut found = true;
+    lines.add("differ:");
     for len in 0..=LONGEST {
-        found = found && are_found_with(&mut letters[..len], byte);
+        if !are_found_with(len, byte) {
+            lines.add_number(" ", len as u64);
+        }
     }
-    letters[31] = byte;
-    found = found && are_found_with(&mut letters, byte);
-    add_flag(lines, found);
 }
 
 /// The bytes with which not all searches of a text of 33 letters find what plain loops find, whichever letter they stand for.
 pub(crate) fn add_each_byte(lines: &mut Lines) {
-    let mut letters = [b'a'; 33];
     lines.add("differ:");
     for byte in 0..=255u8 {
-        if !are_found_with(&mut letters, byte) {
+        if !are_found_with(33, byte) {
             lines.add_number(" ", u64::from(byte));
         }
     }
