@@ -12,6 +12,11 @@ pub(crate) fn said(alloc: Global, bytes: &[u8]) -> Result<Blob, NoMemory> {
     }
 }
 
+/// Whether a word is one of these, with a space between each.
+pub(crate) fn is_among(words: &str, word: &str) -> bool {
+    words.split(' ').any(|one| one == word)
+}
+
 /// Whether there is a section of this word.
 pub(crate) fn has(sections: &[Section<'_>], word: &str) -> bool {
     name_in(sections, word).is_some()
