@@ -6,10 +6,11 @@ mod measures;
 mod requests;
 mod work;
 
+use api_routes::Routers;
 use measures::tell;
 use requests::{Asked, Kind};
 use std::{env, io};
-use work::{Part, part_named};
+use work::{Desk, Part, part_named, response};
 
 /// How many requests of each row are made, where no argument is another number.
 const REQUESTS: u32 = 1600;
@@ -81,12 +82,22 @@ fn with(wanted: Wanted, word: &str) -> Wanted {
     }
 }
 
-fn tell_row(rt: &HostRuntime, asked: Asked, wanted: Wanted) -> io::Result<()> {
+fn tell_row(rt: &HostRuntime, desk: Desk<'_>, asked: Asked, wanted: Wanted) -> io::Result<()> {
     if let Some(part) = wanted.part {
-        return tell(rt, rt.alloc(), asked, part, wanted.requests);
+        return tell(rt, desk, asked, part, wanted.requests);
     }
     for part in PARTS {
-        tell(rt, rt.alloc(), asked, part, wanted.requests)?;
+        tell(rt, desk, asked, part, wanted.requests)?;
+    }
+    Ok(())
+}
+
+fn tell_all(rt: &HostRuntime, desk: Desk<'_>, wanted: Wanted) -> io::Result<()> {
+    if let Some(asked) = wanted.row {
+        return tell_row(rt, desk, asked, wanted);
+    }
+    for asked in ROWS {
+        tell_row(rt, desk, asked, wanted)?;
     }
     Ok(())
 }
@@ -100,11 +111,12 @@ fn main(rt: HostRuntime) -> io::Result<()> {
     for word in env::args(&rt)? {
         wanted = with(wanted, word.as_str());
     }
-    if let Some(asked) = wanted.row {
-        return tell_row(&rt, asked, wanted);
-    }
-    for asked in ROWS {
-        tell_row(&rt, asked, wanted)?;
-    }
-    Ok(())
+    let routers = Routers::new(rt.alloc())?;
+    let response = response(rt.alloc())?;
+    let desk = Desk {
+        alloc: rt.alloc(),
+        routers: &routers,
+        response: &response,
+    };
+    tell_all(&rt, desk, wanted)
 }

@@ -2,7 +2,7 @@
 use api_routes::Routers;
 use http_frames::{Framer, Step, push_response};
 use httparse::Status;
-use httparse::spans::{EMPTY_HEADER_SPAN, HeaderSpan, parse_request};
+use httparse::spans::{HeaderSpan, parse_request};
 use side_base::{Blob, Field, NoMemory, Request, Response, Sequence, Text};
 use std::alloc::Global;
 
@@ -43,24 +43,18 @@ pub fn part_named(word: &str) -> Option<Part> {
     }
 }
 
-/// What the work takes: it is made once.
-#[derive(Drop)]
-pub struct Tools {
-    alloc: Global,
-    framer: Framer,
-    routers: Routers,
-    response: Response,
-    out: Blob,
+/// What the work takes beside a framer: routers, and the response that is written.
+#[derive(Clone, Copy)]
+pub struct Desk<'a> {
+    pub alloc: Global,
+    pub routers: &'a Routers,
+    pub response: &'a Response,
 }
 
 /// A response with the content of a get of 100 bytes.
-fn response(alloc: Global) -> Result<Response, NoMemory> {
+pub fn response(alloc: Global) -> Result<Response, NoMemory> {
     let mut fields = Sequence::new(alloc);
-    for (name, value) in [("Content-Type", "application/json"), ("ETag", "1")] {
-        let name = Text::from_str(alloc, name)?;
-        let value = Blob::from_bytes(alloc, value.as_bytes())?;
-        fields.push(Field { name, value })?;
-    }
+    fields.push(field(alloc, "Content-Type", b"application/json")?)?;
     Ok(Response {
         status: 200,
         fields,
@@ -68,76 +62,75 @@ fn response(alloc: Global) -> Result<Response, NoMemory> {
     })
 }
 
-impl Tools {
-    pub fn new(alloc: Global) -> Result<Tools, NoMemory> {
-        Ok(Tools {
-            alloc,
-            framer: Framer::new(alloc),
-            routers: Routers::new(alloc)?,
-            response: response(alloc)?,
-            out: Blob::new(alloc),
-        })
-    }
+fn field(alloc: Global, name: &str, value: &[u8]) -> Result<Field, NoMemory> {
+    let name = Text::from_str(alloc, name)?;
+    let value = Blob::from_bytes(alloc, value)?;
+    Ok(Field { name, value })
+}
 
-    /// Whether a request has a route.
-    fn is_found(&self, request: &Request) -> bool {
-        let target = request.target.bytes();
-        self.routers
-            .route(self.alloc, request.method, target)
-            .is_ok()
-    }
+/// Whether a request has a route.
+fn is_found(desk: Desk<'_>, request: &Request) -> bool {
+    let target = request.target.bytes();
+    desk.routers
+        .route(desk.alloc, request.method, target)
+        .is_ok()
+}
 
-    /// Whether the response is written.
-    fn is_written(&mut self) -> bool {
-        self.out.clear();
-        self.response.status = 200;
-        push_response(&mut self.out, &self.response, false, false).is_ok()
+/// Whether the response is written, in place of what stood there.
+fn is_written(response: &Response, out: &mut Blob) -> bool {
+    out.clear();
+    if response.status < 100 || response.status > 999 {
+        return false;
     }
+    push_response(out, response, false, false).is_ok()
+}
 
-    /// Whether the work with a request is done.
-    fn is_done(&mut self, part: Part, request: &Request) -> bool {
-        match part {
-            Part::Heads => false,
-            Part::Frames => true,
-            Part::Routes => self.is_found(request),
-            Part::Whole => self.is_found(request) && self.is_written(),
+/// Whether the work with a request is done.
+fn is_done(desk: Desk<'_>, part: Part, request: &Request, out: &mut Blob) -> bool {
+    match part {
+        Part::Heads => false,
+        Part::Frames => true,
+        Part::Routes => is_found(desk, request),
+        Part::Whole => is_found(desk, request) && is_written(desk.response, out),
+    }
+}
+
+/// Whether a framer gives a request; then whether the work with it is done.
+fn next(desk: Desk<'_>, part: Part, framer: &mut Framer, out: &mut Blob) -> Option<bool> {
+    match framer.next() {
+        Ok(Step::Request(request)) => Some(is_done(desk, part, &request, out)),
+        Ok(_) => None,
+        Err(_) => None,
+    }
+}
+
+/// With how many of the requests that a framer gives the work is done.
+fn count_given(desk: Desk<'_>, part: Part, framer: &mut Framer, out: &mut Blob) -> u64 {
+    let mut count: u64 = 0;
+    for _ in 0..u64::MAX {
+        match next(desk, part, framer, out) {
+            Some(done) => count = count.saturating_add(u64::from(done)),
+            None => return count,
         }
     }
+    count
+}
 
-    /// How many requests the framer gives, with which the work is done.
-    fn count_given(&mut self, part: Part) -> u64 {
-        let mut count: u64 = 0;
-        for _ in 0..u64::MAX {
-            match self.framer.next() {
-                Ok(Step::Request(request)) => {
-                    count = count.saturating_add(u64::from(self.is_done(part, &request)));
-                }
-                Ok(Step::Continue) => return count,
-                Ok(Step::Need) => return count,
-                Err(_) => return count,
-            }
-        }
-        count
-    }
-
-    /// How many requests of a piece are read, with which the work is done.
-    fn count_framed(&mut self, part: Part, piece: &[u8]) -> u64 {
-        let mut count: u64 = 0;
-        for read in piece.chunks(READ) {
-            if self.framer.feed(read).is_ok() {
-                count = count.saturating_add(self.count_given(part));
-            }
-        }
-        count
-    }
-
-    /// The same, with as many bytes behind each head, which `httparse` leaves.
-    pub fn count(&mut self, part: Part, piece: &[u8], behind: usize) -> u64 {
-        match part {
-            Part::Heads => count_heads(piece, behind, &mut [EMPTY_HEADER_SPAN; 64]),
-            part => self.count_framed(part, piece),
+/// With how many of the requests of a piece the work is done.
+pub fn count_framed(
+    desk: Desk<'_>,
+    part: Part,
+    framer: &mut Framer,
+    out: &mut Blob,
+    piece: &[u8],
+) -> u64 {
+    let mut count: u64 = 0;
+    for read in piece.chunks(READ) {
+        if framer.feed(read).is_ok() {
+            count = count.saturating_add(count_given(desk, part, framer, out));
         }
     }
+    count
 }
 
 /// How many bytes a head has; 0 where none begins the bytes.
@@ -149,8 +142,8 @@ fn head_len(bytes: &[u8], headers: &mut [HeaderSpan]) -> usize {
     }
 }
 
-/// How many heads stand in a piece, with as many bytes behind each.
-fn count_heads(piece: &[u8], behind: usize, headers: &mut [HeaderSpan]) -> u64 {
+/// How many heads `httparse` finds in a piece, with as many bytes behind each, which it leaves.
+pub fn count_heads(piece: &[u8], behind: usize, headers: &mut [HeaderSpan]) -> u64 {
     let mut count: u64 = 0;
     let mut rest = piece;
     for _ in 0..u64::MAX {
