@@ -72,7 +72,7 @@ fn report<W: Threads + Wait + Sync>(rt: &W, alloc: Global, sections: &[Section<'
     let mut world = world(alloc, sections);
     let words = words(alloc, sections);
     let status = sidecar_main(rt, alloc, words.as_slice(), &mut world);
-    compare_all(alloc, sections, &world, status.code()).done()
+    compare_all(alloc, sections, &world, status.code()).into_text()
 }
 
 // A report below the title of its case, if it says anything.
