@@ -28,7 +28,7 @@ pub(crate) fn add_above(given: &[u8], from: &[u8], lines: &mut Lines) {
 
 /// How many bytes a text takes inside a JSON string.
 pub(crate) fn add_escaped(given: &[u8], lines: &mut Lines) {
-    lines.add_number("", escaped_len(given) as u64);
+    lines.add_number("", u64::try_from(escaped_len(given)).unwrap_or(0));
 }
 
 fn is_special(byte: u8) -> bool {
