@@ -1,0 +1,83 @@
+// Words of a case. What finds no memory is left out: then the case differs, and is played again.
+
+use case_text::{Section, name_in, unescaped};
+use itoa::Buffer;
+use side_base::{Blob, Moment, Places, Text, number_of, split_digits};
+use std::alloc::Global;
+
+/// The number that a text begins with.
+pub(crate) fn number(text: &str) -> u64 {
+    let (digits, _) = split_digits(text.as_bytes());
+    number_of(digits)
+}
+
+/// The number that a text begins with, if it is below 2^32.
+pub(crate) fn small_number(text: &str) -> u32 {
+    u32::try_from(number(text)).unwrap_or(0)
+}
+
+/// The moment that a text says, in milliseconds.
+pub(crate) fn moment(text: &str) -> Moment {
+    match Moment::at(number(text)) {
+        Some(moment) => moment,
+        None => first_moment(),
+    }
+}
+
+/// The beginning of 1970.
+pub(crate) fn first_moment() -> Moment {
+    match Moment::at(0) {
+        Some(moment) => moment,
+        None => unreachable!(),
+    }
+}
+
+/// A copy of a text.
+pub(crate) fn text(alloc: Global, text: &str) -> Text {
+    match Text::from_str(alloc, text) {
+        Ok(copy) => copy,
+        Err(_) => Text::from_static(alloc, "no memory"),
+    }
+}
+
+/// A copy of the bytes of a text.
+pub(crate) fn blob(alloc: Global, text: &str) -> Blob {
+    let mut blob = Blob::new(alloc);
+    let _ = blob.push(text.as_bytes());
+    blob
+}
+
+/// The bytes that a text means once its escapes are undone.
+pub(crate) fn bytes(alloc: Global, text: &str) -> Blob {
+    match unescaped(alloc, text.as_bytes()) {
+        Ok(Some(bytes)) => bytes,
+        _ => blob(alloc, "no escape"),
+    }
+}
+
+/// A number in decimal digits.
+pub(crate) fn digits(alloc: Global, number: u64) -> Text {
+    let mut buffer = Buffer::new();
+    text(alloc, buffer.format(number))
+}
+
+/// The first word of some, and the others.
+pub(crate) fn first_word(words: &str) -> (&str, &str) {
+    words.split_once(' ').unwrap_or((words, ""))
+}
+
+/// What stands before the first `;`, and what stands after it.
+pub(crate) fn first_part(words: &str) -> (&str, &str) {
+    words.split_once(';').unwrap_or((words, ""))
+}
+
+/// The commits that fail, counted from 0.
+pub(crate) fn failing(alloc: Global, sections: &[Section<'_>]) -> Places {
+    let mut places = Places::new(alloc);
+    if let Some(words) = name_in(sections, "failing") {
+        for word in words.split(' ') {
+            let _ = places.push(small_number(word));
+        }
+    }
+    places
+}
