@@ -1,6 +1,6 @@
 // What is bound to a target, as a text: a line for its timeout, its retries and its breaker.
 
-use crate::lines::Lines;
+use case_text::Lines;
 use policy_spec::{Policies, Target, bind};
 use retry_core::{RetryKind, RetryPolicy};
 use side_base::{NoMemory, Text};

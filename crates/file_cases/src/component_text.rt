@@ -1,6 +1,6 @@
 // Components as texts: a line for each, and below it its facts and its settings.
 
-use crate::lines::Lines;
+use case_text::Lines;
 use resource_spec::{Component, ComponentKind, Components, Settings, Url};
 use side_base::{NoMemory, Text};
 use std::alloc::Global;

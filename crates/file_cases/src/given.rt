@@ -1,11 +1,14 @@
 // What a case gives: the files of a folder, and for which app they are read.
 
-use crate::lines::Lines;
-use crate::section::{Section, name_in};
-use case_text::{unescaped, without_blank_end};
+use crate::each::read_each;
+use case_text::{Lines, Section, name_in, number_in, unescaped, without_blank_end};
 use itoa::Buffer;
-use resource_files::{Resources, ResourcesErr, read_resources, refusal_text, usual_resources};
-use side_base::{Blob, NoMemory, Places, Sequence, Text, number_of, split_digits};
+use policy_spec::PolicyErr;
+use resource_files::{
+    Refusal, Resources, ResourcesErr, read_resources, refusal_text, usual_resources,
+};
+use resource_spec::SpecErr;
+use side_base::{Blob, NoMemory, Places, Sequence, Text};
 use side_memory::MemoryFiles;
 use std::alloc::Global;
 
@@ -14,18 +17,27 @@ const APP: &str = "shop";
 
 const FOLDER: &str = "d";
 
+/// Why nothing was read: a text, and the number of a document, if it is one's.
+#[derive(Drop)]
+pub(crate) struct Reason {
+    pub(crate) text: Text,
+    pub(crate) doc: Option<usize>,
+}
+
 /// What came of reading.
 #[derive(Drop)]
 pub(crate) enum Outcome {
-    Read(Resources),
+    /// What the files say, and which of them were refused.
+    Read { resources: Resources, told: Text },
     /// Nothing was read, for this reason.
-    Refused(Text),
+    Refused(Reason),
 }
 
 /// Whether a section of this word gives something, and asks nothing.
 pub(crate) fn is_given(word: &str) -> bool {
     match word {
-        "file" | "numbered" | "padded" | "folder" | "failing" | "no-folder" | "for" => true,
+        "file" | "numbered" | "padded" | "folder" | "failing" | "no-folder" | "each" | "for" =>
+            true,
         _ => false,
     }
 }
@@ -38,21 +50,16 @@ pub(crate) fn app_of(alloc: Global, sections: &[Section<'_>]) -> Result<Text, No
 // The number that a text begins with, and the text behind it and a space.
 fn numbered(text: &str) -> (u64, &str) {
     match text.split_once(' ') {
-        Some((number, name)) => (number_in(number), name),
-        None => (number_in(text), ""),
+        Some((number, name)) => (number_in(number) as u64, name),
+        None => (number_in(text) as u64, ""),
     }
-}
-
-fn number_in(text: &str) -> u64 {
-    let (digits, _) = split_digits(text.as_bytes());
-    number_of(digits)
 }
 
 // The calls that are to fail.
 fn failing(alloc: Global, sections: &[Section<'_>]) -> Result<Places, NoMemory> {
     let mut places = Sequence::new(alloc);
     if let Some(number) = name_in(sections, "failing") {
-        places.push(u32::try_from(number_in(number)).unwrap_or(0))?;
+        places.push(number_in(number))?;
     }
     Ok(places)
 }
@@ -160,33 +167,77 @@ fn add_all(
     Ok(true)
 }
 
-// Why nothing was read; `NoMemory` where that is the reason.
-fn reason(alloc: Global, error: &ResourcesErr) -> Result<Text, NoMemory> {
+fn doc_of_components(error: &SpecErr) -> Option<usize> {
     match error {
-        ResourcesErr::Refused { file, refusal } => {
-            let text = refusal_text(alloc, refusal)?;
-            let mut lines = Lines::new(alloc);
-            lines.add(file.as_str());
-            lines.add(": ");
-            lines.add(text.as_str());
-            lines.done()
-        }
-        ResourcesErr::Failed => Ok(Text::from_static(alloc, "failed")),
+        SpecErr::Missing { doc, .. } => Some(*doc),
+        SpecErr::Wrong { doc, .. } => Some(*doc),
+        _ => None,
+    }
+}
+
+fn doc_of_policies(error: &PolicyErr) -> Option<usize> {
+    match error {
+        PolicyErr::Missing { doc, .. } => Some(*doc),
+        PolicyErr::Wrong { doc, .. } => Some(*doc),
+        _ => None,
+    }
+}
+
+// The number of the document that is refused, if it is told.
+fn doc_of(refusal: &Refusal) -> Option<usize> {
+    match refusal {
+        Refusal::Components(error) => doc_of_components(error),
+        Refusal::Policies(error) => doc_of_policies(error),
+        _ => None,
+    }
+}
+
+// The name of a file, and how it is refused.
+fn reason_of(alloc: Global, file: &Text, refusal: &Refusal) -> Result<Reason, NoMemory> {
+    let text = refusal_text(alloc, refusal)?;
+    let mut lines = Lines::new(alloc);
+    lines.add(file.as_str());
+    lines.add(": ");
+    lines.add(text.as_str());
+    let doc = doc_of(refusal);
+    let text = lines.done()?;
+    Ok(Reason { text, doc })
+}
+
+fn static_reason(alloc: Global, words: &'static str) -> Reason {
+    Reason {
+        text: Text::from_static(alloc, words),
+        doc: None,
+    }
+}
+
+// Why nothing was read; `NoMemory` where that is the reason.
+fn cause_of(alloc: Global, error: &ResourcesErr) -> Result<Reason, NoMemory> {
+    match error {
+        ResourcesErr::Refused { file, refusal } => reason_of(alloc, file, refusal),
+        ResourcesErr::Failed => Ok(static_reason(alloc, "failed")),
         ResourcesErr::NoMemory => Err(NoMemory),
     }
 }
 
-fn refused(reason: Result<Text, NoMemory>) -> Result<Outcome, NoMemory> {
+fn refused(reason: Result<Reason, NoMemory>) -> Result<Outcome, NoMemory> {
     match reason {
         Ok(reason) => Ok(Outcome::Refused(reason)),
         Err(error) => Err(error),
     }
 }
 
+fn all_read(alloc: Global, resources: Resources) -> Outcome {
+    Outcome::Read {
+        resources,
+        told: Text::from_static(alloc, "it is read\n"),
+    }
+}
+
 fn outcome_of(alloc: Global, read: Result<Resources, ResourcesErr>) -> Result<Outcome, NoMemory> {
     match read {
-        Ok(resources) => Ok(Outcome::Read(resources)),
-        Err(error) => refused(reason(alloc, &error)),
+        Ok(resources) => Ok(all_read(alloc, resources)),
+        Err(error) => refused(cause_of(alloc, &error)),
     }
 }
 
@@ -203,7 +254,7 @@ fn read_folder(
 
 fn read_usual(alloc: Global, app: &Text) -> Result<Outcome, NoMemory> {
     match usual_resources(alloc, app) {
-        Ok(resources) => Ok(Outcome::Read(resources)),
+        Ok(resources) => Ok(all_read(alloc, resources)),
         Err(error) => Err(error),
     }
 }
@@ -214,7 +265,15 @@ fn read_files(alloc: Global, sections: &[Section<'_>], app: &Text) -> Result<Out
     if add_all(alloc, &mut files, sections)? {
         read_folder(alloc, &mut files, sections, app)
     } else {
-        Ok(Outcome::Refused(Text::from_static(alloc, "no escape")))
+        Ok(Outcome::Refused(static_reason(alloc, "no escape")))
+    }
+}
+
+// Reads a folder, or where none is named.
+fn read_together(alloc: Global, sections: &[Section<'_>], app: &Text) -> Result<Outcome, NoMemory> {
+    match name_in(sections, "no-folder") {
+        Some(_) => read_usual(alloc, app),
+        None => read_files(alloc, sections, app),
     }
 }
 
@@ -224,8 +283,8 @@ pub(crate) fn read(
     sections: &[Section<'_>],
     app: &Text,
 ) -> Result<Outcome, NoMemory> {
-    match name_in(sections, "no-folder") {
-        Some(_) => read_usual(alloc, app),
-        None => read_files(alloc, sections, app),
+    match name_in(sections, "each") {
+        Some(_) => read_each(alloc, sections, app),
+        None => read_together(alloc, sections, app),
     }
 }

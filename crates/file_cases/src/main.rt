@@ -5,10 +5,9 @@
 mod asked;
 mod bound_text;
 mod component_text;
+mod each;
 mod given;
-mod lines;
 mod playing;
-mod section;
 mod trip_text;
 
 use crate::playing::played;

@@ -2,29 +2,9 @@
 
 use crate::asked::answer;
 use crate::given::{Outcome, app_of, is_given, read};
-use crate::lines::Lines;
-use crate::section::{Section, sections};
-use case_text::{Piece, unescaped, without_blank_end};
+use case_text::{Lines, Piece, Section, sections, text_of};
 use side_base::{NoMemory, Text};
 use std::alloc::Global;
-
-fn add_text(lines: &mut Lines, words: &str, bytes: &[u8]) {
-    lines.add_line(words, str::from_utf8(bytes).unwrap_or("no text"));
-}
-
-fn is_wanted(alloc: Global, wanted: &[u8], got: &Text) -> Result<bool, NoMemory> {
-    match unescaped(alloc, wanted) {
-        Ok(Some(said)) => Ok(said.bytes() == got.bytes()),
-        Ok(None) => Ok(false),
-        Err(error) => Err(error),
-    }
-}
-
-fn add_difference(lines: &mut Lines, section: &Section<'_>, wanted: &[u8], got: &Text) {
-    lines.add_line("-- ", section.word);
-    add_text(lines, "wanted:\n", wanted);
-    add_text(lines, "got:\n", got.bytes());
-}
 
 // Adds where what is wanted of a section is not what is answered.
 fn judge(
@@ -35,10 +15,8 @@ fn judge(
     lines: &mut Lines,
 ) -> Result<(), NoMemory> {
     let got = answer(alloc, outcome, app, section)?;
-    let wanted = without_blank_end(section.text);
-    if !is_wanted(alloc, wanted, &got)? {
-        add_difference(lines, section, wanted, &got);
-    }
+    let wanted = text_of(alloc, section);
+    lines.compare(section.word, wanted.bytes(), got.bytes());
     Ok(())
 }
 
@@ -76,7 +54,7 @@ fn report_of(alloc: Global, sections: &[Section<'_>]) -> Result<Text, NoMemory> 
 fn with_title(alloc: Global, case: &Piece<'_>, report: &Text) -> Result<Text, NoMemory> {
     let mut lines = Lines::new(alloc);
     if !report.is_empty() {
-        add_text(&mut lines, "== ", case.head);
+        lines.add_bytes("== ", case.head);
         lines.add(report.as_str());
     }
     lines.done()
@@ -88,13 +66,20 @@ fn play(alloc: Global, case: &Piece<'_>) -> Result<Text, NoMemory> {
     with_title(alloc, case, &report)
 }
 
-/// What is wrong of a case; nothing where it is right. One that finds no memory is played again.
-pub(crate) fn played(alloc: Global, case: &Piece<'_>) -> Text {
+// The same, with want of memory as a difference.
+fn played_once(alloc: Global, case: &Piece<'_>) -> Text {
     match play(alloc, case) {
         Ok(report) => report,
-        Err(_) => match play(alloc, case) {
-            Ok(report) => report,
-            Err(_) => Text::from_static(alloc, "no memory\n"),
-        },
+        Err(_) => Text::from_static(alloc, "no memory\n"),
+    }
+}
+
+/// What is wrong of a case; nothing where it is right. One that differs is played again, since memory may have lacked.
+pub(crate) fn played(alloc: Global, case: &Piece<'_>) -> Text {
+    let report = played_once(alloc, case);
+    if report.is_empty() {
+        report
+    } else {
+        played_once(alloc, case)
     }
 }

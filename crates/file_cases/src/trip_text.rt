@@ -1,6 +1,6 @@
 // Breakers as texts.
 
-use crate::lines::Lines;
+use case_text::Lines;
 use policy_spec::BreakerPolicies;
 use retry_core::{BreakerPolicy, Comparison, Counter, Join, Sign, Trip};
 use side_base::{NoMemory, Text};

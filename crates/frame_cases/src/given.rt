@@ -1,8 +1,7 @@
 // What the sections of a case say.
 
-use crate::section::{Section, name_in};
-use case_text::{unescaped, without_blank_end};
-use side_base::{Blob, Field, Fields, NoMemory, Sequence, Text, number_of, split_digits};
+use case_text::{Section, name_in, number_in, unescaped, without_blank_end};
+use side_base::{Blob, Field, Fields, NoMemory, Sequence, Text};
 use std::alloc::Global;
 
 /// What bytes say, their escapes undone.
@@ -13,10 +12,9 @@ pub(crate) fn said(alloc: Global, bytes: &[u8]) -> Result<Blob, NoMemory> {
     }
 }
 
-/// The number that a text begins with.
-pub(crate) fn number_in(text: &str) -> u64 {
-    let (digits, _) = split_digits(text.as_bytes());
-    number_of(digits)
+/// Whether a word is one of these, with a space between each.
+pub(crate) fn is_among(words: &str, word: &str) -> bool {
+    words.split(' ').any(|one| one == word)
 }
 
 /// Whether there is a section of this word.
@@ -30,7 +28,7 @@ pub(crate) fn named(alloc: Global, sections: &[Section<'_>], word: &str) -> Resu
 }
 
 // How often the text of a section stands.
-fn times_of(section: &Section<'_>) -> u64 {
+fn times_of(section: &Section<'_>) -> u32 {
     if section.name.is_empty() {
         1
     } else {
@@ -38,7 +36,7 @@ fn times_of(section: &Section<'_>) -> u64 {
     }
 }
 
-fn add_times(all: &mut Blob, text: &Blob, times: u64) -> Result<(), NoMemory> {
+fn add_times(all: &mut Blob, text: &Blob, times: u32) -> Result<(), NoMemory> {
     for _ in 0..times {
         all.push(text.bytes())?;
     }

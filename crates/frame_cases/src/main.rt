@@ -3,11 +3,9 @@
 #![tactic(auto)]
 
 mod given;
-mod lines;
 mod messages;
 mod playing;
 mod routing;
-mod section;
 mod sets;
 mod streams;
 

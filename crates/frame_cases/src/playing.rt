@@ -1,45 +1,21 @@
 // A case, played and compared.
 
-use crate::lines::Lines;
+use crate::given::is_among;
 use crate::messages::{play_request, play_response};
 use crate::routing::{play_error, play_routes, play_target};
-use crate::section::{Section, sections};
 use crate::sets::{is_method, play_set};
 use crate::streams::play_stream;
-use case_text::Piece;
+use case_text::{Lines, Piece, Section, sections};
 use side_base::{NoMemory, Text};
 use std::alloc::Global;
 
-fn is_known(word: &str) -> bool {
-    match word {
-        "stream"
-        | "pieces"
-        | "cut"
-        | "gives"
-        | "response"
-        | "field"
-        | "body"
-        | "head-only"
-        | "close"
-        | "written"
-        | "request"
-        | "closes"
-        | "target"
-        | "answer"
-        | "shutdown"
-        | "query"
-        | "set"
-        | "has"
-        | "allow"
-        | "error"
-        | "text" => true,
-        _ => false,
-    }
-}
+/// The words of sections, but for the methods.
+const WORDS: &str =
+    "stream pieces cut gives response field body head-only close written request closes target answer shutdown query set has allow error text";
 
 fn add_unknown(sections: &[Section<'_>], lines: &mut Lines) {
     for section in sections {
-        if !is_known(section.word) && !is_method(section.word) {
+        if !is_among(WORDS, section.word) && !is_method(section.word) {
             lines.add_line("no such section: ", section.word);
         }
     }

@@ -1,9 +1,8 @@
 // Methods and sets of them.
 
-use crate::given::named;
-use crate::lines::Lines;
-use crate::section::{Section, name_in};
+use crate::given::{is_among, named};
 use api_routes::Methods;
+use case_text::{Lines, Section, name_in};
 use side_base::{Blob, Method, NoMemory};
 use std::alloc::Global;
 
@@ -26,7 +25,7 @@ pub(crate) fn method_of(name: &str) -> Method {
 
 /// Whether a word names a method.
 pub(crate) fn is_method(word: &str) -> bool {
-    NAMES.split(' ').any(|name| name == word)
+    is_among(NAMES, word)
 }
 
 fn with(set: Methods, name: &str) -> Methods {

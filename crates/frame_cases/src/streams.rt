@@ -1,8 +1,7 @@
 // What a framer gives for a stream.
 
-use crate::given::{has, joined, named, number_in};
-use crate::lines::Lines;
-use crate::section::{Section, name_in};
+use crate::given::{has, joined, named};
+use case_text::{Lines, Section, name_in, number_in};
 use http_frames::{FrameErr, Framer, Step, closes};
 use itoa::Buffer;
 use side_base::{Blob, NoMemory, Request};
@@ -105,29 +104,46 @@ fn tell_end(framer: &Framer, text: &mut Blob) -> Result<(), NoMemory> {
     }
 }
 
-// What a framer gives for the bytes, fed in pieces of this size, and `.` at the end where no byte is held.
-fn told(alloc: Global, bytes: &[u8], size: usize) -> Result<Blob, NoMemory> {
-    let mut framer = Framer::new(alloc);
-    let mut text = Blob::new(alloc);
+// Writes what a framer gives for the bytes, fed in pieces of this size, and `.` at the end where no byte is held.
+fn tell_all(
+    framer: &mut Framer,
+    text: &mut Blob,
+    bytes: &[u8],
+    size: usize,
+) -> Result<(), NoMemory> {
     for piece in bytes.chunks(size.max(1)) {
-        if !tell(&mut framer, &mut text, piece)? {
-            return Ok(text);
+        if !tell(framer, text, piece)? {
+            return Ok(());
         }
     }
-    tell_end(&framer, &mut text)?;
-    Ok(text)
+    tell_end(framer, text)
 }
 
 // The same, fed in two pieces, of which the first has this length.
-fn told_in_two(alloc: Global, bytes: &[u8], at: usize) -> Result<Blob, NoMemory> {
-    let mut framer = Framer::new(alloc);
-    let mut text = Blob::new(alloc);
+fn tell_in_two(
+    framer: &mut Framer,
+    text: &mut Blob,
+    bytes: &[u8],
+    at: usize,
+) -> Result<(), NoMemory> {
     let (front, back) = bytes.split_at(at.min(bytes.len()));
-    if tell(&mut framer, &mut text, front)? {
-        tell(&mut framer, &mut text, back)?;
+    if tell(framer, text, front)? {
+        tell(framer, text, back)?;
     }
-    tell_end(&framer, &mut text)?;
-    Ok(text)
+    tell_end(framer, text)
+}
+
+fn play_cut(
+    alloc: Global,
+    bytes: &[u8],
+    at: usize,
+    wanted: &[u8],
+    lines: &mut Lines,
+) -> Result<(), NoMemory> {
+    let mut text = Blob::new(alloc);
+    tell_in_two(&mut Framer::new(alloc), &mut text, bytes, at)?;
+    lines.compare("in two pieces", wanted, text.bytes());
+    Ok(())
 }
 
 fn play_cuts(
@@ -137,9 +153,26 @@ fn play_cuts(
     lines: &mut Lines,
 ) -> Result<(), NoMemory> {
     for at in 0..bytes.len() {
-        let text = told_in_two(alloc, bytes, at)?;
-        lines.compare("in two pieces", wanted, text.bytes());
+        play_cut(alloc, bytes, at, wanted, lines)?;
     }
+    Ok(())
+}
+
+fn play_size(
+    alloc: Global,
+    bytes: &[u8],
+    size: &str,
+    wanted: &[u8],
+    lines: &mut Lines,
+) -> Result<(), NoMemory> {
+    let mut text = Blob::new(alloc);
+    tell_all(
+        &mut Framer::new(alloc),
+        &mut text,
+        bytes,
+        number_in(size) as usize,
+    )?;
+    lines.compare(size, wanted, text.bytes());
     Ok(())
 }
 
@@ -151,8 +184,7 @@ fn play_sizes(
     lines: &mut Lines,
 ) -> Result<(), NoMemory> {
     for size in sizes.split(' ') {
-        let text = told(alloc, bytes, number_in(size) as usize)?;
-        lines.compare(size, wanted, text.bytes());
+        play_size(alloc, bytes, size, wanted, lines)?;
     }
     Ok(())
 }

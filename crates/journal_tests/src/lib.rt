@@ -1,5 +1,7 @@
-//! Tests of keepers over a journal: refusals, limits, device calls that fail, and crashes with every tear.
+//! Tests of journals, and of keepers over them: refusals, limits, device calls that fail, and crashes with every tear.
 #![tactic(auto)]
 
+#[cfg(test)]
+mod lone_journal;
 #[cfg(test)]
 mod tests;

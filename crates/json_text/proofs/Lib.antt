@@ -18,6 +18,7 @@ pub mod StringTexts
 pub mod Readable
 pub mod Courses
 pub mod WrittenTexts
+pub mod TextRuns
 pub mod Characters
 pub mod Visits
 pub mod Accepted

@@ -86,10 +86,6 @@ plain_passes bytes i j high h =
     let there = plain_more bytes i n high (omega (arith, h.high, h.low)) (λ k l u. h.usual k l (omega (arith, u, e))) (λ k l u. h.ascii k l (omega (arith, u, e))) in
     subst (λ b. Passes bytes i (plain high) j (plain b)) (high_is i j n high (sym e)) (subst (λ m. Passes bytes i (plain high) m (plain (high_after n high))) e there)
 
-pub plain_run : (bytes : List ℕ) (i j : ℕ) (word : Lexeme) (high still : Bool) → word ≡ plain high → ArePlain bytes i j → still ≡ (high && eqb j i) → Passes bytes i word j (plain still)
-plain_run bytes i j word high still is run e =
-    subst (λ w. Passes bytes i w j (plain still)) (sym is) (subst (λ b. Passes bytes i (plain high) j (plain b)) (sym e) (plain_passes bytes i j high run))
-
 pub if_ok : {T E : Type 0} (r : Result T E) (P Q : T → Type 0) → IfOk r P → ((x : T) → P x → Q x) → IfOk r Q
 if_ok (Ok x) P Q h f = f x h
 if_ok (Err e) P Q h f = tt

@@ -29,7 +29,7 @@ spelled_plain (x ∷ xs) h = ap (λ s. s ++ spelled xs) (plain_byte x (h zero (o
 pub spelled-append : (xs ys : List ℕ) → spelled (xs ++ ys) ≡ spelled xs ++ spelled ys
 spelled-append xs ys = flat_map-append spelled_byte xs ys
 
-segment_plain : (bytes : List ℕ) (at n : ℕ) → at + n ≤ length bytes → NonePasses is_special bytes at (at + n) → spelled (take n (drop at bytes)) ≡ take n (drop at bytes)
+pub segment_plain : (bytes : List ℕ) (at n : ℕ) → at + n ≤ length bytes → NonePasses is_special bytes at (at + n) → spelled (take n (drop at bytes)) ≡ take n (drop at bytes)
 segment_plain bytes at n h none = spelled_plain (take n (drop at bytes)) (λ k lt. (let small : k < n = omega (arith, lt, length-take-le n (drop at bytes) (omega (arith, h, length-drop at bytes))) in
     ap is_special (get_or-chunk at n bytes k 0 small) ∙ none (at + k) (omega arith) (omega (arith, small))))
 

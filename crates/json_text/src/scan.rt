@@ -1,5 +1,8 @@
 // Passing over one word: a number, a string or a literal.
-ghost use Rattle.std.specs.Prelude.{◌≡◌, ◌≤◌, ◌&&◌, ◌==◌, ℕ, List, length, false, Some, None, IfOk, IfErr, IfSome, IfNone};
+ghost use Rattle.std.specs.Prelude.{◌≡◌, ◌≤◌, ◌&&◌, ◌==◌, ℕ, List, length, take, false, Some, None, IfOk, IfErr, IfSome, IfNone};
+ghost use Rattle.std.specs.Str.{IsUtf8};
+ghost use Rattle.byte_lanes.specs.Bytes.{is_special};
+ghost use Rattle.byte_lanes.specs.Places.{NonePasses};
 ghost use Rattle.json_text.specs.Lexeme.{ends};
 ghost use Rattle.json_text.specs.Faults.{is_lone_in};
 ghost use Rattle.json_text.specs.Scan.{Passes, EndsAt, BreaksAt, ArePlain, IsAsciiUpTo};
@@ -8,6 +11,7 @@ use crate::kind::Kind;
 use crate::lexeme::{Lexeme, meaning, next_word};
 use crate::surrogates::is_lone_at;
 use byte_lanes::{first_above, first_special};
+use std::str::from_utf8;
 
 /// A word that has ended: the place after it, what it means, and a place up to which the bytes after it are ASCII.
 #[derive(Clone, Copy)]
@@ -86,7 +90,7 @@ fn run_plain(bytes: &[u8], at: usize, word: Lexeme, above: usize) -> Result<Run,
     match plain_high(word) {
         Some(high) => {
             let above = ascii_end(bytes, at, above);
-            let end = plain_end(bytes, at, above);
+            let end = run_end(bytes, at, above, high);
             let high = is_still_high(high, at, end);
             if is_lone_at(bytes, end, high) {
                 return Err(end);
@@ -148,7 +152,60 @@ fn ascii_end(bytes: &[u8], at: usize, above: usize) -> usize
     }
 }
 
-// The end of the bytes from place `at` on that stand for themselves.
+// The end of the bytes from place `at` on that stand for themselves; behind the escape of a high surrogate there are none.
+#[inline]
+fn run_end(bytes: &[u8], at: usize, above: usize, high: bool) -> usize
+    requires inside { at ≤ length bytes.now }
+    requires known { IsAsciiUpTo bytes.now at above }
+    ensures low { at ≤ result }
+    ensures high { result ≤ length bytes.now }
+    ensures passes { Passes bytes.now at (Lexeme.Plain high) result (Lexeme.Plain (high && result == at)) }
+{
+    if high {
+        return at;
+    }
+    if above > at {
+        return plain_end(bytes, at, above);
+    }
+    text_end(bytes, at)
+}
+
+// The end of the UTF-8 from place `at` on that stands for itself.
+fn text_end(bytes: &[u8], at: usize) -> usize
+    requires { at ≤ length bytes.now }
+    ensures low { at ≤ result }
+    ensures high { result ≤ length bytes.now }
+    ensures passes { Passes bytes.now at (Lexeme.Plain false) result (Lexeme.Plain false) }
+{
+    let stop = special_at(bytes, at);
+    at + utf8_len(&bytes[at..stop])
+}
+
+// The first place from `at` on of a byte that can't stand for itself, or the end.
+fn special_at(bytes: &[u8], at: usize) -> usize
+    requires { at ≤ length bytes.now }
+    ensures low { at ≤ result }
+    ensures high { result ≤ length bytes.now }
+    ensures usual { NonePasses is_special bytes.now at result }
+{
+    match first_special(bytes, at) {
+        Some(place) => place,
+        None => bytes.len(),
+    }
+}
+
+// How many bytes in front are UTF-8.
+fn utf8_len(bytes: &[u8]) -> usize
+    ensures within { result ≤ length bytes.now }
+    ensures utf8 { IsUtf8 (take result bytes.now) }
+{
+    match from_utf8(bytes) {
+        Ok(_) => bytes.len(),
+        Err(error) => error.valid_up_to(),
+    }
+}
+
+// The end of the ASCII from place `at` on that stands for itself.
 fn plain_end(bytes: &[u8], at: usize, above: usize) -> usize
     requires inside { at ≤ length bytes.now }
     requires known { IsAsciiUpTo bytes.now at above }

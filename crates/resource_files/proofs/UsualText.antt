@@ -1,5 +1,5 @@
 -- The text of the usual file says a store and a broker.
-use Rattle.std.proofs.Common.{◌≡◌, ◌≢◌, ◌+◌, ◌<◌, arith, ℕ, true, false, List, [], None, Result, Ok, refl, sym, ap, subst}
+use Rattle.std.proofs.Common.{◌≡◌, ◌≢◌, ◌+◌, ◌<◌, arith, ℕ, true, false, List, [], Result, Ok, refl, sym, ap, subst}
 use Rattle.std.specs.Prelude.{IsUtf8, bytes_eq, codes}
 use Rattle.std.specs.Str.{is_utf8, chars}
 use Rattle.std.proofs.lemmas.Bool.Decides.{not_from_Decides}
@@ -112,32 +112,32 @@ layout_fits = document_fits 1 (codes "statestore") (codes "state.in-memory") (do
 are_clean : AreClean (file_lines usual_text)
 unfolding usual_text without_order_mark contents is_mark is_mark_tail is_passed_over cut name_at value_behind is_tail value_text trimmed comment_place colon_place AreClean
 are_clean = (
-  record { no_tab = refl {a = false}; name = tt; value = tt; block = refl {a = None} },
+  record { no_tab = refl {a = false}; name = tt; value = tt },
   (
-    record { no_tab = refl {a = false}; name = tt; value = tt; block = refl {a = None} },
+    record { no_tab = refl {a = false}; name = tt; value = tt },
     (
-      record { no_tab = refl {a = false}; name = tt; value = tt; block = refl {a = None} },
+      record { no_tab = refl {a = false}; name = tt; value = tt },
       (
-        record { no_tab = refl {a = false}; name = tt; value = tt; block = refl {a = None} },
+        record { no_tab = refl {a = false}; name = tt; value = tt },
         (
-          record { no_tab = refl {a = false}; name = tt; value = tt; block = refl {a = None} },
+          record { no_tab = refl {a = false}; name = tt; value = tt },
           (
-            record { no_tab = refl {a = false}; name = tt; value = tt; block = refl {a = None} },
+            record { no_tab = refl {a = false}; name = tt; value = tt },
             (
-              record { no_tab = refl {a = false}; name = tt; value = tt; block = refl {a = None} },
+              record { no_tab = refl {a = false}; name = tt; value = tt },
               (
-                record { no_tab = refl {a = false}; name = tt; value = tt; block = refl {a = None} },
+                record { no_tab = refl {a = false}; name = tt; value = tt },
                 (
-                  record { no_tab = refl {a = false}; name = tt; value = tt; block = refl {a = None} },
+                  record { no_tab = refl {a = false}; name = tt; value = tt },
                   (
-                    record { no_tab = refl {a = false}; name = tt; value = tt; block = refl {a = None} },
+                    record { no_tab = refl {a = false}; name = tt; value = tt },
                     (
-                      record { no_tab = refl {a = false}; name = tt; value = tt; block = refl {a = None} },
+                      record { no_tab = refl {a = false}; name = tt; value = tt },
                       (
-                        record { no_tab = refl {a = false}; name = tt; value = tt; block = refl {a = None} },
+                        record { no_tab = refl {a = false}; name = tt; value = tt },
                         (
-                          record { no_tab = refl {a = false}; name = tt; value = tt; block = refl {a = None} },
-                          (record { no_tab = refl {a = false}; name = tt; value = tt; block = refl {a = None} }, tt),
+                          record { no_tab = refl {a = false}; name = tt; value = tt },
+                          (record { no_tab = refl {a = false}; name = tt; value = tt }, tt),
                         ),
                       ),
                     ),

@@ -1,4 +1,6 @@
 //! A disk that waits for another one.
+ghost use Rattle.std.specs.Prelude.{◌≡◌};
+
 use crate::meeting::Meeting;
 use side_memory::MemoryDisk;
 use side_world::{Disk, Failed};

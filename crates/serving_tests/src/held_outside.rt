@@ -2,7 +2,7 @@
 use crate::held_disk::HeldDisk;
 use crate::meeting::Meeting;
 use side_memory::{MemoryAcceptor, MemoryClock, MemoryLink, MemoryOutside, MemoryParts};
-use side_world::{Failed, Outside};
+use side_world::{Acceptor, Failed, Link, Outside};
 
 /// The path of the disk that is the first of two.
 const FIRST: &[u8] = b"one.journal";
@@ -15,6 +15,10 @@ pub(crate) struct HeldOutside<'a> {
 }
 
 impl<'a> Outside for HeldOutside<'a> {
+    ghost use Rattle.std.specs.Prelude.{◌≡◌, ◌≤◌};
+    ghost use Rattle.side_world.specs.Faults.{RoseWith};
+    ghost use Rattle.side_world.specs.Outside.{IsBack};
+
     type Disk = HeldDisk<'a>;
 
     type Acceptor = MemoryAcceptor;
@@ -49,7 +53,14 @@ impl<'a> Outside for HeldOutside<'a> {
         self.outside.worker(port, number)
     }
 
-    fn give_worker(&mut self, number: u32, parts: MemoryParts) {
+    fn give_worker(&mut self, number: u32, parts: MemoryParts)
+        ensures disks { ⟦<MemoryOutside as Outside>⟧.disks self.new.outside ≡ ⟦<MemoryOutside as Outside>⟧.disks self.old.outside }
+        ensures calls { ⟦<MemoryOutside as Outside>⟧.calls self.new.outside ≡ ⟦<MemoryOutside as Outside>⟧.calls self.old.outside }
+        ensures back { IsBack ⟦<MemoryAcceptor as Acceptor>⟧ ⟦<MemoryLink as Link>⟧ number parts (⟦<MemoryOutside as Outside>⟧.backs self.old.outside) (⟦<MemoryOutside as Outside>⟧.backs self.new.outside) }
+        ensures numbers { ⟦<MemoryOutside as Outside>⟧.numbers self.new.outside ≡ ⟦<MemoryOutside as Outside>⟧.numbers self.old.outside }
+        ensures faults { RoseWith parts.acceptor.faults (⟦<MemoryOutside as Outside>⟧.faults self.old.outside) (⟦<MemoryOutside as Outside>⟧.faults self.new.outside) }
+        ensures no_fewer { ⟦<MemoryOutside as Outside>⟧.faults self.old.outside ≤ ⟦<MemoryOutside as Outside>⟧.faults self.new.outside }
+    {
         self.outside.give_worker(number, parts);
     }
 

@@ -3,14 +3,11 @@
 #![tactic(auto)]
 
 mod given;
-mod lines;
 mod playing;
-mod section;
 mod world;
 
-use crate::lines::Lines;
 use crate::playing::played;
-use case_text::{CASE, pieces};
+use case_text::{CASE, Lines, pieces};
 use side_base::{NoMemory, Text};
 use std::alloc::Global;
 use std::sync::Wait;
@@ -62,6 +59,6 @@ fn main(rt: HostRuntime) -> io::Result<()> {
         let text = fs::read(&rt, name.as_str())?;
         play_all(&rt, rt.alloc(), text.as_slice(), &mut tally)?;
     }
-    print!(rt; "{}", tally.lines.text())?;
+    print!(rt; "{}", tally.lines.as_str())?;
     println!(rt; "{} cases, {} differ", tally.cases, tally.differ)
 }

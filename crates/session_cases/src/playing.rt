@@ -1,10 +1,8 @@
 // A case, played and compared.
 
-use crate::given::{joined, text_of, words};
-use crate::lines::Lines;
-use crate::section::{Section, name_in, sections};
+use crate::given::words;
 use crate::world::{Made, world};
-use case_text::Piece;
+use case_text::{Lines, Piece, Section, joined, name_in, sections, text_of};
 use itoa::Buffer;
 use side_base::Text;
 use sidecar_cli::sidecar_main;
@@ -12,18 +10,10 @@ use std::alloc::Global;
 use std::sync::Wait;
 use std::thread::Threads;
 
-fn compare(lines: &mut Lines, word: &str, wanted: &[u8], got: &[u8]) {
-    if wanted != got {
-        lines.add_line("-- ", word);
-        lines.add_bytes("wanted:\n", wanted);
-        lines.add_bytes("got:\n", got);
-    }
-}
-
 // Compares what a disk holds afterwards.
 fn compare_disk(alloc: Global, lines: &mut Lines, section: &Section<'_>, world: &Made) {
     match world.outside.disk(section.name.as_bytes()) {
-        Some(disk) => compare(lines, "kept", text_of(alloc, section).bytes(), disk.bytes()),
+        Some(disk) => lines.compare("kept", text_of(alloc, section).bytes(), disk.bytes()),
         None => lines.add_line("no disk ", section.name),
     }
 }
@@ -66,10 +56,9 @@ fn compare_all(alloc: Global, sections: &[Section<'_>], world: &Made, status: u8
     let note = joined(alloc, sections, "note");
     let wanted = name_in(sections, "status").unwrap_or("0");
     let mut buffer = Buffer::new();
-    compare(&mut lines, "output", output.bytes(), world.sink.bytes());
-    compare(&mut lines, "note", note.bytes(), world.note.bytes());
-    compare(
-        &mut lines,
+    lines.compare("output", output.bytes(), world.sink.bytes());
+    lines.compare("note", note.bytes(), world.note.bytes());
+    lines.compare(
         "status",
         wanted.as_bytes(),
         buffer.format(status).as_bytes(),
@@ -83,7 +72,7 @@ fn report<W: Threads + Wait + Sync>(rt: &W, alloc: Global, sections: &[Section<'
     let mut world = world(alloc, sections);
     let words = words(alloc, sections);
     let status = sidecar_main(rt, alloc, words.as_slice(), &mut world);
-    compare_all(alloc, sections, &world, status.code()).done()
+    compare_all(alloc, sections, &world, status.code()).into_text()
 }
 
 // A report below the title of its case, if it says anything.
@@ -93,7 +82,7 @@ fn with_title(alloc: Global, case: &Piece<'_>, report: &Text) -> Text {
         lines.add_bytes("== ", case.head);
         lines.add(report.as_str());
     }
-    lines.done()
+    lines.into_text()
 }
 
 fn play<W: Threads + Wait + Sync>(rt: &W, alloc: Global, case: &Piece<'_>) -> Text {

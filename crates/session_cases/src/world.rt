@@ -1,7 +1,7 @@
 // The world of a case, in memory.
 
-use crate::given::{joined, places, sizes, text_of};
-use crate::section::Section;
+use crate::given::{places, sizes};
+use case_text::{Section, joined, text_of};
 use side_base::{Moment, Places, Sequence, Text};
 use side_memory::{
     MemoryClock, MemoryFiles, MemoryLink, MemoryOutside, MemorySink, MemorySource, Numbers, Sizes,

@@ -137,14 +137,14 @@ module _ {O : Type 0} (kinds : Kinds O) (cells : CellsAt O) (clock : Clocked) (c
       let well = sound_stays kinds cells (record { seats = seats; clock = clock; calls = calls; words = words }) d.events (record { seats = between; clock = clock; calls = calls; words = words }) d.went sound in
       one_shown place c.name seats between text spent later one one.result refl e still well (λ behind. counts_shown (suc place) cs between texts later seats' others behind still well)
 
+shown_first : {O C R : Type 0} (seat : Sitting O C R) (seats : List (Sitting O C R)) (count : ℕ) (read : Option ℕ) → seat.count ≡ read → either_count read (count_shown seats) ≡ Some count → (count_shown seats ≡ Some count → (k : ℕ) × ShowsAt k count seats) → (k : ℕ) × ShowsAt k count (seat ∷ seats)
+shown_first seat seats count None is either later = let at = later either in (suc at.0, at.1)
+shown_first seat seats count (Some n) is either later = (0, (seat, refl, is ∙ either))
+
 -- a seat of the list shows its first count
 shown_at : {O C R : Type 0} (seats : List (Sitting O C R)) (count : ℕ) → count_shown seats ≡ Some count → (k : ℕ) × ShowsAt k count seats
 shown_at [] count e = absurd (none_is_none e)
-shown_at {O} {C} {R} (seat ∷ seats) count e = first seat.count refl e
-  where
-    first : (read : Option ℕ) → seat.count ≡ read → either_count read (count_shown seats) ≡ Some count → (k : ℕ) × ShowsAt k count (seat ∷ seats)
-    first None is either = let later = shown_at seats count either in (suc later.0, later.1)
-    first (Some n) is either = (0, seat, refl, is ∙ either)
+shown_at (seat ∷ seats) count e = shown_first seat seats count seat.count refl e (λ is. shown_at seats count is)
 
 one_of : (one other : Option ℕ) (count : ℕ) → option_or one other ≡ Some count → (one ≡ Some count) ⊎ (other ≡ Some count)
 one_of None other count e = inr e

@@ -1,0 +1,408 @@
+ghost use Rattle.std.specs.Prelude.{◌≡◌, All, true, false, None, IfOk};
+ghost use Rattle.sidecar_workers.specs.declared.work.Owed.TheVariants as owed;
+
+use side_base::NoMemory;
+use side_world::{FreeGate, Gate, Point};
+use sidecar_workers::{
+    Exit, Got, Owed, Reason, Served, Slot, Stop, StopSeat, Turned, Work, run_workers,
+};
+use std::alloc::Global;
+use std::sync::Wait;
+use std::sync::atomic::{AtomicBool, AtomicU64, Ordering};
+use std::test::Fail;
+use std::thread::sleep;
+use std::time::Duration;
+
+/// What a work answers: each `accept` in turn, and `then` to all that follow.
+#[derive(Clone, Copy)]
+struct Script {
+    gots: &'static [Got],
+    then: Got,
+    served: Served,
+    turned: Turned,
+}
+
+/// A work that answers by a script, and counts its calls.
+#[derive(Drop)]
+struct Scripted {
+    script: Script,
+    accepts: usize,
+    serves: usize,
+    turns: usize,
+    owed: Owed,
+    over: bool,
+}
+
+impl Work for Scripted {
+    ghost use Rattle.std.specs.Prelude.{None};
+
+    ghost owes = { λ work. work.owed };
+
+    ghost is_over = { λ work. work.over };
+
+    ghost keeps = { λ _ _. Unit {0} };
+
+    ghost exits = { λ _ _. Unit {0} };
+
+    ghost calls = { λ _. None };
+
+    fn accept<R: Wait>(&mut self, _rt: &R) -> Got {
+        let got = match self.script.gots.get(self.accepts) {
+            Some(got) => *got,
+            None => self.script.then,
+        };
+        self.accepts = self.accepts.wrapping_add(1);
+        self.owed = match got {
+            Got::Conn => Owed::Serve,
+            Got::Idle => Owed::Turn,
+            Got::Closed | Got::Failed => Owed::Nothing,
+        };
+        got
+    }
+
+    fn serve<R: Wait>(&mut self, _rt: &R) -> Served {
+        self.serves = self.serves.wrapping_add(1);
+        self.owed = Owed::Nothing;
+        self.over = matches!(self.script.served, Served::Asked | Served::Spent { .. });
+        self.script.served
+    }
+
+    fn turn<R: Wait>(&mut self, _rt: &R) -> Turned {
+        self.turns = self.turns.wrapping_add(1);
+        self.owed = Owed::Nothing;
+        self.over = matches!(self.script.turned, Turned::Spent { .. });
+        self.script.turned
+    }
+
+    ghost stays = { λ _. tt };
+
+    ghost chains = { λ _ _ _ _ _. tt };
+}
+
+fn slot(number: u32, seat: StopSeat, script: Script) -> Slot<Scripted>
+    ensures { (result.seat ≡ seat) × (result.work.owed ≡ owed.Nothing) × (result.work.over ≡ false) }
+{
+    Slot {
+        number,
+        work: Scripted {
+            script,
+            accepts: 0,
+            serves: 0,
+            turns: 0,
+            owed: Owed::Nothing,
+            over: false,
+        },
+        seat,
+        exit: None,
+    }
+}
+
+/// What running a script is to end in: the exit, the numbers of its calls to `serve` and `turn`, and whether the word is set.
+#[derive(Clone, Copy)]
+struct Run {
+    script: Script,
+    exit: Exit,
+    serves: usize,
+    turns: usize,
+    stops: bool,
+}
+
+const CLOSING: Script = Script {
+    gots: &[],
+    then: Got::Closed,
+    served: Served::Next,
+    turned: Turned::Went,
+};
+
+const RUNS: [Run; 8] = [
+    Run {
+        script: CLOSING,
+        exit: Exit::Closed,
+        serves: 0,
+        turns: 0,
+        stops: false,
+    },
+    Run {
+        script: Script {
+            gots: &[Got::Conn, Got::Idle, Got::Conn],
+            ..CLOSING
+        },
+        exit: Exit::Closed,
+        serves: 2,
+        turns: 1,
+        stops: false,
+    },
+    Run {
+        script: Script {
+            gots: &[Got::Idle],
+            then: Got::Failed,
+            ..CLOSING
+        },
+        exit: Exit::Failed,
+        serves: 0,
+        turns: 1,
+        stops: true,
+    },
+    Run {
+        script: Script {
+            gots: &[Got::Idle, Got::Conn],
+            served: Served::Asked,
+            ..CLOSING
+        },
+        exit: Exit::Asked,
+        serves: 1,
+        turns: 1,
+        stops: true,
+    },
+    Run {
+        script: Script {
+            gots: &[Got::Conn, Got::Conn],
+            served: Served::Spent { count: 7 },
+            ..CLOSING
+        },
+        exit: Exit::Spent { count: 7 },
+        serves: 1,
+        turns: 0,
+        stops: true,
+    },
+    Run {
+        script: Script {
+            gots: &[Got::Idle, Got::Idle],
+            turned: Turned::Spent { count: 9 },
+            ..CLOSING
+        },
+        exit: Exit::Spent { count: 9 },
+        serves: 0,
+        turns: 1,
+        stops: true,
+    },
+    // Want of memory ends the connection alone, and the turn alone.
+    Run {
+        script: Script {
+            gots: &[Got::Conn, Got::Conn],
+            served: Served::NoMemory,
+            ..CLOSING
+        },
+        exit: Exit::Closed,
+        serves: 2,
+        turns: 0,
+        stops: false,
+    },
+    Run {
+        script: Script {
+            gots: &[Got::Idle, Got::Idle],
+            turned: Turned::NoMemory,
+            ..CLOSING
+        },
+        exit: Exit::Closed,
+        serves: 0,
+        turns: 2,
+        stops: false,
+    },
+];
+
+#[test]
+fn a_worker_ends_by_its_script(rt: HostRuntime) -> Result<(), Fail> {
+    for run in RUNS {
+        let (stop, mut root) = Stop::start(rt.alloc())?;
+        let seat = stop.split(&mut root);
+        let mut slots = [slot(0, seat, run.script)];
+        run_workers(&rt, &mut slots, &stop, &FreeGate);
+        assert_eq!(rt; slots[0].exit, Some(run.exit));
+        assert_eq!(rt;
+            (slots[0].work.serves, slots[0].work.turns),
+            (run.serves, run.turns)
+        );
+        assert_eq!(rt; stop.look(&mut root), run.stops);
+    }
+    Ok(())
+}
+
+// The second worker is idle for ever, but for the word.
+#[test]
+fn an_idle_worker_is_stopped(rt: HostRuntime) -> Result<(), Fail> {
+    let (stop, mut root) = Stop::start(rt.alloc())?;
+    let one = stop.split(&mut root);
+    let two = stop.split(&mut root);
+    let asking = Script {
+        gots: &[Got::Conn],
+        served: Served::Asked,
+        ..CLOSING
+    };
+    let idle = Script {
+        then: Got::Idle,
+        ..CLOSING
+    };
+    let mut slots = [slot(0, one, asking), slot(1, two, idle)];
+    run_workers(&rt, &mut slots, &stop, &FreeGate);
+    assert_eq!(rt;
+        (slots[0].exit, slots[1].exit),
+        (Some(Exit::Asked), Some(Exit::Stopped))
+    );
+    Ok(())
+}
+
+#[test]
+fn a_word_that_was_set_stops_a_worker_at_once(rt: HostRuntime) -> Result<(), Fail> {
+    let (stop, mut root) = Stop::start(rt.alloc())?;
+    let seat = stop.split(&mut root);
+    stop.set(&mut root, Reason::Asked);
+    let mut slots = [slot(0, seat, CLOSING)];
+    run_workers(&rt, &mut slots, &stop, &FreeGate);
+    assert_eq!(rt; slots[0].exit, Some(Exit::Stopped));
+    assert_eq!(rt; slots[0].work.accepts, 0);
+    Ok(())
+}
+
+#[test]
+fn seats_are_met(rt: HostRuntime) -> Result<(), Fail> {
+    let (stop, mut root) = Stop::start(rt.alloc())?;
+    let mut one = stop.split(&mut root);
+    let mut two = stop.split(&mut root);
+    assert!(rt; !stop.look(&mut one));
+    stop.set(&mut two, Reason::Failed);
+    assert!(rt; stop.look(&mut one));
+    stop.meet(&mut root, one);
+    stop.meet(&mut root, two);
+    assert!(rt; stop.look(&mut root));
+    Ok(())
+}
+
+/// Two workers that wait for each other where they have accepted a connection, for so many turns of a look and a pause.
+#[derive(Drop)]
+struct Meeting {
+    clock: HostRuntime,
+    turns: u32,
+    came: [AtomicBool; 2],
+    found: [AtomicBool; 2],
+}
+
+impl Meeting {
+    fn new(clock: HostRuntime, turns: u32) -> Meeting {
+        Meeting {
+            clock,
+            turns,
+            came: [AtomicBool::new(false), AtomicBool::new(false)],
+            found: [AtomicBool::new(false), AtomicBool::new(false)],
+        }
+    }
+
+    /// Whether each found the other.
+    fn is_met(&self) -> bool {
+        self.found[0].load(Ordering::SeqCst) && self.found[1].load(Ordering::SeqCst)
+    }
+}
+
+impl Gate for Meeting {
+    fn pass<R: Wait>(&self, _rt: &R, worker: u32, point: Point) {
+        if point != Point::Accepted {
+            return;
+        }
+        let own = (worker % 2) as usize;
+        self.came[own].store(true, Ordering::SeqCst);
+        for _ in 0..self.turns {
+            if self.came[1 - own].load(Ordering::SeqCst) {
+                self.found[own].store(true, Ordering::SeqCst);
+                return;
+            }
+            sleep(&self.clock, Duration::from_millis(1));
+        }
+    }
+}
+
+const ONE_CONNECTION: Script = Script {
+    gots: &[Got::Conn],
+    ..CLOSING
+};
+
+#[test]
+fn workers_run_side_by_side(rt: HostRuntime) -> Result<(), Fail> {
+    let (stop, mut root) = Stop::start(rt.alloc())?;
+    let one = stop.split(&mut root);
+    let two = stop.split(&mut root);
+    let mut slots = [slot(0, one, ONE_CONNECTION), slot(1, two, ONE_CONNECTION)];
+    let gate = Meeting::new(rt, 10_000);
+    run_workers(&rt, &mut slots, &stop, &gate);
+    assert!(rt; gate.is_met());
+    Ok(())
+}
+
+// One after the other, in either order, they run out of turns.
+#[test]
+fn workers_one_by_one_would_not_meet(rt: HostRuntime) -> Result<(), Fail> {
+    for first in 0..2u32 {
+        let (stop, mut root) = Stop::start(rt.alloc())?;
+        let one = stop.split(&mut root);
+        let two = stop.split(&mut root);
+        let mut ones = [slot(first, one, ONE_CONNECTION)];
+        let mut twos = [slot(1 - first, two, ONE_CONNECTION)];
+        let gate = Meeting::new(rt, 20);
+        run_workers(&rt, &mut ones, &stop, &gate);
+        run_workers(&rt, &mut twos, &stop, &gate);
+        assert!(rt; !gate.is_met());
+    }
+    Ok(())
+}
+
+/// Keeps the passes of each worker, two bits for each: 1 for `Accepted`, 2 for `Ended`.
+#[derive(Drop)]
+struct Passes {
+    words: Vec<AtomicU64>,
+}
+
+impl Gate for Passes {
+    fn pass<R: Wait>(&self, _rt: &R, worker: u32, point: Point) {
+        let code = match point {
+            Point::Accepted => 1,
+            Point::Ended => 2,
+        };
+        if let Some(word) = self.words.get(worker as usize) {
+            word.store((word.load(Ordering::SeqCst) << 2) | code, Ordering::SeqCst);
+        }
+    }
+}
+
+fn no_passes(alloc: Global, count: u32) -> Result<Passes, NoMemory> {
+    let mut words = Vec::new(alloc);
+    for _ in 0..count {
+        words.push(AtomicU64::new(0))?;
+    }
+    Ok(Passes { words })
+}
+
+fn many(
+    alloc: Global,
+    stop: &Stop,
+    root: &mut StopSeat,
+    count: u32,
+    script: Script,
+) -> Result<Vec<Slot<Scripted>>, NoMemory>
+    requires { (root.old.table ≡ stop.now) × (root.old.is_root ≡ true) }
+    ensures { IfOk result (λ slots. All (λ slot. (slot.seat.table ≡ stop.now) × (slot.seat.ended ≡ None) × (slot.work.owed ≡ owed.Nothing) × (slot.work.over ≡ false)) slots.items) }
+{
+    let mut slots = Vec::new(alloc);
+    for number in 0..count {
+        slots.push(slot(number, stop.split(root), script))?;
+    }
+    Ok(slots)
+}
+
+#[test]
+fn sixty_four_workers_pass_the_gate(rt: HostRuntime) -> Result<(), Fail> {
+    let (stop, mut root) = Stop::start(rt.alloc())?;
+    let script = Script {
+        gots: &[Got::Conn, Got::Idle, Got::Conn, Got::Conn],
+        ..CLOSING
+    };
+    let mut slots = many(rt.alloc(), &stop, &mut root, 64, script)?;
+    let gate = no_passes(rt.alloc(), 64)?;
+    run_workers(&rt, slots.as_mut_slice(), &stop, &gate);
+    assert_eq!(rt; (slots.len(), gate.words.len()), (64, 64));
+    for (slot, word) in slots.iter().zip(gate.words.iter()) {
+        let exit = slot.exit;
+        let calls = (slot.work.serves, slot.work.turns);
+        assert_eq!(rt; (exit, calls), (Some(Exit::Closed), (3, 1)));
+        assert_eq!(rt; word.load(Ordering::SeqCst), 0b01_10_01_10_01_10);
+    }
+    Ok(())
+}

@@ -1,0 +1,125 @@
+use side_base::{NoMemory, Text};
+use sidecar_words::{Mode, Words, WordsErr, read_words};
+use std::alloc::Global;
+use std::test::Fail;
+
+/// Words, and behind the arrow what they mean: app id, folder or `-`, port, workers, mode; or `usage`.
+static ROWS: [&str; 53] = [
+    "--app-id a --stdio => a - 3500 4 stdio",
+    "--app-id=a --stdio => a - 3500 4 stdio",
+    "--stdio --app-id a => a - 3500 4 stdio",
+    "--app-id a => a - 3500 4 serve",
+    "--app-id a --resources-path d --check => a d 3500 4 check",
+    "--check --resources-path=d --app-id=a => a d 3500 4 check",
+    "--app-id a --dapr-http-port 1 --workers 64 => a - 1 64 serve",
+    "--dapr-http-port=65535 --app-id aZ09_- --workers=1 --stdio => aZ09_- - 65535 1 stdio",
+    "--app-id=--stdio => --stdio - 3500 4 serve",
+    "--app-id=-a => -a - 3500 4 serve",
+    "--app-id a --resources-path=x=y => a x=y 3500 4 serve",
+    "--app-id a --resources-path=-d => a -d 3500 4 serve",
+    "--app-id 0123456789012345678901234567890123456789012345678901234567890123 => 0123456789012345678901234567890123456789012345678901234567890123 - 3500 4 serve",
+    "--app-id 01234567890123456789012345678901234567890123456789012345678901234 => usage",
+    "--stdio => usage",
+    "--app-id a --stdio --check => usage",
+    "--app-id a --resources-path d --stdio --check => usage",
+    "--app-id a --app-id b => usage",
+    "--app-id a --app-id=a => usage",
+    "--app-id a --stdio --stdio => usage",
+    "-x => usage",
+    "--app-id a -x => usage",
+    "--app-id a - => usage",
+    "--app-id a -- => usage",
+    "--app-id a -- --stdio => usage",
+    "--app-id -a => usage",
+    "--app-id --stdio => usage",
+    "--app-id => usage",
+    "--app-id= => usage",
+    "--app-id  --stdio => usage",
+    "--app-id a.b => usage",
+    "--app-id \u{e9} => usage",
+    "--app-id a --check => usage",
+    "--app-id a --resources-path= => usage",
+    "--app-id a --resources-path= --check => usage",
+    "--app-id a --stdio=x => usage",
+    "--app-id a --stdio= => usage",
+    "--app-id a --dapr-http-port 0 => usage",
+    "--app-id a --dapr-http-port 65536 => usage",
+    "--app-id a --dapr-http-port 08 => usage",
+    "--app-id a --dapr-http-port +8 => usage",
+    "--app-id a --dapr-http-port=-8 => usage",
+    "--app-id a --dapr-http-port= => usage",
+    "--app-id a --dapr-http-port 8x => usage",
+    "--app-id a --workers 0 => usage",
+    "--app-id a --workers 65 => usage",
+    "--app-id a --help => usage",
+    "--app-id a --version => usage",
+    "--app-id a --app-port 80 => usage",
+    "--app-id a --peers b=c:1 => usage",
+    "--app-id a --drill 1,0 => usage",
+    "--app-id a b => usage",
+    "--app a => usage",
+];
+
+fn words_in(alloc: Global, text: &str) -> Result<Vec<Text>, NoMemory> {
+    let mut words = Vec::new(alloc);
+    for word in text.split(' ') {
+        words.push(Text::from_str(alloc, word)?)?;
+    }
+    Ok(words)
+}
+
+fn mode_name(mode: Mode) -> &'static str {
+    match mode {
+        Mode::Stdio => "stdio",
+        Mode::Check => "check",
+        Mode::Serve => "serve",
+    }
+}
+
+fn shown(alloc: Global, words: &Words) -> Result<String, NoMemory> {
+    let folder = match &words.resources {
+        Some(folder) => folder.as_str(),
+        None => "-",
+    };
+    format!(in alloc;
+        "{} {folder} {} {} {}",
+        words.app.as_str(),
+        words.port,
+        words.workers,
+        mode_name(words.mode)
+    )
+}
+
+fn answer(alloc: Global, words: &[Text]) -> Result<String, NoMemory> {
+    match read_words(alloc, words) {
+        Ok(words) => shown(alloc, &words),
+        Err(WordsErr::Usage) => String::from_str(alloc, "usage"),
+        Err(WordsErr::NoMemory) => Err(NoMemory),
+    }
+}
+
+fn plays(alloc: Global, row: &str) -> Result<bool, NoMemory> {
+    match row.split_once(" => ") {
+        Some((text, wanted)) => {
+            let words = words_in(alloc, text)?;
+            Ok(answer(alloc, words.as_slice())?.as_str() == wanted)
+        }
+        None => Ok(false),
+    }
+}
+
+/// A row whose first run finds no memory is run again.
+fn holds(alloc: Global, row: &str) -> bool {
+    match plays(alloc, row) {
+        Ok(same) => same,
+        Err(_) => plays(alloc, row).unwrap_or(false),
+    }
+}
+
+#[test]
+fn words_mean_what_the_table_says(rt: HostRuntime) -> Result<(), Fail> {
+    for row in ROWS.as_slice() {
+        assert!(&rt; holds(rt.alloc(), row));
+    }
+    Ok(())
+}

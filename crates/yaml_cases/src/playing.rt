@@ -1,0 +1,87 @@
+// A case, played and compared.
+
+use crate::asked::answer;
+use crate::given::{file_of, is_given};
+use case_text::{Lines, Piece, Section, sections, text_of};
+use side_base::{NoMemory, Text};
+use std::alloc::Global;
+use yaml_subset::{Docs, YamlErr, read_docs};
+
+// Adds where what is wanted of a section is not what is answered.
+fn judge(
+    alloc: Global,
+    read: &Result<Docs, YamlErr>,
+    section: &Section<'_>,
+    lines: &mut Lines,
+) -> Result<(), NoMemory> {
+    let got = answer(alloc, read, section)?;
+    let wanted = text_of(alloc, section);
+    lines.compare(section.word, wanted.bytes(), got.bytes());
+    Ok(())
+}
+
+// What is wrong of the sections that ask.
+fn judge_all(
+    alloc: Global,
+    read: &Result<Docs, YamlErr>,
+    sections: &[Section<'_>],
+    lines: &mut Lines,
+) -> Result<(), NoMemory> {
+    for section in sections {
+        if !is_given(section.word) {
+            judge(alloc, read, section, lines)?;
+        }
+    }
+    Ok(())
+}
+
+fn asks(sections: &[Section<'_>]) -> bool {
+    sections.iter().any(|section| !is_given(section.word))
+}
+
+// What is wrong of a case whose sections are these.
+fn report_of(alloc: Global, sections: &[Section<'_>]) -> Result<Text, NoMemory> {
+    let mut lines = Lines::new(alloc);
+    if asks(sections) {
+        let file = file_of(alloc, sections)?;
+        let read = read_docs(alloc, file.bytes());
+        judge_all(alloc, &read, sections, &mut lines)?;
+    } else {
+        lines.add_line("nothing is asked", "");
+    }
+    lines.done()
+}
+
+// A report below the title of its case, if it says anything.
+fn with_title(alloc: Global, case: &Piece<'_>, report: &Text) -> Result<Text, NoMemory> {
+    let mut lines = Lines::new(alloc);
+    if !report.is_empty() {
+        lines.add_bytes("== ", case.head);
+        lines.add(report.as_str());
+    }
+    lines.done()
+}
+
+fn play(alloc: Global, case: &Piece<'_>) -> Result<Text, NoMemory> {
+    let sections = sections(alloc, case)?;
+    let report = report_of(alloc, sections.as_slice())?;
+    with_title(alloc, case, &report)
+}
+
+// The same, with want of memory as a difference.
+fn played_once(alloc: Global, case: &Piece<'_>) -> Text {
+    match play(alloc, case) {
+        Ok(report) => report,
+        Err(_) => Text::from_static(alloc, "no memory\n"),
+    }
+}
+
+/// What is wrong of a case; nothing where it is right. One that differs is played again, since memory may have lacked.
+pub(crate) fn played(alloc: Global, case: &Piece<'_>) -> Text {
+    let report = played_once(alloc, case);
+    if report.is_empty() {
+        report
+    } else {
+        played_once(alloc, case)
+    }
+}
