@@ -1,6 +1,8 @@
 //! Content in chunks.
-ghost use Rattle.std.specs.Prelude.{◌≡◌, ◌+◌, ◌≤◌, ◌<◌, ◌++◌, ◌∷◌, [], ℕ, List, length, take, IfOk, IfSome, IsTrue, OnOk};
+ghost use Rattle.std.specs.Prelude.{◌≡◌, ◌+◌, ◌≤◌, ◌<◌, ◌++◌, ◌∷◌, [], ℕ, List, length, take, IfErr, IfOk, IfSome, IsTrue, OnOk};
+ghost use Rattle.side_world.specs.Faults.{Rose};
 ghost use Rattle.side_world.specs.Told.{Took};
+ghost use Rattle.http_client.specs.declared.incoming.ReplyErr.TheVariants.{SourceFailed};
 ghost use Rattle.http_client.specs.Replies.{ahead, AreChunks, BODY_LIMIT};
 ghost use Rattle.http_client.specs.Taken.{IsLine, AreTrailers};
 
@@ -23,6 +25,8 @@ impl<S: Source> Incoming<S> {
     pub(crate) fn take_chunks(&mut self, alloc: Global) -> Result<Blob, ReplyErr>
         ensures took { IfOk result (λ body. (text : List ℕ) × Took (ahead self.old.pending (S.left self.old.source)) (ahead self.new.pending (S.left self.new.source)) text × AreChunks text body) }
         ensures short { IfOk result (λ body. length body ≤ BODY_LIMIT) }
+        ensures no_fault { OnOk result (S.faults self.new.source ≡ S.faults self.old.source) }
+        ensures failed { IfErr result (λ why. why ≡ SourceFailed → Rose (S.faults self.old.source) (S.faults self.new.source)) }
     {
         let mut body = Blob::new(alloc);
         loop {
@@ -40,7 +44,9 @@ impl<S: Source> Incoming<S> {
 
     /// Takes a chunk line, and gives how many bytes it counts.
     fn take_chunk_line(&mut self) -> Result<u64, ReplyErr>
-        ensures { IfOk result (λ size. (text : List ℕ) × Took (ahead self.old.pending (S.left self.old.source)) (ahead self.new.pending (S.left self.new.source)) text × IsLine text size) }
+        ensures took { IfOk result (λ size. (text : List ℕ) × Took (ahead self.old.pending (S.left self.old.source)) (ahead self.new.pending (S.left self.new.source)) text × IsLine text size) }
+        ensures no_fault { OnOk result (S.faults self.new.source ≡ S.faults self.old.source) }
+        ensures failed { IfErr result (λ why. why ≡ SourceFailed → Rose (S.faults self.old.source) (S.faults self.new.source)) }
     {
         loop {
             match parse_chunk_size(self.pending.bytes()) {
@@ -57,25 +63,31 @@ impl<S: Source> Incoming<S> {
     /// Takes the bytes of a chunk, of which there are so many, with the line end behind them, and appends them to `body`.
     fn take_chunk_data(&mut self, len: usize, body: &mut Blob) -> Result<(), ReplyErr>
         requires { len ≤ BODY_LIMIT }
-        ensures { OnOk result ((bytes : List ℕ) × Took (ahead self.old.pending (S.left self.old.source)) (ahead self.new.pending (S.left self.new.source)) (bytes ++ 13 ∷ 10 ∷ []) × (length bytes ≡ len) × (body.new ≡ body.old ++ bytes)) }
+        ensures took { OnOk result ((bytes : List ℕ) × Took (ahead self.old.pending (S.left self.old.source)) (ahead self.new.pending (S.left self.new.source)) (bytes ++ 13 ∷ 10 ∷ []) × (length bytes ≡ len) × (body.new ≡ body.old ++ bytes)) }
+        ensures no_fault { OnOk result (S.faults self.new.source ≡ S.faults self.old.source) }
+        ensures failed { IfErr result (λ why. why ≡ SourceFailed → Rose (S.faults self.old.source) (S.faults self.new.source)) }
     {
         let there = self.fill_to(len + LINE_END.len())?;
         if !there {
             return Err(ReplyErr::Bad);
         }
         match data_of(self.pending.bytes(), len) {
-            Some(bytes) => {
-                body.push(bytes)?;
-                self.skip(len + LINE_END.len());
-                Ok(())
-            }
+            Some(bytes) => match body.push(bytes) {
+                Ok(()) => {
+                    self.skip(len + LINE_END.len());
+                    Ok(())
+                }
+                Err(_) => Err(ReplyErr::NoMemory),
+            },
             None => Err(ReplyErr::Bad),
         }
     }
 
     /// Takes the trailers, which are let go, and the empty line that ends them.
     fn take_trailers(&mut self) -> Result<(), ReplyErr>
-        ensures { OnOk result ((text : List ℕ) × Took (ahead self.old.pending (S.left self.old.source)) (ahead self.new.pending (S.left self.new.source)) text × AreTrailers text) }
+        ensures took { OnOk result ((text : List ℕ) × Took (ahead self.old.pending (S.left self.old.source)) (ahead self.new.pending (S.left self.new.source)) text × AreTrailers text) }
+        ensures no_fault { OnOk result (S.faults self.new.source ≡ S.faults self.old.source) }
+        ensures failed { IfErr result (λ why. why ≡ SourceFailed → Rose (S.faults self.old.source) (S.faults self.new.source)) }
     {
         let mut headers = [EMPTY_HEADER_SPAN; TRAILER_LIMIT];
         loop {

@@ -1,7 +1,9 @@
 //! The head of a reply.
-ghost use Rattle.std.specs.Prelude.{◌≡◌, ◌≤◌, ℕ, List, length, map, All, IfOk, OnOk};
+ghost use Rattle.std.specs.Prelude.{◌≡◌, ◌≢◌, ◌≤◌, ℕ, List, length, map, All, IfOk, IfErr, OnOk};
+ghost use Rattle.side_world.specs.Faults.{Rose};
 ghost use Rattle.side_world.specs.Told.{Took};
 ghost use Rattle.httparse.specs.Spans.{IsHeaderWithin, IsResponseWithin, IsResponseOf};
+ghost use Rattle.http_client.specs.declared.incoming.ReplyErr.TheVariants.{SourceFailed};
 ghost use Rattle.http_client.specs.Replies.{ahead};
 ghost use Rattle.http_client.specs.Taken.{header_field, is_interim, IsHead, IsFinal};
 
@@ -31,6 +33,8 @@ impl<S: Source> Incoming<S> {
         ensures took { IfOk result (λ head. (text : List ℕ) × Took (ahead self.old.pending (S.left self.old.source)) (ahead self.new.pending (S.left self.new.source)) text × IsFinal text head) }
         ensures from { IfOk result (λ head. 200 ≤ head.status) }
         ensures known { IfOk result (λ head. head.status ≤ 599) }
+        ensures no_fault { OnOk result (S.faults self.new.source ≡ S.faults self.old.source) }
+        ensures failed { IfErr result (λ why. why ≡ SourceFailed → Rose (S.faults self.old.source) (S.faults self.new.source)) }
     {
         let mut headers = [EMPTY_HEADER_SPAN; FIELD_LIMIT];
         for _ in 0..HEADS_LIMIT {
@@ -48,6 +52,8 @@ impl<S: Source> Incoming<S> {
         ensures same { OnOk result (ahead self.new.pending (S.left self.new.source) ≡ ahead self.old.pending (S.left self.old.source)) }
         ensures within { IfOk result (λ spans. IsResponseWithin self.new.pending headers.new spans) }
         ensures head { IfOk result (λ spans. IsResponseOf self.new.pending headers.new spans) }
+        ensures no_fault { OnOk result (S.faults self.new.source ≡ S.faults self.old.source) }
+        ensures failed { IfErr result (λ why. why ≡ SourceFailed → Rose (S.faults self.old.source) (S.faults self.new.source)) }
     {
         loop {
             match parse_response(self.pending.bytes(), headers) {
@@ -70,6 +76,8 @@ impl<S: Source> Incoming<S> {
         ensures took { IfOk result (λ head. (text : List ℕ) × Took (ahead self.old.pending (S.left self.old.source)) (ahead self.new.pending (S.left self.new.source)) text × IsHead text head) }
         ensures from { IfOk result (λ head. 200 ≤ head.status) }
         ensures known { IfOk result (λ head. head.status ≤ 599) }
+        ensures no_fault { OnOk result (S.faults self.new.source ≡ S.faults self.old.source) }
+        ensures failed { IfErr result (λ why. why ≡ SourceFailed → Rose (S.faults self.old.source) (S.faults self.new.source)) }
     {
         if spans.code < 200 || spans.code > 599 {
             return Err(ReplyErr::Bad);
@@ -94,11 +102,15 @@ fn is_interim(status: u16) -> bool
 /// The fields that the spans cover.
 fn fields_of(alloc: Global, text: &[u8], headers: &[HeaderSpan]) -> Result<Fields, ReplyErr>
     requires { All (IsHeaderWithin (length text.now)) headers.now }
-    ensures { IfOk result (λ fields. fields ≡ map (header_field text.now) headers.now) }
+    ensures fields { IfOk result (λ fields. fields ≡ map (header_field text.now) headers.now) }
+    ensures unread { IfErr result (λ why. why ≢ SourceFailed) }
 {
     let mut fields = Sequence::new(alloc);
     for header in headers {
-        fields.push(field_of(alloc, text, header)?)?;
+        match fields.push(field_of(alloc, text, header)?) {
+            Ok(()) => {}
+            Err(_) => return Err(ReplyErr::NoMemory),
+        }
     }
     Ok(fields)
 }
@@ -106,13 +118,16 @@ fn fields_of(alloc: Global, text: &[u8], headers: &[HeaderSpan]) -> Result<Field
 /// The field that a span's two parts cover. A name is a token, and so a text.
 fn field_of(alloc: Global, text: &[u8], header: &HeaderSpan) -> Result<Field, ReplyErr>
     requires { IsHeaderWithin (length text.now) header.now }
-    ensures { IfOk result (λ field. field ≡ header_field text.now header.now) }
+    ensures field { IfOk result (λ field. field ≡ header_field text.now header.now) }
+    ensures unread { IfErr result (λ why. why ≢ SourceFailed) }
 {
     let name = match Text::from_bytes(alloc, header.name.of(text)) {
         Ok(name) => name,
         Err(TextErr::NotUtf8 { at: _ }) => return Err(ReplyErr::Bad),
         Err(TextErr::NoMemory) => return Err(ReplyErr::NoMemory),
     };
-    let value = Blob::from_bytes(alloc, header.value.of(text))?;
-    Ok(Field { name, value })
+    match Blob::from_bytes(alloc, header.value.of(text)) {
+        Ok(value) => Ok(Field { name, value }),
+        Err(_) => Err(ReplyErr::NoMemory),
+    }
 }

@@ -1,6 +1,8 @@
 //! The bytes of a reply, as they come.
-ghost use Rattle.std.specs.Prelude.{◌≡◌, ◌+◌, ◌<◌, ◌≤◌, ◌++◌, [], false, take, drop, length, IfOk, OnOk, IsTrue};
+ghost use Rattle.std.specs.Prelude.{◌≡◌, ◌+◌, ◌<◌, ◌≤◌, ◌++◌, [], false, take, drop, length, IfOk, IfErr, OnOk, IsTrue};
+ghost use Rattle.side_world.specs.Faults.{Rose};
 ghost use Rattle.side_world.specs.Told.{Took, IsDrained};
+ghost use Rattle.http_client.specs.declared.incoming.ReplyErr.TheVariants.{SourceFailed};
 ghost use Rattle.http_client.specs.Replies.{ahead};
 
 use side_base::{Blob, NoMemory};
@@ -110,14 +112,16 @@ impl<S: Source> Incoming<S> {
         ensures more { IfOk result (λ came. IsTrue came → length self.old.pending < length self.new.pending) }
         ensures kept { IfOk result (λ came. came ≡ false → self.new.pending ≡ self.old.pending) }
         ensures ended { IfOk result (λ came. came ≡ false → IsDrained (S.left self.new.source)) }
+        ensures no_fault { OnOk result (S.faults self.new.source ≡ S.faults self.old.source) }
+        ensures failed { IfErr result (λ why. why ≡ SourceFailed → Rose (S.faults self.old.source) (S.faults self.new.source)) }
     {
         let mut piece = [0; PIECE];
         match self.source.read(&mut piece) {
             Ok(0) => Ok(false),
-            Ok(n) => {
-                self.pending.push(&piece[..n])?;
-                Ok(true)
-            }
+            Ok(n) => match self.pending.push(&piece[..n]) {
+                Ok(()) => Ok(true),
+                Err(_) => Err(ReplyErr::NoMemory),
+            },
             Err(Failed) => Err(ReplyErr::SourceFailed),
         }
     }
@@ -127,6 +131,8 @@ impl<S: Source> Incoming<S> {
         ensures same { OnOk result (ahead self.new.pending (S.left self.new.source) ≡ ahead self.old.pending (S.left self.old.source)) }
         ensures below { OnOk result (length self.old.pending < 16384) }
         ensures more { OnOk result (length self.old.pending < length self.new.pending) }
+        ensures no_fault { OnOk result (S.faults self.new.source ≡ S.faults self.old.source) }
+        ensures failed { IfErr result (λ why. why ≡ SourceFailed → Rose (S.faults self.old.source) (S.faults self.new.source)) }
     {
         if self.pending.bytes().len() >= HEAD_LIMIT {
             return Err(ReplyErr::Bad);
@@ -144,6 +150,8 @@ impl<S: Source> Incoming<S> {
         ensures there { IfOk result (λ is. IsTrue is → wanted ≤ length self.new.pending) }
         ensures short { IfOk result (λ is. is ≡ false → length self.new.pending < wanted) }
         ensures ended { IfOk result (λ is. is ≡ false → IsDrained (S.left self.new.source)) }
+        ensures no_fault { OnOk result (S.faults self.new.source ≡ S.faults self.old.source) }
+        ensures failed { IfErr result (λ why. why ≡ SourceFailed → Rose (S.faults self.old.source) (S.faults self.new.source)) }
     {
         while self.pending.bytes().len() < wanted {
             let came = self.fill()?;

@@ -1,7 +1,9 @@
 //! A reply, out of the bytes that come.
-ghost use Rattle.std.specs.Prelude.{◌≡◌, ◌≤◌, ◌<◌, ℕ, List, length, take, IfOk, OnOk};
+ghost use Rattle.std.specs.Prelude.{◌≡◌, ◌≤◌, ◌<◌, ℕ, List, length, take, IfOk, IfErr, OnOk};
+ghost use Rattle.side_world.specs.Faults.{Rose};
 ghost use Rattle.side_world.specs.Told.{Took, IsDrained};
 ghost use Rattle.side_world.specs.Link.{IsReply};
+ghost use Rattle.http_client.specs.declared.incoming.ReplyErr.TheVariants.{SourceFailed};
 ghost use Rattle.http_client.specs.Replies.{ahead, IsReplyOf, IsReplyText, IsContent, BODY_LIMIT};
 
 use crate::chunks::BODY_LIMIT;
@@ -22,6 +24,8 @@ pub fn read_reply<S: Source>(
 ) -> (Result<Response, ReplyErr>, S)
     ensures is { IfOk result.0 (IsReplyOf to_head (S.left source) (S.left result.1)) }
     ensures reply { IfOk result.0 IsReply }
+    ensures no_fault { OnOk result.0 (S.faults result.1 ≡ S.faults source) }
+    ensures failed { IfErr result.0 (λ why. why ≡ SourceFailed → Rose (S.faults source) (S.faults result.1)) }
 {
     let mut incoming = Incoming {
         source,
@@ -38,17 +42,21 @@ impl<S: Source> Incoming<S> {
     fn take_reply(&mut self, alloc: Global, to_head: bool) -> Result<Response, ReplyErr>
         ensures took { IfOk result (λ response. (text : List ℕ) × Took (ahead self.old.pending (S.left self.old.source)) (ahead self.new.pending (S.left self.new.source)) text × IsReplyText to_head text (ahead self.new.pending (S.left self.new.source)) response) }
         ensures reply { IfOk result IsReply }
+        ensures no_fault { OnOk result (S.faults self.new.source ≡ S.faults self.old.source) }
+        ensures failed { IfErr result (λ why. why ≡ SourceFailed → Rose (S.faults self.old.source) (S.faults self.new.source)) }
     {
         let head = self.take_final_head(alloc)?;
         match framing_of(to_head, head.status, head.minor, &head.fields) {
             Some(framing) => {
                 let body = self.take_content(alloc, framing)?;
-                let fields = kept(alloc, head.fields)?;
-                Ok(Response {
-                    status: head.status,
-                    fields,
-                    body,
-                })
+                match kept(alloc, head.fields) {
+                    Ok(fields) => Ok(Response {
+                        status: head.status,
+                        fields,
+                        body,
+                    }),
+                    Err(_) => Err(ReplyErr::NoMemory),
+                }
             }
             None => Err(ReplyErr::Bad),
         }
@@ -59,6 +67,8 @@ impl<S: Source> Incoming<S> {
         ensures took { IfOk result (λ body. (text : List ℕ) × Took (ahead self.old.pending (S.left self.old.source)) (ahead self.new.pending (S.left self.new.source)) text × IsContent framing text body) }
         ensures short { IfOk result (λ body. length body ≤ BODY_LIMIT) }
         ensures all { OnOk result (framing ≡ Framing.ToEnd → IsDrained (ahead self.new.pending (S.left self.new.source))) }
+        ensures no_fault { OnOk result (S.faults self.new.source ≡ S.faults self.old.source) }
+        ensures failed { IfErr result (λ why. why ≡ SourceFailed → Rose (S.faults self.old.source) (S.faults self.new.source)) }
     {
         match framing {
             Framing::Nothing => Ok(Blob::new(alloc)),
@@ -73,6 +83,8 @@ impl<S: Source> Incoming<S> {
         ensures took { IfOk result (λ body. Took (ahead self.old.pending (S.left self.old.source)) (ahead self.new.pending (S.left self.new.source)) body) }
         ensures counts { IfOk result (λ body. length body ≡ len) }
         ensures short { OnOk result (len ≤ BODY_LIMIT) }
+        ensures no_fault { OnOk result (S.faults self.new.source ≡ S.faults self.old.source) }
+        ensures failed { IfErr result (λ why. why ≡ SourceFailed → Rose (S.faults self.old.source) (S.faults self.new.source)) }
     {
         if len > BODY_LIMIT as u64 {
             return Err(ReplyErr::Bad);
@@ -89,6 +101,8 @@ impl<S: Source> Incoming<S> {
         ensures took { IfOk result (λ body. Took (ahead self.old.pending (S.left self.old.source)) (ahead self.new.pending (S.left self.new.source)) body) }
         ensures short { IfOk result (λ body. length body ≤ BODY_LIMIT) }
         ensures all { OnOk result (IsDrained (ahead self.new.pending (S.left self.new.source))) }
+        ensures no_fault { OnOk result (S.faults self.new.source ≡ S.faults self.old.source) }
+        ensures failed { IfErr result (λ why. why ≡ SourceFailed → Rose (S.faults self.old.source) (S.faults self.new.source)) }
     {
         let more = self.fill_to(BODY_LIMIT + 1)?;
         if more {
@@ -104,9 +118,15 @@ impl<S: Source> Incoming<S> {
         ensures took { IfOk result (λ body. Took (ahead self.old.pending (S.left self.old.source)) (ahead self.new.pending (S.left self.new.source)) body) }
         ensures counts { IfOk result (λ body. length body ≡ len) }
         ensures left { OnOk result (S.left self.new.source ≡ S.left self.old.source) }
+        ensures no_fault { OnOk result (S.faults self.new.source ≡ S.faults self.old.source) }
+        ensures failed { IfErr result (λ why. why ≡ SourceFailed → Rose (S.faults self.old.source) (S.faults self.new.source)) }
     {
-        let body = Blob::from_bytes(alloc, &self.pending.bytes()[..len])?;
-        self.skip(len);
-        Ok(body)
+        match Blob::from_bytes(alloc, &self.pending.bytes()[..len]) {
+            Ok(body) => {
+                self.skip(len);
+                Ok(body)
+            }
+            Err(_) => Err(ReplyErr::NoMemory),
+        }
     }
 }

@@ -16,9 +16,11 @@ ended first then read now (Ok head) so same took =
 ended first then read now (Err e) so same took = tt
 
 pub returns-then-not-is_interim-clause-took : goal.returns-then-not-is_interim-clause-took
-returns-then-not-is_interim-clause-took g c = ended _ _ _ _ _ c.loop.invariant c.in_ok-spans.ensures.same c.take_head.ensures.took
+returns-then-not-is_interim-clause-took g c = ended _ _ _ _ _ c.loop.invariant.0 c.in_ok-spans.ensures.same c.take_head.ensures.took
 
 pub loop-preserved : goal.loop-preserved
-loop-preserved g c =
-    one_more_head _ _ _ _ _ _ c.loop.invariant c.in_ok-spans.ensures.head (search rules)
-    (took_from _ _ _ _ c.in_ok-spans.ensures.same c.skip.ensures.took)
+loop-preserved g c = (
+  one_more_head _ _ _ _ _ _ c.loop.invariant.0 c.in_ok-spans.ensures.head (search rules)
+      (took_from _ _ _ _ c.in_ok-spans.ensures.same c.skip.ensures.took),
+  search rules,
+)
