@@ -3,6 +3,7 @@ pub mod Attempted
 pub mod Bodies
 pub mod Cut
 pub mod Failing
+pub mod Fewness
 pub mod Fine
 pub mod FirstFault
 pub mod Following

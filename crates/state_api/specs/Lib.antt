@@ -6,5 +6,6 @@ pub mod Given
 pub mod Values
 pub mod Words
 pub mod Raw
+pub mod Kept
 pub mod Asked
 pub mod Laws

@@ -1,8 +1,8 @@
 -- What the body of a state request says, before its words are judged.
-use Rattle.std.specs.Prelude.{ℕ, List, codes, Option, Some, None, Result, Ok, Err}
+use Rattle.std.specs.Prelude.{ℕ, nat_le, List, length, codes, Option, Some, None, Result, Ok, Err}
 use Rattle.json_text.specs.Shape.{value_bytes}
 use Rattle.state_api.specs.declared.what.What.{What}
-use Rattle.state_api.specs.declared.what.What.TheVariants.{Shape}
+use Rattle.state_api.specs.declared.what.What.TheVariants.{Shape, TooMany}
 use Rattle.state_api.specs.declared.raw.RawItem.{RawItem}
 use Rattle.state_api.specs.declared.raw.RawOp.{RawOp}
 use Rattle.state_api.specs.Given.{followed, provided, each}
@@ -62,3 +62,7 @@ list_of one (Some value) = list_in one value
 -- the list that a map has under a name
 abbrev pub listed_in : {A : Type 0} → (Value → Result A What) → List ℕ → List ℕ → Value → Result (List A) What
 listed_in one bytes name value = provided (is_map value.spot.kind) Shape (list_of one (member bytes name value))
+
+-- of which there are at most 1,024
+unfoldable pub few_of : {A : Type 0} → Result (List A) What → Result (List A) What
+few_of all = followed all (λ raws. provided (nat_le (length raws) 1024) TooMany (Ok raws))

@@ -50,10 +50,12 @@ fn behind(alloc: Global, prefix: &Prefix, key: &Text) -> Result<Text, NoMemory>
 {
     match &prefix.text {
         Some(front) => {
-            let mut stored = Text::from_str(alloc, front.as_str())?;
-            stored.push(SEPARATOR)?;
-            stored.push(key.as_str())?;
-            Ok(stored)
+            let len = (SEPARATOR.len() + key.bytes().len()).saturating_add(front.bytes().len());
+            let mut stored = String::with_capacity(alloc, len)?;
+            stored.push_str(front.as_str())?;
+            stored.push_str(SEPARATOR)?;
+            stored.push_str(key.as_str())?;
+            Ok(Text::from_string(stored))
         }
         None => key.copy(),
     }

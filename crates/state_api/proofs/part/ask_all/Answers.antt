@@ -1,12 +1,9 @@
-use Rattle.std.proofs.Common.{◌≡◌, ◌<◌, ◌≤◌, Err, List, refl, sym, subst, ap, ◌∙◌, [], ◌∷◌, arith, length}
+use Rattle.std.proofs.Common.{◌≡◌, Err, List, refl, sym, subst, ap, ◌∙◌, [], ◌∷◌}
 use Rattle.std.specs.Prelude.{All}
 use Rattle.std.proofs.lemmas.List.Elements.{All-append}
 use Rattle.state_api.specs.Given.{Gives, each}
-use Rattle.state_api.proofs.Following.{held, held_err, failed, joined, joined_start, joined_next, joined_stop, joined_end, all_one, all_none, few_more, few_enough}
+use Rattle.state_api.proofs.Following.{joined, joined_start, joined_next, joined_stop, joined_end, all_one, all_none}
 use Rattle.state_api.proofs.part.ask_all.Goals as goal
-
-pub returns-then-len-gt-MOST-clause-gives : goal.returns-then-len-gt-MOST-clause-gives
-returns-then-len-gt-MOST-clause-gives g c = failed _ _ _ (few_more (length c.args.parts) (let lt : 1024 < length c.args.parts = omega arith in lt))
 
 pub loop-part-init : goal.loop-part-init
 loop-part-init g c = record {
@@ -26,11 +23,9 @@ loop-part-preserved g c =
 pub returns-in-Err-clause-gives : goal.returns-in-Err-clause-gives
 returns-in-Err-clause-gives g c =
     let means = g.P.Part.means c.args.prefix.now in
-    held_err _ _ _ _ (few_enough (length c.args.parts) (let le : length c.args.parts ≤ 1024 = omega arith in le))
-    (subst (Gives {A = List g.row.P-Asked.Denot} (Err c.in-Err.error)) (ap (λ ps. joined c.loop-part.asked (each means ps)) (sym c.in-Some.ensures.first) ∙ c.loop-part.invariant.same) (joined_stop means c.loop-part.asked c.in-Some.part c.take_first.new.self c.in-Err.error c.in-Err.ensures.gives))
+    subst (Gives {A = List g.row.P-Asked.Denot} (Err c.in-Err.error)) (ap (λ ps. joined c.loop-part.asked (each means ps)) (sym c.in-Some.ensures.first) ∙ c.loop-part.invariant.same) (joined_stop means c.loop-part.asked c.in-Some.part c.take_first.new.self c.in-Err.error c.in-Err.ensures.gives)
 
 pub returns-clause-gives : goal.returns-clause-gives
 returns-clause-gives g c =
     let means = g.P.Part.means c.args.prefix.now in
-    held _ _ _ _ (few_enough (length c.args.parts) (let le : length c.args.parts ≤ 1024 = omega arith in le))
-    (sym c.loop-part.invariant.same ∙ ap (λ ps. joined c.loop-part.asked (each means ps)) (c.in_default.ensures.none.0 refl) ∙ joined_end means c.loop-part.asked)
+    sym c.loop-part.invariant.same ∙ ap (λ ps. joined c.loop-part.asked (each means ps)) (c.in_default.ensures.none.0 refl) ∙ joined_end means c.loop-part.asked
