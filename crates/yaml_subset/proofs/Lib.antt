@@ -20,3 +20,12 @@ pub mod Numbers
 pub mod Mild
 pub mod Files
 pub mod OrderMark
+pub mod Branches
+pub mod Chars
+pub mod Cuts
+pub mod Spelling
+pub mod BlockTexts
+pub mod FlowTexts
+pub mod Leaves
+pub mod Lawful
+pub mod Marked

@@ -12,6 +12,8 @@ use Rattle.yaml_subset.specs.Trees.{Told, Trees, none, tree, tree_entries}
 use Rattle.yaml_subset.specs.Preorder.{parts_kept, Shallower, StandAt, IsFirstOf, FirstOf, ForFirst, OfPart, AreDocuments}
 use Rattle.yaml_subset.specs.Docs.{size, row_at, row_of, told_of, inner_of, later_of, Begins, IsFirst}
 use Rattle.yaml_subset.specs.Built.{entry_told, built, documents_of, IsWhole}
+use Rattle.yaml_subset.specs.Lawful.{AreUnnamed, IsLawful, AreOfFile}
+use Rattle.yaml_subset.proofs.Lawful.{first_lawful, row_lawful_at}
 use Rattle.yaml_subset.proofs.Walks.{entry_of, first_entry, no_entries, tree_some, row_below, drop_on}
 
 pub entries_size : (depth : ℕ) (row : Trees) → length (tree_entries depth row) ≡ size row
@@ -171,3 +173,12 @@ module _ (docs : Preorder) (value : Trees) (is : documents_of docs ≡ value) (w
 
   pub first_here : (row : Trees) (found : Option Part) → MatchOption found (Unit {0}) (λ p. p.number < length docs.nodes.items) → FirstOf docs row found → IsFirst value row found
   first_here row found h f = first_is docs value are_these row found h f
+
+  of_file : AreOfFile value
+  of_file = subst AreOfFile is whole.of_file
+
+  pub unnamed_here : AreUnnamed value
+  unnamed_here = of_file.unnamed
+
+  pub lawful_here : (p : Part) → IsLawful (told_of (row_of value p)) (inner_of (row_of value p))
+  lawful_here p = first_lawful (row_of value p) (row_lawful_at p.number value of_file.lawful)

@@ -4,6 +4,7 @@ use Rattle.yaml_subset.specs.declared.preorder.Preorder.{Preorder}
 use Rattle.yaml_subset.specs.Tree.{Entry}
 use Rattle.yaml_subset.specs.Trees.{Told, Trees, none, tree}
 use Rattle.yaml_subset.specs.Preorder.{parts_kept, AreDocuments}
+use Rattle.yaml_subset.specs.Lawful.{AreOfFile}
 
 abbrev pub entry_told : Entry → Told
 entry_told e = record { line = e.line; name = e.name; kind = e.kind; text = e.text }
@@ -20,6 +21,7 @@ built depth (e ∷ others) =
 abbrev pub documents_of : Preorder → Trees
 documents_of kept = built 0 (parts_kept kept)
 
--- the parts that are kept are those of the documents
+-- the parts that are kept are those of the documents, which are as those of a file
 pub record IsWhole (kept : Preorder) : Type 0 where
   pub are : AreDocuments kept (documents_of kept)
+  pub of_file : AreOfFile (documents_of kept)

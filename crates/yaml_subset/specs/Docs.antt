@@ -77,6 +77,11 @@ members_in kinds.Scalar inner = none
 members_in kinds.Sequence inner = none
 members_in kinds.Empty inner = none
 
+-- the members of the first part of a row
+abbrev pub members_of : Trees → Trees
+members_of none = none
+members_of (tree t inner later) = members_in t.kind inner
+
 -- the member of this name of the first part of a row, and the members after it
 abbrev pub member : List ℕ → Trees → Trees
 member name none = none

@@ -25,6 +25,7 @@ pub mod Kept
 pub mod Reading
 pub mod Trees
 pub mod TreesCode
+pub mod Lawful
 pub mod File
 pub mod RefusalText
 pub mod Preorder

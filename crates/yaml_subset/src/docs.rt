@@ -1,7 +1,8 @@
 // Documents as trees, and the walks over them.
-ghost use Rattle.std.specs.Prelude.{◌≡◌, ◌+◌, ◌<◌, ◌^◌, ℕ, List, length, bytes_eq, map, IfSome};
-ghost use Rattle.yaml_subset.specs.Docs.{IsPart, IsAfter, row_of, told_of, inner_of, later_of, IsFirst, count_of, rows_from, named, member, walked, IsAt};
+ghost use Rattle.std.specs.Prelude.{◌≡◌, ◌+◌, ◌<◌, ◌≤◌, ◌^◌, ℕ, List, length, bytes_eq, map, IsUtf8, IfSome};
+ghost use Rattle.yaml_subset.specs.Docs.{IsPart, IsAfter, row_of, told_of, inner_of, later_of, IsFirst, count_of, rows_from, named, members_of, member, walked, IsAt};
 ghost use Rattle.yaml_subset.specs.Held.{node_shown};
+ghost use Rattle.yaml_subset.specs.Lawful.{count_named, AreUnnamed, MayHold, MayTell, AreOfFile};
 ghost use Rattle.yaml_subset.specs.Texts.{texts};
 ghost use Rattle.yaml_subset.specs.Trees.{Trees, tree_entries};
 
@@ -36,7 +37,7 @@ impl Model for Docs {
 
 /// The documents of nodes, each before those in it.
 pub(crate) fn docs_of(nodes: Vec<Node>) -> Docs
-    requires { (documents : Trees) × (map node_shown nodes.items ≡ tree_entries 0 documents) }
+    requires { (documents : Trees) × (map node_shown nodes.items ≡ tree_entries 0 documents) × AreOfFile documents }
     ensures { (documents : Trees) → map node_shown nodes.items ≡ tree_entries 0 documents → result ≡ documents }
 {
     Docs {
@@ -52,9 +53,10 @@ impl Docs {
         self.kept.count()
     }
 
-    /// The document of number `doc`, from 0; `None` exactly where there is none.
+    /// The document of number `doc`, from 0; `None` exactly where there is none. Documents have no names.
     pub fn root(&self, doc: usize) -> Option<Part>
-        ensures { IsFirst self.now (rows_from doc self.now) result }
+        ensures root { IsFirst self.now (rows_from doc self.now) result }
+        ensures unnamed { AreUnnamed self.now }
     {
         self.kept.root(doc)
     }
@@ -67,18 +69,21 @@ impl Docs {
         self.kept.kind(p)
     }
 
-    /// The name of a member; empty for another part.
+    /// The name of a member, in UTF-8; empty for another part.
     pub fn name(&self, p: Part) -> &[u8]
         requires { IsPart self.now p }
-        ensures { result.now ≡ (told_of (row_of self.now p)).name }
+        ensures name { result.now ≡ (told_of (row_of self.now p)).name }
+        ensures utf8 { IsUtf8 result.now }
     {
         self.kept.name(p)
     }
 
-    /// The text of a scalar; empty for another part.
+    /// The text of a scalar, in UTF-8; empty for another part.
     pub fn text(&self, p: Part) -> &[u8]
         requires { IsPart self.now p }
-        ensures { result.now ≡ (told_of (row_of self.now p)).text }
+        ensures text { result.now ≡ (told_of (row_of self.now p)).text }
+        ensures tells { MayTell (told_of (row_of self.now p)).kind result.now }
+        ensures utf8 { IsUtf8 result.now }
     {
         self.kept.text(p)
     }
@@ -92,9 +97,12 @@ impl Docs {
     }
 
     /// The first member of a mapping, or the first item of a sequence; `None` exactly where there is none.
+    ///
+    /// The members of a mapping have names of their own, items have none, and a scalar and an empty part hold nothing.
     pub fn first(&self, p: Part) -> Option<Part>
         requires { IsPart self.now p }
         ensures first { IsFirst self.now (inner_of (row_of self.now p)) result }
+        ensures holds { MayHold (told_of (row_of self.now p)).kind (inner_of (row_of self.now p)) }
         ensures after { IfSome result (IsAfter p) }
     {
         self.kept.first(p)
@@ -117,10 +125,11 @@ impl Docs {
         self.name(p) == name
     }
 
-    /// The member of this name; `None` exactly where the part is no mapping with such a member.
+    /// The member of this name, of which there is one at most; `None` exactly where the part is no mapping with such a member.
     pub fn get(&self, p: Part, name: &[u8]) -> Option<Part>
         requires { IsPart self.now p }
-        ensures { IsFirst self.now (member name.now (row_of self.now p)) result }
+        ensures get { IsFirst self.now (member name.now (row_of self.now p)) result }
+        ensures only { count_named name.now (members_of (row_of self.now p)) ≤ 1 }
     {
         match self.kind(p) {
             PartKind::Mapping => self.named_from(self.first(p), name),

@@ -8,10 +8,14 @@ use Rattle.yaml_subset.specs.File.{without_order_mark, file_lines}
 use Rattle.yaml_subset.specs.Trees.{plain}
 use Rattle.yaml_subset.specs.ReadLines.{Holds, IsLinesCause}
 use Rattle.yaml_subset.proofs.Files.{kept_as, shows, not_refused, cause_in, read_or_memory, told_or_memory}
+use Rattle.yaml_subset.proofs.Marked.{file_lawful}
 use Rattle.yaml_subset.proofs.read.read_docs.Goals as goal
 
 pub docs_of-requires : goal.docs_of-requires
-docs_of-requires c = (plain c.in-Ok-nodes_of.ensures.ok.documents, kept_as c.in-Ok-nodes_of.nodes.items _ c.in-Ok-nodes_of.ensures.ok)
+docs_of-requires c =
+    let e : contents_left c.source_of.result ≡ file_lines c.args.bytes.now = c.source_of.ensures ∙ ap (contents 1 true 0 0) (ap texts c.deref.ensures.value ∙ c.in-Ok-lines_in.ensures ∙ ap lines (c.after_order_mark-text.ensures ∙ ap without_order_mark c.in-Ok.ensures.cases.0)) in
+    let h : Holds c.in-Ok-nodes_of.nodes.items (file_lines c.args.bytes.now) = subst (Holds c.in-Ok-nodes_of.nodes.items) e c.in-Ok-nodes_of.ensures.ok in
+    (plain h.documents, kept_as c.in-Ok-nodes_of.nodes.items _ h, file_lawful c.args.bytes.now h.documents c.in-Ok.ensures.cases.1 h.says)
 
 pub returns-in-Ok-nodes_of-clause-ok : goal.returns-in-Ok-nodes_of-clause-ok
 returns-in-Ok-nodes_of-clause-ok c =
