@@ -1,2 +1,10 @@
-mod Nodes
-mod Lasts
+pub mod Gathered
+pub mod Joined
+pub mod Judged
+pub mod Lasts
+pub mod Nodes
+pub mod Placed
+pub mod Putting
+pub mod Results
+pub mod Scanned
+pub mod Wraps
