@@ -21,8 +21,8 @@ use Rattle.json_text.specs.Visits.{HasValue}
 use Rattle.json_text.specs.LastMembers.{named, names_of, AreLastMembers}
 use Rattle.cloud_events.specs.declared.item.Item.{Item}
 use Rattle.cloud_events.specs.declared.item.Value.{Value}
-use Rattle.cloud_events.specs.Items.{AreSaid, Rise, item_at, item_in, is_item}
-use Rattle.cloud_events.specs.Members.{AreAt, IsAt, is_null, last_of, unless_null}
+use Rattle.cloud_events.specs.Items.{AreSaid, Rise, item_at, item_in}
+use Rattle.cloud_events.specs.Members.{AreAt, IsAt, last_of, unless_null}
 use Rattle.cloud_events.specs.Gather.{Adds, AllNodes, AreItems, end, skips, keeps, IsItemOf, IsNullMember}
 use Rattle.cloud_events.proofs.Lasts.{last_is, not_true}
 

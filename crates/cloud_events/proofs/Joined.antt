@@ -36,3 +36,13 @@ pub appended_next : {X : Type 0} (text : X → List ℕ) (items : List X) (i : �
     → before ≡ front ++ joined (map text (take i items)) → after ≡ before ++ (comma is_first ++ text item) → after ≡ front ++ joined (map text (take (i + 1) items))
 appended_next text items i item is_first front before after more first-is below was is =
     is ∙ ap (λ l. l ++ (comma is_first ++ text item)) was ∙ append_assoc front (joined (map text (take i items))) ((comma is_first ++ text item)) ∙ ap (λ l. front ++ l) (sym (joined_next text items i item is_first more first-is below))
+
+-- members, one by one
+pub fused : {X Y Z : Type 0} (f : Y → Z) (g : X → Y) (items : List X) → map f (map g items) ≡ map (λ x. f (g x)) items
+fused f g [] = refl
+fused f g (x ∷ items) = ap (λ ys. f (g x) ∷ ys) (fused f g items)
+
+-- in braces
+pub built : (empty kept begun held event : List ℕ) (text same : List ℕ) → empty ≡ [] → kept ≡ empty → begun ≡ kept ++ 123 ∷ [] → held ≡ begun ++ text → event ≡ held ++ 125 ∷ [] → text ≡ same → event ≡ 123 ∷ (same ++ 125 ∷ [])
+built empty kept begun held event text same a b c d e f =
+    e ∙ ap (λ (z : List ℕ). z ++ 125 ∷ []) (d ∙ ap (λ (z : List ℕ). z ++ text) (c ∙ ap (λ (z : List ℕ). z ++ 123 ∷ []) (b ∙ a)) ∙ ap (λ (z : List ℕ). 123 ∷ z) f)

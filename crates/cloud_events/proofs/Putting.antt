@@ -12,7 +12,7 @@ use Rattle.std.proofs.lemmas.Map.Text.{is_eq-slice_cmp}
 use Rattle.std.proofs.lemmas.Slice.Eq.{bytes_eq-Decides}
 use Rattle.cloud_events.specs.declared.item.Item.{Item}
 use Rattle.cloud_events.specs.Members.{or_else}
-use Rattle.cloud_events.specs.Items.{Rise, item_in, is_item}
+use Rattle.cloud_events.specs.Items.{Rise, item_in}
 use Rattle.cloud_events.specs.Placing.{placed, put, fill}
 
 -- ---- names rise
@@ -123,3 +123,9 @@ item_fills name (item ∷ fills) items =
 pub rise_fills : (fills items : List Item) → Rise items → Rise (fold fill items fills)
 rise_fills [] items h = h
 rise_fills (item ∷ fills) items h = rise_fills fills (fill items item) (rise_by_fill items item (item_in item.name items) h)
+
+pub kept_by : (items : List Item) (item : Item) (name : List ℕ) (those : List Item) → name ≡ item.name → those ≡ items → is_some (item_in name those) ≡ true → items ≡ fill items item
+kept_by items item name those p q h = ap (λ b. cond b items (put item items)) (sym h ∙ (λ i. is_some (item_in (p i) (q i))))
+
+pub put_by : (items after : List Item) (item : Item) (name : List ℕ) (those : List Item) → name ≡ item.name → those ≡ items → is_some (item_in name those) ≡ false → after ≡ put item items → after ≡ fill items item
+put_by items after item name those p q h e = e ∙ ap (λ b. cond b items (put item items)) (sym h ∙ (λ i. is_some (item_in (p i) (q i))))

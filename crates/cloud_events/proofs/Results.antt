@@ -1,5 +1,4 @@
 -- What follows of results.
-use Rattle.std.proofs.Common.{◌≡◌}
 use Rattle.std.specs.Prelude.{Result, Ok, Err, IfOk, IfErr, OnOk}
 
 pub err_weaker : {X Y : Type 0} (r : Result X Y) (P Q : Y → Type 0) → ((y : Y) → P y → Q y) → IfErr r P → IfErr r Q

@@ -1,5 +1,5 @@
 -- The member that is refused first, by a scan.
-use Rattle.std.proofs.Common.{◌≡◌, ◌⊎◌, inl, inr, ℕ, ◌≤◌, ◌<◌, Bool, true, false, cond, List, [], ◌∷◌, fold, Option, Some, None, refl, sym, ap, subst, ◌∙◌, arith}
+use Rattle.std.proofs.Common.{◌≡◌, ◌⊎◌, inl, inr, ℕ, ◌≤◌, Bool, true, false, cond, List, [], ◌∷◌, fold, Option, Some, None, refl, sym, ap, subst, ◌∙◌, arith}
 use Rattle.std.specs.Prelude.{nat_lt}
 use Rattle.std.specs.Str.{bytes_eq}
 use Rattle.std.specs.Ordering.{nat_cmp, is_eq}
@@ -10,7 +10,7 @@ use Rattle.std.proofs.lemmas.Map.Text.{is_eq-slice_cmp}
 use Rattle.std.proofs.lemmas.Slice.Eq.{bytes_eq-Decides}
 use Rattle.std.proofs.lemmas.Bool.Decides.{nat_tests}
 use Rattle.cloud_events.specs.declared.item.Item.{Item}
-use Rattle.cloud_events.specs.Items.{Rise, item_in, is_item}
+use Rattle.cloud_events.specs.Items.{Rise, item_in}
 use Rattle.cloud_events.specs.Judge.{AreRight, IsFirstWrong, earlier, first_wrong, is_wrong, sooner}
 
 abbrev Among : Item → List Item → Type 0

@@ -14,7 +14,7 @@ use Rattle.json_text.specs.Faults.{IsClean, IsFirstBad, IsFirstDeep}
 use Rattle.json_text.specs.Spelling.{string_of}
 use Rattle.json_text.specs.Levels.{first_holder}
 use Rattle.json_text.specs.Shape.{is_map}
-use Rattle.json_text.specs.Doc.{bytes_read, values_kept, IsRoot, StandsAt, Shows}
+use Rattle.json_text.specs.Doc.{bytes_read, IsRoot, StandsAt, Shows}
 use Rattle.cloud_events.specs.declared.sent.Sent.{Sent}
 use Rattle.cloud_events.specs.declared.sent.EventErr.{EventErr}
 use Rattle.cloud_events.specs.declared.sent.EventErr.TheVariants.{NotJson, Attribute, BothData, BadBase64, BadTime, NoMemory}
@@ -22,14 +22,14 @@ use Rattle.cloud_events.specs.declared.item.Item.{Item}
 use Rattle.cloud_events.specs.declared.media.Form.{Form}
 use Rattle.cloud_events.specs.declared.media.Form.TheVariants.{Event, Json, Plain, Binary}
 use Rattle.cloud_events.specs.Clock.{IsTimeOf}
-use Rattle.cloud_events.specs.Event.{Attribute as EventAttribute, IsEvent, NamesRise, attribute_of, completed, encoded_data, event_bytes, filled_members, optional_item, optional_member, own_items, set_members, spelled, table, text_data, text_item, trace_items, type_member, type_of, value_in}
+use Rattle.cloud_events.specs.Event.{Attribute as EventAttribute, NamesRise, attribute_of, completed, encoded_data, event_bytes, filled_members, optional_item, optional_member, own_items, set_members, spelled, text_data, text_item, trace_items, type_member, type_of, value_in}
 use Rattle.cloud_events.specs.Items.{AreSaid, Rise, item_in, said}
 use Rattle.cloud_events.specs.Judge.{AreEvents, IsFault}
 use Rattle.cloud_events.specs.Media.{form_of}
 use Rattle.cloud_events.specs.Members.{or_else}
 use Rattle.cloud_events.specs.Placing.{fill, put}
 use Rattle.cloud_events.specs.Reading.{AreData, IsData, IsUnreadBy, body_item, encoded_item, span_item}
-use Rattle.cloud_events.specs.Wrapped.{AreGiven, AreSent, IsDataRefusal, IsEventRefusal, IsGiven, IsMapRefusal, IsRead, IsRefused, IsWrapped, RefusedAs}
+use Rattle.cloud_events.specs.Wrapped.{AreGiven, AreSent, IsDataRefusal, IsEventRefusal, IsGiven, IsRead, IsRefused, IsWrapped, RefusedAs}
 use Rattle.cloud_events.proofs.Putting.{item_put, item_fills, rise_put, rise_fills}
 
 -- ---- the value of a text
@@ -51,7 +51,7 @@ root_at doc bytes root shows is = root_by doc bytes root shows.values (subst (λ
 -- ---- what was sent
 
 same_told : (bytes : List ℕ) (children : Forest) (items : List Item) → AreSaid bytes children items → (λ name. item_in name items) ≡ said bytes children
-same_told bytes children items h = λ i name. h.are name i
+same_told bytes children items h = λ i. λ name. h.are name i
 
 pub sent_from : (doc : Doc) (bytes : List ℕ) (root : Node) → Shows doc bytes → (at : RootAt doc bytes root) (items : List Item) → is_map at.spot.kind ≡ true → AreSaid (bytes_read doc) at.children items → AreEvents (λ name. item_in name items) → AreSent bytes items
 sent_from doc bytes root shows at items is h events =
@@ -205,9 +205,9 @@ traces_are sent body =
     let id = optional_item (codes "traceid") sent.traceparent in
     let parent = optional_item (codes "traceparent") sent.traceparent in
     let state = optional_item (codes "tracestate") sent.tracestate in
-    map-append (attribute_of body) id (parent ++ state)
-    ∙ ap (λ (xs : List EventAttribute). map (attribute_of body) id ++ xs) (map-append (attribute_of body) parent state)
-    ∙ (λ i. optional_are body (codes "traceid") sent.traceparent i ++ (optional_are body (codes "traceparent") sent.traceparent i ++ optional_are body (codes "tracestate") sent.tracestate i))
+    map-append (attribute_of body) (id ++ parent) state
+    ∙ ap (λ (xs : List EventAttribute). xs ++ map (attribute_of body) state) (map-append (attribute_of body) id parent)
+    ∙ (λ i. (optional_are body (codes "traceid") sent.traceparent i ++ optional_are body (codes "traceparent") sent.traceparent i) ++ optional_are body (codes "tracestate") sent.tracestate i)
 
 filled_are : (sent : Sent) (id time body : List ℕ) → map (attribute_of body) (own_items sent id time ++ trace_items sent) ≡ filled_members sent id time
 filled_are sent id time body =

@@ -1,5 +1,5 @@
 -- The members of an event, and its bytes (CloudEvents 1.0, its JSON format).
-use Rattle.std.specs.Prelude.{◌≡◌, ℕ, Bool, true, false, List, [], ◌∷◌, ◌++◌, map, fold, codes, Option, Some, None, option_map, if◌then◌else◌}
+use Rattle.std.specs.Prelude.{◌≡◌, ℕ, Bool, true, false, List, [], ◌∷◌, ◌++◌, map, fold, codes, Option, Some, None, if◌then◌else◌}
 use Rattle.std.specs.Str.{bytes_eq, is_utf8}
 use Rattle.std.specs.Ordering.{nat_cmp}
 use Rattle.std.specs.declared.cmp.Ordering.TheVariants.{Less}
@@ -116,6 +116,10 @@ spelled body item = spelled_value body item.start item.end item.value
 
 abbrev pub attribute_of : List ℕ → Item → Attribute
 attribute_of body item = record { name = item.name; value = spelled body item }
+
+-- the bytes of a member
+abbrev pub item_bytes : List ℕ → Item → List ℕ
+item_bytes body item = member_bytes (attribute_of body item)
 
 abbrev pub text_item : List ℕ → List ℕ → Item
 text_item name text = record { name = name; start = 0; end = 0; value = Text text }

@@ -1,5 +1,5 @@
 -- Members of an event.
-use Rattle.std.specs.Prelude.{◌≡◌, ℕ, ◌-◌, Bool, ◌&&◌, ◌==◌, nat_le, List, [], ◌∷◌, length, take, drop, map, find, codes, Option, Some, None, option_map, if◌then◌else◌}
+use Rattle.std.specs.Prelude.{◌≡◌, ℕ, ◌-◌, Bool, ◌&&◌, ◌==◌, nat_le, List, [], ◌∷◌, length, take, drop, find, codes, Option, option_map, if◌then◌else◌}
 use Rattle.std.specs.Str.{bytes_eq}
 use Rattle.std.specs.Str.Parse.{digits_value}
 use Rattle.std.specs.Ordering.{nat_cmp}
@@ -14,7 +14,7 @@ use Rattle.json_text.specs.Shape.{value_bytes}
 use Rattle.json_text.specs.Unescape.{text_shown}
 use Rattle.cloud_events.specs.declared.item.Item.{Item}
 use Rattle.cloud_events.specs.declared.item.Value.{Value}
-use Rattle.cloud_events.specs.declared.item.Value.TheVariants.{Text, Simple, Other, Body, Encoded}
+use Rattle.cloud_events.specs.declared.item.Value.TheVariants.{Text, Simple, Other}
 use Rattle.cloud_events.specs.Members.{member_of}
 
 -- the bytes between two places

@@ -1,11 +1,11 @@
 -- Which members a sent event may have (CloudEvents 1.0, sections 3 and 4 of its JSON format).
-use Rattle.std.specs.Prelude.{◌≡◌, ℕ, ◌≤◌, Bool, true, false, ◌&&◌, ◌||◌, not, nat_le, nat_lt, is_some, List, [], ◌∷◌, length, fold, codes, Option, Some, None, if◌then◌else◌}
+use Rattle.std.specs.Prelude.{◌≡◌, ℕ, ◌≤◌, Bool, true, false, ◌&&◌, ◌||◌, not, nat_le, nat_lt, is_some, List, length, fold, codes, Option, Some, None, if◌then◌else◌}
 use Rattle.std.specs.Str.{bytes_eq}
 use Rattle.std.specs.Char.{is_ascii_digit, is_ascii_lowercase}
 use Rattle.std.specs.List.{list_all}
 use Rattle.cloud_events.specs.declared.item.Item.{Item}
 use Rattle.cloud_events.specs.declared.item.Value.{Value}
-use Rattle.cloud_events.specs.declared.item.Value.TheVariants.{Text, Simple, Other, Body, Encoded}
+use Rattle.cloud_events.specs.declared.item.Value.TheVariants.{Text, Simple}
 use Rattle.cloud_events.specs.declared.sent.EventErr.{EventErr}
 use Rattle.cloud_events.specs.declared.sent.EventErr.TheVariants.{NotJson, Attribute, BothData, BadBase64, BadTime, NoMemory}
 use Rattle.cloud_events.specs.Base.{IsBase64}

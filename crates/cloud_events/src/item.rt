@@ -1,5 +1,5 @@
 //! Members of an event.
-ghost use Rattle.std.specs.Prelude.{◌≡◌, ◌≤◌, ◌^◌, ◌<◌, ◌-◌, length, take, drop, option_copied, bytes_eq};
+ghost use Rattle.std.specs.Prelude.{◌≡◌, ◌≤◌, ◌^◌, ◌<◌, ◌-◌, length, take, drop, option_copied, is_some, bytes_eq};
 ghost use Rattle.cloud_events.specs.Items.{is_int32, is_whole, item_in, part};
 
 use side_base::{Text, number_of, split_digits};
@@ -48,6 +48,16 @@ pub(crate) fn find<'a>(items: &'a [Item], name: &[u8]) -> Option<&'a Item>
         }
     }
     None
+}
+
+/// Whether a member has this name.
+pub(crate) fn is_there(items: &[Item], name: &[u8]) -> bool
+    ensures { result ≡ is_some (item_in name.now items.now) }
+{
+    match find(items, name) {
+        Some(_) => true,
+        None => false,
+    }
 }
 
 /// The bytes between two places of a body.

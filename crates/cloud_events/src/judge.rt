@@ -7,7 +7,7 @@ ghost use Rattle.cloud_events.specs.Judge.{AreEvents, IsBadBase, IsBadTime, IsBa
 use crate::EventErr;
 use crate::base::is_base64;
 use crate::clock::is_time;
-use crate::item::{Item, Value, find, is_same};
+use crate::item::{Item, Value, find, is_same, is_there};
 use side_base::NoMemory;
 use std::alloc::Global;
 
@@ -190,7 +190,7 @@ fn judge_rest(items: &[Item], bad: Option<usize>) -> Result<(), EventErr>
 fn are_both(items: &[Item]) -> bool
     ensures { result ≡ are_both (λ name. item_in name items.now) }
 {
-    find(items, b"data").is_some() && find(items, b"data_base64").is_some()
+    is_there(items, b"data") && is_there(items, b"data_base64")
 }
 
 // Where `data_base64` stands, if it is no base64.

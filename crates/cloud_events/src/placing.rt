@@ -6,7 +6,7 @@ ghost use Rattle.std.specs.Cmp.Lexicographic.{slice_cmp};
 ghost use Rattle.cloud_events.specs.declared.item.Item.{Item as ItemRecord};
 ghost use Rattle.cloud_events.specs.Placing.{fill, put, put_at};
 
-use crate::item::{Item, find};
+use crate::item::{Item, is_there};
 use side_base::NoMemory;
 use std::cmp::Ordering;
 
@@ -22,7 +22,7 @@ pub(crate) struct Place {
 pub(crate) fn fill(items: &mut Vec<Item>, item: Item) -> Result<(), NoMemory>
     ensures { OnOk result (items.new.items ≡ fill items.old.items item) }
 {
-    if find(items.as_slice(), item.name.bytes()).is_some() {
+    if is_there(items.as_slice(), item.name.bytes()) {
         return Ok(());
     }
     put(items, item)

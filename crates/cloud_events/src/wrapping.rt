@@ -145,12 +145,7 @@ fn root_items(alloc: Global, sent: &Sent, doc: &Doc<'_>) -> Result<Vec<Item>, Ev
     }
 }
 
-fn span_items(
-    alloc: Global,
-    sent: &Sent,
-    start: usize,
-    end: usize,
-) -> Result<Vec<Item>, EventErr>
+fn span_items(alloc: Global, sent: &Sent, start: usize, end: usize) -> Result<Vec<Item>, EventErr>
     ensures ok { IfOk result (λ items. IsData (span_item start end) sent.now items.items) }
     ensures err { IfErr result (λ error. error ≡ no_memory) }
 {

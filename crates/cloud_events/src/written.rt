@@ -1,6 +1,6 @@
 //! The bytes of an event.
 ghost use Rattle.std.specs.Prelude.{◌≡◌, ◌++◌, ◌∷◌, map, IfOk, OnOk};
-ghost use Rattle.cloud_events.specs.Event.{attribute_of, comma, event_bytes, joined, member_bytes, spelled, spelled_value};
+ghost use Rattle.cloud_events.specs.Event.{attribute_of, comma, event_bytes, item_bytes, joined, spelled, spelled_value};
 ghost use Rattle.cloud_events.specs.declared.item.Value.TheVariants.{Body};
 
 use crate::base::push_encoded;
@@ -57,7 +57,7 @@ fn push_members(
     body: &[u8],
     items: &[Item],
 ) -> Result<(), NoMemory>
-    ensures { OnOk result (event.new ≡ event.old ++ joined (map member_bytes (map (attribute_of body.now) items.now))) }
+    ensures { OnOk result (event.new ≡ event.old ++ joined (map (item_bytes body.now) items.now)) }
 {
     for i in 0..items.len() {
         push_comma(event, i == 0)?;
@@ -78,7 +78,7 @@ fn push_comma(event: &mut Blob, is_first: bool) -> Result<(), NoMemory>
 }
 
 fn push_member(alloc: Global, event: &mut Blob, body: &[u8], item: &Item) -> Result<(), NoMemory>
-    ensures { OnOk result (event.new ≡ event.old ++ member_bytes (attribute_of body.now item.now)) }
+    ensures { OnOk result (event.new ≡ event.old ++ item_bytes body.now item.now) }
 {
     push_string(event, &item.name)?;
     event.push_byte(b':')?;

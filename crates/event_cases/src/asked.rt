@@ -49,6 +49,21 @@ fn wrapped_at(alloc: Global, sent: &Sent, ms: u64) -> Result<Blob, EventErr> {
     }
 }
 
+// Says where an event that is sent becomes another one.
+fn add_again(alloc: Global, event: &Blob, lines: &mut Lines) -> Result<(), NoMemory> {
+    let whole = Text::from_static(alloc, "application/cloudevents+json");
+    let sent = sent_of(alloc, Some(whole), event.copy()?, false);
+    match wrapped_at(alloc, &sent, 0) {
+        Ok(again) => {
+            if again.bytes() != event.bytes() {
+                lines.add(", and another one again");
+            }
+        }
+        Err(_) => lines.add(", and none again"),
+    }
+    Ok(())
+}
+
 fn add_wrapped(
     alloc: Global,
     words: &str,
@@ -57,8 +72,12 @@ fn add_wrapped(
     lines: &mut Lines,
 ) -> Result<(), NoMemory> {
     let sent = sent_of(alloc, typed(alloc, words)?, Blob::from_bytes(alloc, body)?, traced);
-    add_event(&wrapped_at(alloc, &sent, NOW), lines);
-    Ok(())
+    let wrapped = wrapped_at(alloc, &sent, NOW);
+    add_event(&wrapped, lines);
+    match &wrapped {
+        Ok(event) => add_again(alloc, event, lines),
+        Err(_) => Ok(()),
+    }
 }
 
 // The time of an event of a moment.

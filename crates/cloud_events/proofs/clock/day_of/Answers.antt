@@ -1,4 +1,4 @@
-use Rattle.std.proofs.Common.{arith, w64, ◌≡◌, ℕ, ◌<◌, ◌≤◌, ◌^◌, false, true, ℤ, pos, ◌+ℤ◌, ap, sym, refl, to_z, ◌∙◌}
+use Rattle.std.proofs.Common.{arith, w64, ◌≡◌, ℕ, ◌≤◌, false, true, ℤ, pos, ◌+ℤ◌, ap, refl, to_z, ◌∙◌}
 use Rattle.std.specs.Prelude.{unsigned_abs}
 use Rattle.std.proofs.lemmas.Int.{to_z_pos}
 use Rattle.jiff.specs.Words.{epoch_day, IsEpochDay}

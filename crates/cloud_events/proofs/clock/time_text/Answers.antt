@@ -1,4 +1,4 @@
-use Rattle.std.proofs.Common.{◌≡◌, ℕ, ◌/◌, ◌%◌, ap, sym, ◌∙◌, ◌++◌, pos}
+use Rattle.std.proofs.Common.{ℕ, ◌/◌, ◌%◌, ap, ◌∙◌, ◌++◌, pos}
 use Rattle.cloud_events.specs.Clock.{clock_text, date_text}
 use Rattle.cloud_events.proofs.clock.time_text.Goals as goal
 

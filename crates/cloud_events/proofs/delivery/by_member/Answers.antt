@@ -1,4 +1,4 @@
-use Rattle.std.proofs.Common.{◌≡◌, codes, ℕ, List, refl, Option, Some, None}
+use Rattle.std.proofs.Common.{◌≡◌, codes, ℕ, List, refl, Some, None}
 use Rattle.json_text.specs.declared.spot.Spot.{Spot}
 use Rattle.json_text.specs.Doc.{bytes_read, IsLastNamed}
 use Rattle.json_text.specs.Unescape.{text_shown}

@@ -1,4 +1,4 @@
-use Rattle.std.proofs.Common.{◌≡◌, List, [], ◌++◌, refl, sym, subst, append-nil}
+use Rattle.std.proofs.Common.{List, ◌++◌, refl, sym, subst}
 use Rattle.cloud_events.specs.declared.item.Item.{Item}
 use Rattle.cloud_events.specs.Gather.{AreItems}
 use Rattle.cloud_events.proofs.Gathered.{nodes_first, more_items, all_given}

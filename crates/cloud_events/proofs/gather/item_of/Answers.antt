@@ -1,6 +1,7 @@
-use Rattle.std.proofs.Common.{◌≡◌, sym, ap, ◌∙◌}
+use Rattle.std.proofs.Common.{◌≡◌, ℕ, List, ap, ◌∙◌}
+use Rattle.json_text.specs.Doc.{bytes_read}
 use Rattle.json_text.specs.declared.spot.Spot.{Spot}
-use Rattle.cloud_events.specs.declared.item.Item.{Item}
+use Rattle.cloud_events.specs.Items.{value_at}
 use Rattle.cloud_events.proofs.Nodes.{at_value}
 use Rattle.cloud_events.proofs.Gathered.{item_same}
 use Rattle.cloud_events.proofs.gather.item_of.Goals as goal
@@ -10,6 +11,6 @@ returns-in-Ok-clause-same c spot at =
     let doc = c.args.doc.now in
     let n = c.args.member.node in
     item_same c.args.member.name _ _ _ _ _ _
-    (at_value doc n (λ (s : Spot). c.span.result.0 ≡ s.span.start) c.span.ensures.start spot at)
-    (at_value doc n (λ (s : Spot). c.span.result.1 ≡ s.span.end) c.span.ensures.end spot at)
-    (c.in-Ok.ensures spot at)
+    (at_value doc n (λ (s : Spot). c.span-start.result.0 ≡ s.span.start) c.span-start.ensures.start spot at)
+    (at_value doc n (λ (s : Spot). c.span-start.result.1 ≡ s.span.end) c.span-start.ensures.end spot at)
+    (c.in-Ok.ensures spot at ∙ ap (λ (name : List ℕ). value_at (bytes_read doc) name spot) c.bytes.ensures.value)

@@ -1,4 +1,4 @@
-use Rattle.std.proofs.Common.{◌≡◌, ap, sym, ◌∙◌, subst}
+use Rattle.std.proofs.Common.{ap, sym, ◌∙◌}
 use Rattle.std.specs.Prelude.{option_copied}
 use Rattle.cloud_events.proofs.Results.{err_weaker}
 use Rattle.cloud_events.proofs.Scanned.{all_right, first_is}

@@ -1,4 +1,4 @@
-use Rattle.std.proofs.Common.{◌≡◌, Some, None, subst}
+use Rattle.std.proofs.Common.{subst}
 use Rattle.std.specs.Prelude.{MatchOption}
 use Rattle.cloud_events.specs.Judge.{IsGoodBase, IsBadBase}
 use Rattle.cloud_events.proofs.Results.{err_weaker, ok_if}

@@ -1,4 +1,4 @@
-use Rattle.std.proofs.Common.{◌≡◌, List, ap, sym, subst, ◌∙◌}
+use Rattle.std.proofs.Common.{List, sym, subst, ◌∙◌}
 use Rattle.json_text.specs.Forest.{grows}
 use Rattle.json_text.specs.Doc.{bytes_read}
 use Rattle.cloud_events.specs.declared.item.Item.{Item}

@@ -1,4 +1,5 @@
-use Rattle.std.proofs.Common.{◌≡◌, List, ℕ, subst, sym}
+use Rattle.std.proofs.Common.{List, ℕ, Err, ap, subst}
+use Rattle.json_text.specs.declared.error.JsonErr.{JsonErr}
 use Rattle.cloud_events.specs.Wrapped.{IsDataRefusal}
 use Rattle.cloud_events.proofs.Results.{err_weaker}
 use Rattle.cloud_events.proofs.Wraps.{unread_data}
@@ -12,4 +13,4 @@ returns-in-Ok-clause-err c = err_weaker c.root_items.result _ _ (λ e h. subst (
 
 pub returns-in-Err-clause-err : goal.returns-in-Err-clause-err
 returns-in-Err-clause-err c =
-    subst (λ (b : List ℕ). IsDataRefusal b c.unread.result) c.bytes.ensures (unread_data c.bytes.result.now c.in-Err.error c.unread.result c.unread.ensures (λ at e. c.in-Err.ensures.bad at e) (λ at e. c.in-Err.ensures.deep at e))
+    subst (λ (b : List ℕ). IsDataRefusal b c.unread.result) c.bytes.ensures (unread_data c.bytes.result.now c.in-Err.error c.unread.result c.unread.ensures (λ at e. c.in-Err.ensures.bad at (ap (λ (x : JsonErr). Err x) e)) (λ at e. c.in-Err.ensures.deep at (ap (λ (x : JsonErr). Err x) e)))
