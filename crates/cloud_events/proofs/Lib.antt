@@ -1,3 +1,6 @@
+pub mod Again
+pub mod Causes
+pub mod Fine
 pub mod Gathered
 pub mod Joined
 pub mod Judged

@@ -1,6 +1,7 @@
 -- Moments as texts, and texts as moments (RFC 3339, section 5.6).
 use Rattle.std.specs.Prelude.{◌≡◌, ℕ, ◌+◌, ◌-◌, ◌*◌, ◌/◌, ◌%◌, Bool, true, false, ◌&&◌, ◌||◌, ◌==◌, nat_le, nat_lt, List, [], ◌∷◌, ◌++◌, length, drop, slice_index, codes, decimal, pos, unsigned_abs, if◌then◌else◌}
 use Rattle.std.specs.Char.{is_ascii_digit}
+use Rattle.std.specs.Str.{IsUtf8}
 use Rattle.jiff.specs.Words.{IsDate, epoch_day}
 use Rattle.cloud_events.specs.declared.clock.Day.{Day}
 use Rattle.side_base.specs.Decimal.{digits_at, after_digits}
@@ -23,6 +24,7 @@ pub record IsTimeOf (now : ℕ) (text : List ℕ) : Type 0 where
   pub day : Day
   pub number : epoch_day day.date ≡ pos (now / 86400000)
   pub spelled : text ≡ date_text day ++ clock_text (now % 86400000 / 1000)
+  pub utf8 : IsUtf8 text
 
 -- ---- a text as a moment
 

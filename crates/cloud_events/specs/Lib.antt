@@ -4,6 +4,7 @@ pub mod Event
 pub mod Gather
 pub mod Items
 pub mod Judge
+pub mod Laws
 pub mod Media
 pub mod Members
 pub mod Placing

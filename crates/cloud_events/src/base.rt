@@ -4,6 +4,7 @@ ghost use Rattle.cloud_events.specs.Base.{IsBase64, encoded};
 
 use base64::DecodeAllocError;
 use base64::engine::general_purpose::STANDARD;
+use json_text::push_string_of;
 use side_base::{Blob, NoMemory};
 use std::alloc::Global;
 
@@ -18,12 +19,10 @@ pub(crate) fn is_base64(alloc: Global, text: &[u8]) -> Result<bool, NoMemory>
     }
 }
 
-/// Appends the base64 of the bytes, in quotes.
+/// Appends the base64 of the bytes as a JSON string.
 pub(crate) fn push_encoded(alloc: Global, out: &mut Blob, bytes: &[u8]) -> Result<(), NoMemory>
     ensures { OnOk result (out.new ≡ out.old ++ encoded bytes.now) }
 {
     let text = STANDARD.encode(alloc, bytes)?;
-    out.push_byte(b'"')?;
-    out.push(text.as_bytes())?;
-    out.push_byte(b'"')
+    push_string_of(out, text.as_str())
 }

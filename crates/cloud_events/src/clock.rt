@@ -28,6 +28,7 @@ pub(crate) fn time_text(alloc: Global, now: Moment) -> Result<Text, NoMemory>
     let day = day_of(ms / DAY);
     push_date(&mut text, &day)?;
     push_clock(&mut text, (ms % DAY / 1_000) as u32)?;
+    let _utf8 = text.as_str();
     Ok(text)
 }
 

@@ -8,6 +8,7 @@ mod delivery;
 mod gather;
 mod item;
 mod judge;
+pub mod laws;
 mod media;
 mod outcome;
 mod placing;

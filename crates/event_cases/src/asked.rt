@@ -71,7 +71,12 @@ fn add_wrapped(
     traced: bool,
     lines: &mut Lines,
 ) -> Result<(), NoMemory> {
-    let sent = sent_of(alloc, typed(alloc, words)?, Blob::from_bytes(alloc, body)?, traced);
+    let sent = sent_of(
+        alloc,
+        typed(alloc, words)?,
+        Blob::from_bytes(alloc, body)?,
+        traced,
+    );
     let wrapped = wrapped_at(alloc, &sent, NOW);
     add_event(&wrapped, lines);
     match &wrapped {

@@ -8,4 +8,5 @@ returns c = record {
   number = c.day_of-day.ensures ∙ ap (λ (n : ℕ). pos (n / 86400000)) c.ms-ms.ensures.same;
   spelled = c.in_ok-push_clock.ensures ∙ ap (λ t. t ++ clock_text (c.ms-ms.result % 86400000 / 1000)) (c.in_ok-push_date.ensures ∙ ap (λ t. t ++ date_text c.day_of-day.result) c.new-text.ensures)
       ∙ ap (λ (n : ℕ). date_text c.day_of-day.result ++ clock_text (n % 86400000 / 1000)) c.ms-ms.ensures.same;
+  utf8 = c.as_str-utf8.ensures.utf8;
 }
