@@ -1,0 +1,13 @@
+pub mod Again
+pub mod Causes
+pub mod Fine
+pub mod Gathered
+pub mod Joined
+pub mod Judged
+pub mod Lasts
+pub mod Nodes
+pub mod Placed
+pub mod Putting
+pub mod Results
+pub mod Scanned
+pub mod Wraps

@@ -1,0 +1,13 @@
+pub mod Base
+pub mod Clock
+pub mod Event
+pub mod Gather
+pub mod Items
+pub mod Judge
+pub mod Laws
+pub mod Media
+pub mod Members
+pub mod Placing
+pub mod Reading
+pub mod Verdict
+pub mod Wrapped

@@ -1,0 +1,18 @@
+//! What holds of the definitions that the contracts cite, as functions whose contract is the law.
+ghost use Rattle.std.specs.Prelude.{◌≡◌, ℕ, List};
+ghost use Rattle.cloud_events.specs.declared.sent.Sent.{Sent};
+ghost use Rattle.cloud_events.specs.declared.sent.EventErr.{EventErr};
+ghost use Rattle.cloud_events.specs.declared.sent.EventErr.TheVariants.{NoMemory as no_memory};
+ghost use Rattle.cloud_events.specs.Laws.{AreTexts, IsReadAs};
+ghost use Rattle.cloud_events.specs.Wrapped.{IsRefused, IsWrapped};
+
+/// A body that becomes an event has no cause of refusal, so that `wrap` refuses exactly what it has to.
+pub fn an_event_has_no_cause_of_refusal()
+    ensures { (sent : Sent) (id event : List ℕ) (now : ℕ) (error : EventErr) → IsWrapped sent id now event → IsRefused sent error → error ≡ no_memory }
+{}
+
+/// An event is a JSON text of one map, with which nothing is wrong, so that `json_text::read` takes it unless memory runs out; its
+/// members are those that were written.
+pub fn an_event_is_read_again()
+    ensures { (sent : Sent) (id event : List ℕ) (now : ℕ) (wrapped : IsWrapped sent id now event) → AreTexts sent id → IsReadAs wrapped.event_is.members event }
+{}
