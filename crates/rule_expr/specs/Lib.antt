@@ -1,0 +1,11 @@
+pub mod Bytes
+pub mod Codes
+pub mod Parts
+pub mod Quoted
+pub mod Reading
+pub mod Rules
+pub mod Stacks
+pub mod Standing
+pub mod Trees
+pub mod Values
+pub mod Wholes

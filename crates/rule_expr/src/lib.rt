@@ -1,0 +1,28 @@
+//! Routing rules of subscriptions: a text is read as a rule, and a rule has one of three values over an event.
+#![tactic(auto)]
+
+mod answer;
+mod compare;
+mod error;
+mod expr;
+pub mod laws;
+mod op;
+mod operand;
+mod parser;
+mod part;
+mod place;
+mod quotes;
+mod rule_text;
+mod seen;
+mod stack;
+#[cfg(test)]
+mod tests;
+mod truth;
+mod value;
+mod whole;
+
+pub use answer::matches;
+pub use error::RuleErr;
+pub use expr::Expr;
+pub use rule_text::parse;
+pub use truth::Truth;
