@@ -157,7 +157,6 @@ text_halts {room} {text} {why} is lack = record {
   };
 }
 
--- one part
 part_walk : {room : ℕ} {text rest : List ℕ} (part : Part) → ((more : Bool) (brackets : List Bracket) → operand_row more part brackets text ≡ to (after more value_end) brackets (behind text)) → part_at text ≡ part → rest ≡ behind text → WalksAtom room text rest
 part_walk {room} {text} {rest} part known is moved = plain (λ more. walk_one (λ brackets.
     ap (λ own. operand_row more own brackets text) is ∙ known more brackets ∙ ap (λ own. to (after more value_end) brackets own) (sym moved)) room)
@@ -454,7 +453,6 @@ refused_behind text begun rest stopped why begins went lack is = record {
   at = is;
 }
 
--- results that go on
 pub group_ok : {T : Type 0} (result : Result T Stop) (room : ℕ) (text rest : List ℕ) → part_at text ≡ parts.Open → OnOk result (WalksRound room text rest) → OnOk result (WalksAtom room text rest)
 group_ok (Ok x) room text rest is first = group_walk is first
 group_ok (Err why) room text rest is first = tt
