@@ -1,0 +1,11 @@
+mod Answering
+mod Computing
+mod Heights
+mod Membership
+mod Numbers
+mod Producing
+mod Quotations
+mod Ruling
+mod Stacks
+mod Walking
+mod WalkingOperands

@@ -1,0 +1,44 @@
+//! What holds of the definitions that the contracts cite, as functions whose contract is the law.
+ghost use Rattle.std.specs.Prelude.{◌≡◌, Bool, true, false, Option, Some, None, codes, List, ℕ};
+ghost use Rattle.rule_expr.specs.Rules.{IsRule};
+ghost use Rattle.rule_expr.specs.Trees.{Tree, or, unary, choice, no_items};
+ghost use Rattle.rule_expr.specs.Values.{Event, Value, both, either, value, flag, number, text, null, equal, compared};
+ghost use Rattle.rule_expr.specs.Walks.{IsRefused};
+ghost use Rattle.rule_expr.specs.Wholes.{whole, whole_of};
+ghost use Rattle.rule_expr.specs.declared.error.RuleErr.{RuleErr};
+ghost use Rattle.rule_expr.specs.declared.part.Relation.TheVariants.{Equal, Unlike};
+
+/// A text that is a rule is refused nowhere, and one that is refused is so at one place and for one cause.
+pub fn rules_and_refusals()
+    ensures apart { (text : List ℕ) (tree : Tree or) (why : RuleErr) → IsRule text tree → IsRefused text why → ⊥ }
+    ensures once { (text : List ℕ) (one other : RuleErr) → IsRefused text one → IsRefused text other → one ≡ other }
+{}
+
+/// False on either side of `&&` makes it false, true on either side of `||` makes it true, whatever stands on the other, an
+/// error included; otherwise an error makes an error.
+pub fn truth_values_beside_errors()
+    ensures both_left { (other : Option Bool) → both (Some false) other ≡ Some false }
+    ensures both_right { (other : Option Bool) → both other (Some false) ≡ Some false }
+    ensures both_error { (both (Some true) None ≡ None) × (both None (Some true) ≡ None) }
+    ensures either_left { (other : Option Bool) → either (Some true) other ≡ Some true }
+    ensures either_right { (other : Option Bool) → either other (Some true) ≡ Some true }
+    ensures either_error { (either (Some false) None ≡ None) × (either None (Some false) ≡ None) }
+{}
+
+/// Nothing is in the empty list, and that is no error, whatever is looked for.
+pub fn nothing_is_in_the_empty_list()
+    ensures { (event : Event) (wanted : Tree unary) → value event (choice wanted no_items) ≡ flag false }
+{}
+
+/// Numbers at the ends of 64 bits, and texts that spell none.
+#[tactic(auto, unfolding(crate::specs::Wholes::whole_of))]
+pub fn numbers_of_texts()
+    ensures least { whole_of (codes "-9223372036854775808") ≡ Some (whole true 9223372036854775808) }
+    ensures below_least { whole_of (codes "-9223372036854775809") ≡ None }
+    ensures greatest { whole_of (codes "9223372036854775807") ≡ Some (whole false 9223372036854775807) }
+    ensures above_greatest { whole_of (codes "9223372036854775808") ≡ None }
+    ensures zero { whole_of (codes "-0") ≡ Some (whole false 0) }
+    ensures sign_alone { whole_of (codes "-") ≡ None }
+    ensures fraction { whole_of (codes "1.0") ≡ None }
+    ensures blank { whole_of (codes " 1") ≡ None }
+{}
