@@ -1,0 +1,5 @@
+mod Aimed
+mod Gathering
+mod Members
+mod Readings
+mod Steps

@@ -1,0 +1,69 @@
+-- Which subscriptions a message is for, and which path each of them gives it.
+use Rattle.std.specs.Prelude.{ℕ, suc, Bool, true, false, ◌&&◌, List, [], ◌∷◌, bytes_eq, filter, if◌then◌else◌, Option, Some, None}
+use Rattle.std.specs.Option.{option_or}
+use Rattle.ledger_core.specs.declared.plan.Aim.{Aim}
+use Rattle.rule_expr.specs.declared.truth.Truth.{Truth}
+use Rattle.rule_expr.specs.declared.truth.Truth.TheVariants.{Yes, No, Error}
+use Rattle.rule_expr.specs.Values.{Event}
+use Rattle.rule_expr.specs.Codes.{verdict}
+use Rattle.resource_spec.specs.Component.{Loaded}
+use Rattle.resource_spec.specs.Components.{component_named}
+use Rattle.resource_spec.specs.declared.component.ComponentKind.{ComponentKind}
+use Rattle.resource_spec.specs.declared.component.ComponentKind.TheVariants as kinds
+use Rattle.topic_spec.specs.declared.sub.Rule.{Rule}
+use Rattle.topic_spec.specs.declared.sub.Sub.{Sub}
+use Rattle.topic_spec.specs.Scopes.{may_subscribe}
+
+-- ---- the path of an event
+
+abbrev pub is_yes : Truth → Bool
+is_yes Yes = true
+is_yes No = false
+is_yes Error = false
+
+-- what a rule answers of an event
+abbrev pub answer : Event → Rule → Truth
+answer event rule = verdict event rule.expr.ops.items
+
+-- the path of the first rule that answers yes
+unfoldable pub first_yes : Event → List Rule → Option (List ℕ)
+first_yes event [] = None
+first_yes event (rule ∷ rules) = if is_yes (answer event rule) then Some rule.path else first_yes event rules
+
+-- the path of the first rule that answers yes, or else the default
+unfoldable pub path_of : Event → Sub → Option (List ℕ)
+path_of event sub = option_or (first_yes event sub.rules) sub.default
+
+-- ---- the subscriptions to a topic
+
+unfoldable pub is_to : List ℕ → List ℕ → Sub → Bool
+is_to pubsub topic sub = bytes_eq sub.pubsub pubsub && bytes_eq sub.topic topic
+
+-- one aim for each subscription to the topic, in order; the first of these subscriptions has this place
+unfoldable pub aims_from : ℕ → Event → List ℕ → List ℕ → List Sub → List Aim
+aims_from place event pubsub topic [] = []
+aims_from place event pubsub topic (sub ∷ subs) =
+    if is_to pubsub topic sub then record { sub = place; path = path_of event sub } ∷ aims_from (suc place) event pubsub topic subs
+    else aims_from (suc place) event pubsub topic subs
+
+abbrev pub aims_of : Event → List ℕ → List ℕ → List Sub → List Aim
+aims_of event pubsub topic subs = aims_from 0 event pubsub topic subs
+
+-- ---- the subscriptions that are kept
+
+abbrev pub is_pubsub : ComponentKind → Bool
+is_pubsub kinds.PubsubMemory = true
+is_pubsub kinds.StateMemory = false
+is_pubsub kinds.StateJournal = false
+is_pubsub kinds.BindingHttp = false
+
+abbrev pub lets : List ℕ → List ℕ → Option Loaded → Bool
+lets app topic None = false
+lets app topic (Some c) = is_pubsub c.kind && may_subscribe c app topic
+
+-- its pub/sub component is loaded, and lets the app subscribe to the topic
+unfoldable pub is_kept : List Loaded → List ℕ → Sub → Bool
+is_kept components app sub = lets app sub.topic (component_named sub.pubsub components)
+
+abbrev pub kept : List Loaded → List ℕ → List Sub → List Sub
+kept components app subs = filter (is_kept components app) subs
