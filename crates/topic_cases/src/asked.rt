@@ -35,7 +35,11 @@ fn first_word(text: &str) -> (&str, &str) {
 }
 
 fn yes_or_no(alloc: Global, yes: bool) -> Text {
-    if yes { line(alloc, "yes\n") } else { line(alloc, "no\n") }
+    if yes {
+        line(alloc, "yes\n")
+    } else {
+        line(alloc, "no\n")
+    }
 }
 
 fn may(publishes: bool, component: &Component, app: &Text, topic: &Text) -> bool {

@@ -51,11 +51,7 @@ fn refuse(world: &mut World, text: Text) {
 }
 
 // Joins subscriptions, or keeps why it can't.
-fn take_up(
-    alloc: Global,
-    world: &mut World,
-    read: Result<Subs, SubErr>,
-) -> Result<(), NoMemory> {
+fn take_up(alloc: Global, world: &mut World, read: Result<Subs, SubErr>) -> Result<(), NoMemory> {
     match read {
         Ok(subs) => match join(&mut world.subs, subs) {
             Ok(()) => Ok(()),
@@ -147,11 +143,7 @@ fn take_numbered(
 }
 
 /// Reads what a case gives, for this app, up to the first refusal.
-pub(crate) fn read(
-    alloc: Global,
-    sections: &[Section<'_>],
-    app: &Text,
-) -> Result<World, NoMemory> {
+pub(crate) fn read(alloc: Global, sections: &[Section<'_>], app: &Text) -> Result<World, NoMemory> {
     let mut world = World {
         components: Components::new(alloc),
         subs: Subs::new(alloc),

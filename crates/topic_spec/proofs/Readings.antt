@@ -20,7 +20,7 @@ refusal_read doc text whys.NoMemory error is refused = subst (λ e. IsReadAs doc
 
 module _ (all : List RuleText) where
   pub good_start : (rules : List Rule) → rules ≡ [] → (more : List Rule) → AreRules all more → AreRules all (rules ++ more)
-  good_start rules none more are = subst (λ r. AreRules all (r ++ more)) (sym none) are
+  good_start rules empty more are = subst (λ r. AreRules all (r ++ more)) (sym empty) are
 
   pub good_on : (texts later : List RuleText) (text : RuleText) (rules after : List Rule) (rule : Rule) → texts ≡ text ∷ later → after ≡ rules ++ rule ∷ [] → IsRuleOf text rule → ((more : List Rule) → AreRules texts more → AreRules all (rules ++ more)) → (more : List Rule) → AreRules later more → AreRules all (after ++ more)
   good_on texts later text rules after rule at new is good more are =
@@ -38,7 +38,7 @@ module _ (all : List RuleText) where
   bad_here doc texts later text (refusals.TooMany count) at read bad = absurd read
 
   pub good_end : (texts : List RuleText) (rules : List Rule) → texts ≡ [] → ((more : List Rule) → AreRules texts more → AreRules all (rules ++ more)) → AreRules all rules
-  good_end texts rules none good = subst (AreRules all) (append-nil rules) (good [] (subst (λ t. AreRules t []) (sym none) tt))
+  good_end texts rules empty good = subst (AreRules all) (append-nil rules) (good [] (subst (λ t. AreRules t []) (sym empty) tt))
 
 -- what was refused of the rules is refused of the subscription
 pub same_refusal : {A B : Type 0} (doc : ℕ) (texts : List RuleText) (one : A → Type 0) (other : B → Type 0) (e : SubErr) → IsReading {T = A} doc texts one (Err e) → IsReading {T = B} doc texts other (Err e)

@@ -1,5 +1,5 @@
 -- Which subscriptions a message is for, and which path each of them gives it.
-use Rattle.std.specs.Prelude.{ℕ, suc, Bool, true, false, ◌&&◌, List, [], ◌∷◌, bytes_eq, filter, if◌then◌else◌, Option, Some, None}
+use Rattle.std.specs.Prelude.{◌≡◌, ℕ, ◌+◌, ◌⊎◌, Bool, true, false, ◌&&◌, List, [], ◌∷◌, ◌++◌, bytes_eq, filter, if◌then◌else◌, Option, Some, None}
 use Rattle.std.specs.Option.{option_or}
 use Rattle.ledger_core.specs.declared.plan.Aim.{Aim}
 use Rattle.rule_expr.specs.declared.truth.Truth.{Truth}
@@ -39,15 +39,21 @@ path_of event sub = option_or (first_yes event sub.rules) sub.default
 unfoldable pub is_to : List ℕ → List ℕ → Sub → Bool
 is_to pubsub topic sub = bytes_eq sub.pubsub pubsub && bytes_eq sub.topic topic
 
--- one aim for each subscription to the topic, in order; the first of these subscriptions has this place
+-- one aim where the subscription at this place is to the topic
+unfoldable pub aim_at : ℕ → Event → List ℕ → List ℕ → Sub → List Aim
+aim_at place event pubsub topic sub = if is_to pubsub topic sub then record { sub = place; path = path_of event sub } ∷ [] else []
+
+-- those of subscriptions, in order; the first of them has this place
 unfoldable pub aims_from : ℕ → Event → List ℕ → List ℕ → List Sub → List Aim
 aims_from place event pubsub topic [] = []
-aims_from place event pubsub topic (sub ∷ subs) =
-    if is_to pubsub topic sub then record { sub = place; path = path_of event sub } ∷ aims_from (suc place) event pubsub topic subs
-    else aims_from (suc place) event pubsub topic subs
+aims_from place event pubsub topic (sub ∷ subs) = aim_at place event pubsub topic sub ++ aims_from (place + 1) event pubsub topic subs
 
 abbrev pub aims_of : Event → List ℕ → List ℕ → List Sub → List Aim
 aims_of event pubsub topic subs = aims_from 0 event pubsub topic subs
+
+-- nothing was added, or an aim of this place
+abbrev pub IsAimed : ℕ → List Aim → List Aim → Type 0
+IsAimed place old new = (new ≡ old) ⊎ ((path : Option (List ℕ)) × (new ≡ old ++ record { sub = place; path = path } ∷ []))
 
 -- ---- the subscriptions that are kept
 

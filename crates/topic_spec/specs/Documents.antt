@@ -1,5 +1,5 @@
 -- What the documents of a file say of subscriptions.
-use Rattle.std.specs.Prelude.{ℕ, suc, Bool, true, false, bytes_eq, if◌then◌else◌, List, [], ◌∷◌, ◌++◌, codes, Option, Some, None, option_map, Result, Ok, Err}
+use Rattle.std.specs.Prelude.{ℕ, ◌+◌, Bool, true, false, bytes_eq, if◌then◌else◌, List, [], ◌∷◌, ◌++◌, codes, Option, Some, None, option_map, Result, Ok, Err}
 use Rattle.yaml_subset.specs.declared.kind.PartKind.{PartKind}
 use Rattle.yaml_subset.specs.declared.kind.PartKind.TheVariants as parts
 use Rattle.yaml_subset.specs.Trees.{Trees, none, tree}
@@ -121,4 +121,4 @@ document_said app doc row =
 -- of each of these documents, the first of which has this number
 unfoldable pub all_said : List ℕ → ℕ → Trees → List (Result (Option Draft) SubErr)
 all_said app doc none = []
-all_said app doc (tree t inner later) = document_said app doc (tree t inner later) ∷ all_said app (suc doc) later
+all_said app doc (tree t inner later) = document_said app doc (tree t inner later) ∷ all_said app (doc + 1) later

@@ -1,5 +1,5 @@
 -- What an app's own list of subscriptions says, as a JSON text. Of repeated members the last counts; null counts as absent.
-use Rattle.std.specs.Prelude.{◌≡◌, ℕ, suc, Bool, true, false, if◌then◌else◌, List, [], ◌∷◌, ◌++◌, codes, Option, Some, None, option_map, Result, Ok, Err}
+use Rattle.std.specs.Prelude.{◌≡◌, ℕ, ◌+◌, Bool, true, false, if◌then◌else◌, List, [], ◌∷◌, ◌++◌, codes, Option, Some, None, option_map, Result, Ok, Err}
 use Rattle.json_text.specs.declared.kind.Kind.{Kind}
 use Rattle.json_text.specs.declared.kind.Kind.TheVariants as kinds
 use Rattle.json_text.specs.declared.spot.Spot.{Spot}
@@ -147,16 +147,16 @@ abbrev pub draft_of : List ℕ → Forest → Result Draft FieldErr
 draft_of bytes item = provided (is_map (kind_of item)) (codes "list") (draft_members bytes item)
 
 -- of an item, the subscription that it is; one that is its own dead-letter topic has the topic's name
+unfoldable pub item_draft : List ℕ → ℕ → Forest → Result Draft SubErr
+item_draft bytes place item = follow (in_doc place (draft_of bytes item)) (λ draft. unless_self draft.topic draft)
+
 unfoldable pub item_said : List ℕ → ℕ → Forest → Result (Option Draft) SubErr
-item_said bytes place item =
-    follow (in_doc place (draft_of bytes item)) (λ draft.
-    follow (unless_self draft.topic draft) (λ kept.
-    Ok (Some kept)))
+item_said bytes place item = follow (item_draft bytes place item) (λ draft. Ok (Some draft))
 
 -- of each of these items, the first of which has this place
 unfoldable pub items_said : List ℕ → ℕ → Forest → List (Result (Option Draft) SubErr)
 items_said bytes place empty = []
-items_said bytes place (grows spot children later) = item_said bytes place (grows spot children later) ∷ items_said bytes (suc place) later
+items_said bytes place (grows spot children later) = item_said bytes place (grows spot children later) ∷ items_said bytes (place + 1) later
 
 -- what the items of a list come to; of any other text the list is wrong
 abbrev pub ListLoadsIf : List ℕ → Forest → Bool → Result (List Sub) SubErr → Type 0

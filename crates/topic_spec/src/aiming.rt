@@ -1,9 +1,9 @@
 //! To which paths an event is delivered.
-ghost use Rattle.std.specs.Prelude.{◌≡◌, ℕ, [], ◌∷◌, ◌++◌, length, option_map, OnOk, IfOk, if◌then◌else◌};
+ghost use Rattle.std.specs.Prelude.{◌≡◌, ◌++◌, length, option_map, OnOk, IfOk};
 ghost use Rattle.ledger_core.specs.Aims.{AreAims};
 ghost use Rattle.rule_expr.specs.Standing.{IsEvent};
 ghost use Rattle.rule_expr.specs.Values.{Event};
-ghost use Rattle.topic_spec.specs.Aiming.{is_yes, first_yes, path_of, is_to, aims_of};
+ghost use Rattle.topic_spec.specs.Aiming.{is_yes, first_yes, path_of, is_to, aim_at, aims_of, IsAimed};
 
 use crate::sub::{Rules, Sub, Subs};
 use json_text::Doc;
@@ -23,6 +23,7 @@ fn is_yes(truth: Truth) -> bool
 }
 
 // The path of the first rule that answers yes.
+#[tactic(auto, unfolding(crate::specs::Aiming::first_yes))]
 fn first_yes<'a>(rules: &'a Rules, event: &Doc<'_>) -> Option<&'a Text>
     ensures { (shown : Event) → IsEvent event.now shown → option_map (λ t. t.now) result ≡ first_yes shown rules.now }
 {
@@ -36,6 +37,7 @@ fn first_yes<'a>(rules: &'a Rules, event: &Doc<'_>) -> Option<&'a Text>
 }
 
 // The path of the first rule that answers yes, or else the default.
+#[tactic(auto, unfolding(crate::specs::Aiming::path_of))]
 fn path_of<'a>(sub: &'a Sub, event: &Doc<'_>) -> Option<&'a Text>
     ensures { (shown : Event) → IsEvent event.now shown → option_map (λ t. t.now) result ≡ path_of shown sub.now }
 {
@@ -64,10 +66,22 @@ fn is_to(sub: &Sub, pubsub: &Text, topic: &Text) -> bool
     sub.pubsub.bytes() == pubsub.bytes() && sub.topic.bytes() == topic.bytes()
 }
 
-// Adds the aim of the subscription at this place.
-fn add_aim(place: u32, sub: &Sub, event: &Doc<'_>, aims: &mut Aims) -> Result<(), NoMemory>
-    ensures { (shown : Event) → IsEvent event.now shown → OnOk result (aims.new ≡ aims.old ++ record { sub = place; path = path_of shown sub.now } ∷ []) }
+// Adds the aim of the subscription at this place, if it is to the topic.
+#[tactic(auto, unfolding(crate::specs::Aiming::aim_at))]
+fn add_aim(
+    place: u32,
+    sub: &Sub,
+    pubsub: &Text,
+    topic: &Text,
+    event: &Doc<'_>,
+    aims: &mut Aims,
+) -> Result<(), NoMemory>
+    ensures aims { (shown : Event) → IsEvent event.now shown → OnOk result (aims.new ≡ aims.old ++ aim_at place shown pubsub.now topic.now sub.now) }
+    ensures place { OnOk result (IsAimed place aims.old aims.new) }
 {
+    if !is_to(sub, pubsub, topic) {
+        return Ok(());
+    }
     match copied(path_of(sub, event)) {
         Ok(path) => aims.push(Aim { sub: place, path }),
         Err(error) => Err(error),
@@ -88,12 +102,9 @@ pub fn aims(
 {
     let mut aims = Sequence::new(alloc);
     for i in 0..subs.len() {
-        let sub = subs.at(i);
-        if is_to(sub, pubsub, topic) {
-            match add_aim(i as u32, sub, event, &mut aims) {
-                Ok(()) => {}
-                Err(error) => return Err(error),
-            }
+        match add_aim(i as u32, subs.at(i), pubsub, topic, event, &mut aims) {
+            Ok(()) => {}
+            Err(error) => return Err(error),
         }
     }
     Ok(aims)

@@ -8,7 +8,10 @@ ghost use Rattle.resource_spec.specs.Field.{asked_at, text_at, field_at};
 ghost use Rattle.topic_spec.specs.Draft.{IsSaid, unless_self};
 ghost use Rattle.topic_spec.specs.Documents.{rule_err, in_rules, rule_in, rules_from, rules_listed, rules_in, routes_of_rules, routes_of_one, routes_in, draft_in, is_text, is_earlier, version_of, draft_named, document_said};
 
-use crate::draft::{Draft, Routes, RuleText, RuleTexts, in_document, one_route, path_said, some_route, unless_self, with_slash, wrong};
+use crate::draft::{
+    Draft, Routes, RuleText, RuleTexts, in_document, one_route, path_said, some_route, unless_self,
+    with_slash, wrong,
+};
 use crate::sub_err::SubErr;
 use resource_spec::{FieldErr, asked, field_of, head, part_text, said};
 use side_base::{Sequence, Text};
@@ -237,7 +240,11 @@ fn is_earlier(docs: &Docs, p: Part) -> bool
 fn version_of(earlier: bool) -> &'static str
     ensures { result.now ≡ version_of earlier }
 {
-    if earlier { "dapr.io/v1alpha1" } else { "dapr.io/v2alpha1" }
+    if earlier {
+        "dapr.io/v1alpha1"
+    } else {
+        "dapr.io/v2alpha1"
+    }
 }
 
 // The subscription of a document, if it has a name.

@@ -1,5 +1,5 @@
 //! A subscription as it is written down, before its rules are read.
-ghost use Rattle.std.specs.Prelude.{◌≡◌, true, Option, Some, None, option_map, Ok, IfOk, List};
+ghost use Rattle.std.specs.Prelude.{◌≡◌, Option, Some, None, option_map, Ok, IfOk, List};
 ghost use Rattle.resource_spec.specs.Document.{IsRead};
 ghost use Rattle.topic_spec.specs.Draft.{with_slash, some_route, one_route, unless_self, is_same, err_in, IsSaid};
 
@@ -64,17 +64,8 @@ pub(crate) fn in_document(doc: usize, error: FieldErr) -> SubErr
     }
 }
 
-// Whether the text begins with a slash.
-fn has_slash(path: &Text) -> bool
-    ensures { result ≡ true → with_slash path.now ≡ path.now }
-{
-    match path.bytes().split_first() {
-        Some((first, _)) => *first == b'/',
-        None => false,
-    }
-}
-
 /// The path, with a slash before it where it has none.
+#[tactic(auto, unfolding(crate::specs::Draft::with_slash))]
 pub(crate) fn with_slash(alloc: Global, path: Text) -> Result<Text, NoMemory>
     ensures { IfOk result (λ text. text ≡ with_slash path) }
 {

@@ -5,11 +5,13 @@ ghost use Rattle.json_text.specs.Forest.{Forest};
 ghost use Rattle.resource_spec.specs.Document.{IsRead};
 ghost use Rattle.rule_expr.specs.Standing.{IsAt, IsFound};
 ghost use Rattle.rule_expr.specs.Values.{last_named, held};
-ghost use Rattle.resource_spec.specs.Follow.{follow};
 ghost use Rattle.topic_spec.specs.Draft.{IsSaid, unless_self};
-ghost use Rattle.topic_spec.specs.Listed.{kind_of, is_null, is_list, is_map, is_text, there, member_of, as_text, text_or_none, text_in, needed_in, rule_members, rule_of, rules_from, rules_of, routes_members, routes_or_route, routes_of, draft_members, draft_of, item_said};
+ghost use Rattle.topic_spec.specs.Listed.{kind_of, is_null, is_list, is_map, is_text, there, member_of, as_text, text_or_none, text_in, or_missing, needed_in, rule_members, rule_of, rules_from, rules_of, routes_members, routes_or_route, routes_of, draft_members, draft_of, item_draft};
 
-use crate::draft::{Draft, Routes, RuleText, RuleTexts, in_document, missing, one_route, path_said, some_route, unless_self, with_slash, wrong};
+use crate::draft::{
+    Draft, Routes, RuleText, RuleTexts, in_document, missing, one_route, path_said, some_route,
+    unless_self, with_slash, wrong,
+};
 use crate::sub_err::SubErr;
 use json_text::{Doc, Kind, Node};
 use resource_spec::FieldErr;
@@ -92,12 +94,19 @@ fn unless_null(doc: &Doc<'_>, found: Option<Node>) -> Option<Node>
     ensures there { (values : Option Forest) → IsFound doc.now found values → IsFound doc.now result (there values) }
 {
     match found {
-        Some(n) => { if is_null(kind_of(doc, n)) { None } else { Some(n) } }
+        Some(n) => {
+            if is_null(kind_of(doc, n)) {
+                None
+            } else {
+                Some(n)
+            }
+        }
         None => None,
     }
 }
 
 // The member of this name, if it is there.
+#[tactic(auto, unfolding(crate::specs::Listed::member_of))]
 fn member_of(doc: &Doc<'_>, n: Node, name: &[u8]) -> Option<Node>
     requires { IsNode doc.now n }
     ensures node { IfSome result (IsNode doc.now) }
@@ -139,6 +148,7 @@ fn text_or_none(
 }
 
 // The text of a member, which may be absent.
+#[tactic(auto, unfolding(crate::specs::Listed::text_in))]
 fn text_in(
     alloc: Global,
     doc: &Doc<'_>,
@@ -150,6 +160,15 @@ fn text_in(
     ensures { (values : Forest) → IsAt doc.now n values → IsRead result (text_in (bytes_read doc.now) field.now name.now values) }
 {
     text_or_none(alloc, doc, member_of(doc, n, name), field)
+}
+
+fn or_missing(alloc: Global, field: &'static str, text: Option<Text>) -> Result<Text, FieldErr>
+    ensures { IsRead result (or_missing field.now text) }
+{
+    match text {
+        Some(text) => Ok(text),
+        None => Err(missing(alloc, field)),
+    }
 }
 
 // The text of a member, which must be there.
@@ -164,8 +183,7 @@ fn needed_in(
     ensures { (values : Forest) → IsAt doc.now n values → IsRead result (needed_in (bytes_read doc.now) field.now name.now values) }
 {
     match text_in(alloc, doc, n, field, name) {
-        Ok(Some(text)) => Ok(text),
-        Ok(None) => Err(missing(alloc, field)),
+        Ok(text) => or_missing(alloc, field, text),
         Err(error) => Err(error),
     }
 }
@@ -332,28 +350,19 @@ fn draft_of(alloc: Global, doc: &Doc<'_>, n: Node) -> Result<Draft, FieldErr>
 }
 
 // The draft, unless its topic is its own dead-letter topic.
-fn unless_own(alloc: Global, draft: Draft) -> Result<Option<Draft>, SubErr>
-    ensures { IsSaid result (follow (unless_self draft.topic draft) (λ kept. Ok (Some kept))) }
+fn unless_own(alloc: Global, draft: Draft) -> Result<Draft, SubErr>
+    ensures { IsSaid result (unless_self draft.topic draft) }
 {
-    let name = match draft.topic.copy() {
-        Ok(name) => name,
-        Err(_) => return Err(SubErr::NoMemory),
-    };
-    match unless_self(alloc, name.as_str(), draft) {
-        Ok(draft) => Ok(Some(draft)),
-        Err(error) => Err(error),
+    match draft.topic.copy() {
+        Ok(name) => unless_self(alloc, name.as_str(), draft),
+        Err(_) => Err(SubErr::NoMemory),
     }
 }
 
 /// The subscription that the item at this place is.
-pub(crate) fn item_at(
-    alloc: Global,
-    doc: &Doc<'_>,
-    place: usize,
-    n: Node,
-) -> Result<Option<Draft>, SubErr>
+pub(crate) fn item_at(alloc: Global, doc: &Doc<'_>, place: usize, n: Node) -> Result<Draft, SubErr>
     requires { IsNode doc.now n }
-    ensures { (item : Forest) → IsAt doc.now n item → IsSaid result (item_said (bytes_read doc.now) place item) }
+    ensures { (item : Forest) → IsAt doc.now n item → IsSaid result (item_draft (bytes_read doc.now) place item) }
 {
     match draft_of(alloc, doc, n) {
         Ok(draft) => unless_own(alloc, draft),

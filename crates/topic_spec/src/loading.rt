@@ -1,5 +1,5 @@
 //! Subscriptions of files and of an app's own list.
-ghost use Rattle.std.specs.Prelude.{[], Ok, Some};
+ghost use Rattle.std.specs.Prelude.{◌≡◌, ◌+◌, [], length, Ok, Some, OnOk};
 ghost use Rattle.json_text.specs.Doc.{bytes_read, IsNode};
 ghost use Rattle.json_text.specs.Forest.{Forest};
 ghost use Rattle.rule_expr.specs.Standing.{IsAt, IsEvent};
@@ -22,7 +22,8 @@ use yaml_subset::{Docs, Part};
 
 // Adds a subscription whose rules are read.
 fn add_sub(sub: Sub, all: &mut Subs) -> Result<(), SubErr>
-    ensures { IsAdded result sub all.old all.new }
+    ensures added { IsAdded result sub all.old all.new }
+    ensures longer { OnOk result (length all.new ≡ length all.old + 1) }
 {
     if all.len() >= 256 {
         return Err(SubErr::TooMany { count: 257 });
@@ -35,7 +36,8 @@ fn add_sub(sub: Sub, all: &mut Subs) -> Result<(), SubErr>
 
 // Reads the rules of a draft, and adds it.
 fn add_draft(alloc: Global, doc: usize, draft: Draft, all: &mut Subs) -> Result<(), SubErr>
-    ensures { IsStep result doc all.old all.new (Ok (Some draft)) }
+    ensures step { IsStep result doc all.old all.new (Ok (Some draft)) }
+    ensures longer { OnOk result (length all.new ≡ length all.old + 1) }
 {
     match sub_of(alloc, doc, draft) {
         Ok(sub) => add_sub(sub, all),
@@ -44,12 +46,7 @@ fn add_draft(alloc: Global, doc: usize, draft: Draft, all: &mut Subs) -> Result<
 }
 
 // Adds what is said, if a subscription is.
-fn add_said(
-    alloc: Global,
-    doc: usize,
-    said: Option<Draft>,
-    all: &mut Subs,
-) -> Result<(), SubErr>
+fn add_said(alloc: Global, doc: usize, said: Option<Draft>, all: &mut Subs) -> Result<(), SubErr>
     ensures { IsStep result doc all.old all.new (Ok said) }
 {
     match said {
@@ -98,7 +95,7 @@ pub fn subscriptions(alloc: Global, docs: &Docs, app: &Text) -> Result<Subs, Sub
     Ok(all)
 }
 
-// Adds the subscription of an item.
+// Adds the subscription of the item at this place.
 fn add_item(
     alloc: Global,
     doc: &Doc<'_>,
@@ -107,29 +104,26 @@ fn add_item(
     all: &mut Subs,
 ) -> Result<(), SubErr>
     requires { IsNode doc.now n }
-    ensures { (item : Forest) → IsAt doc.now n item → IsStep result place all.old all.new (item_said (bytes_read doc.now) place item) }
+    ensures step { (item : Forest) → IsAt doc.now n item → IsStep result place all.old all.new (item_said (bytes_read doc.now) place item) }
+    ensures longer { OnOk result (length all.new ≡ length all.old + 1) }
 {
     match item_at(alloc, doc, place, n) {
-        Ok(said) => add_said(alloc, place, said, all),
+        Ok(draft) => add_draft(alloc, place, draft, all),
         Err(error) => Err(error),
     }
 }
 
-// The subscriptions that the items of a list say.
+// The subscriptions that the items of a list say: each that is taken adds one, so that their number is the place of the next.
 fn subs_of_list(alloc: Global, doc: &Doc<'_>, n: Node) -> Result<Subs, SubErr>
     requires { IsNode doc.now n }
     ensures { (values : Forest) → IsAt doc.now n values → IsLoad (Loads 0 [] (items_said (bytes_read doc.now) 0 (held values))) result }
 {
     let mut here = doc.first(n);
-    let mut place: usize = 0;
     let mut all = Subs::new(alloc);
     loop {
         match here {
-            Some(item) => match add_item(alloc, doc, place, item, &mut all) {
-                Ok(()) => {
-                    here = doc.next(item);
-                    place += 1;
-                }
+            Some(item) => match add_item(alloc, doc, all.len(), item, &mut all) {
+                Ok(()) => here = doc.next(item),
                 Err(error) => return Err(error),
             },
             None => return Ok(all),

@@ -6,8 +6,11 @@ use resource_spec::Component;
 use side_base::Text;
 
 const SPACE: u8 = b' ';
+
 const COMMA: u8 = b',';
+
 const SEMICOLON: u8 = b';';
+
 const SIGN: u8 = b'=';
 
 fn without_front_spaces(bytes: &[u8]) -> &[u8]
@@ -61,14 +64,16 @@ fn is_name(name: &[u8], piece: &[u8]) -> bool
 fn has_some_topic(text: &[u8]) -> bool
     ensures { result ≡ has_some_topic text.now }
 {
-    text.split(|byte| *byte == COMMA).any(|piece| is_some_name(piece))
+    text.split(|byte| *byte == COMMA)
+        .any(|piece| is_some_name(piece))
 }
 
 // Whether the topic is among those that are joined by commas.
 fn has_topic(topic: &[u8], text: &[u8]) -> bool
     ensures { result ≡ has_topic topic.now text.now }
 {
-    text.split(|byte| *byte == COMMA).any(|piece| is_name(topic, piece))
+    text.split(|byte| *byte == COMMA)
+        .any(|piece| is_name(topic, piece))
 }
 
 fn lets_topic(text: Option<&Text>, topic: &Text) -> bool
@@ -80,6 +85,7 @@ fn lets_topic(text: Option<&Text>, topic: &Text) -> bool
     }
 }
 
+#[tactic(auto, unfolding(crate::specs::Scopes::before_sign))]
 fn sign_at(item: &[u8]) -> usize
     ensures exact { result ≡ length (before_sign item.now) }
     ensures inside { result ≤ length item.now }
@@ -87,12 +93,14 @@ fn sign_at(item: &[u8]) -> usize
     item.iter().take_while(|byte| **byte != SIGN).count()
 }
 
+#[tactic(auto, unfolding(crate::specs::Scopes::before_sign))]
 fn before_sign(item: &[u8]) -> &[u8]
     ensures { result.now ≡ before_sign item.now }
 {
     &item[..sign_at(item)]
 }
 
+#[tactic(auto, unfolding(crate::specs::Scopes::behind_sign))]
 fn behind_sign(item: &[u8]) -> &[u8]
     ensures { result.now ≡ behind_sign item.now }
 {
@@ -124,21 +132,26 @@ fn is_of_topic(app: &[u8], topic: &[u8], item: &[u8]) -> bool
 fn has_app(app: &[u8], scopes: &[u8]) -> bool
     ensures { result ≡ has_app app.now scopes.now }
 {
-    scopes.split(|byte| *byte == SEMICOLON).any(|item| is_of_app(app, item))
+    scopes
+        .split(|byte| *byte == SEMICOLON)
+        .any(|item| is_of_app(app, item))
 }
 
 // Whether the app is listed with the topic.
 fn has_app_topic(app: &[u8], topic: &[u8], scopes: &[u8]) -> bool
     ensures { result ≡ has_app_topic app.now topic.now scopes.now }
 {
-    scopes.split(|byte| *byte == SEMICOLON).any(|item| is_of_topic(app, topic, item))
+    scopes
+        .split(|byte| *byte == SEMICOLON)
+        .any(|item| is_of_topic(app, topic, item))
 }
 
 fn lets_app(scopes: Option<&Text>, app: &Text, topic: &Text) -> bool
     ensures { result ≡ lets_app (option_map (λ t. t.now) scopes.entry) app.now topic.now }
 {
     match scopes {
-        Some(scopes) => !has_app(app.bytes(), scopes.bytes()) || has_app_topic(app.bytes(), topic.bytes(), scopes.bytes()),
+        Some(scopes) => !has_app(app.bytes(), scopes.bytes())
+            || has_app_topic(app.bytes(), topic.bytes(), scopes.bytes()),
         None => true,
     }
 }

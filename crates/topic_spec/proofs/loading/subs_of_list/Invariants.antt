@@ -12,7 +12,7 @@ use Rattle.topic_spec.proofs.loading.subs_of_list.Given as goal
 abbrev pub invariant-loop-here : goal.invariant-loop-here
 invariant-loop-here l = record {
   here_is : IfSome l.here (IsNode l.doc);
-  going : (values : Forest) → IsAt l.doc l.fn.n values → GoingItems l.doc (Loads 0 [] (items_said (bytes_read l.doc) 0 (held values))) l.place l.here l.all;
+  going : (values : Forest) → IsAt l.doc l.fn.n values → GoingItems l.doc (Loads 0 [] (items_said (bytes_read l.doc) 0 (held values))) (length l.all) l.here l.all;
 }
 
 abbrev pub decreases-loop-here : goal.decreases-loop-here
