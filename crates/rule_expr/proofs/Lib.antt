@@ -5,4 +5,7 @@ mod Membership
 mod Numbers
 mod Producing
 mod Quotations
+mod Ruling
 mod Stacks
+mod Walking
+mod WalkingOperands

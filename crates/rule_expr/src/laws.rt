@@ -1,9 +1,18 @@
 //! What holds of the definitions that the contracts cite, as functions whose contract is the law.
 ghost use Rattle.std.specs.Prelude.{◌≡◌, Bool, true, false, Option, Some, None, codes, List, ℕ};
-ghost use Rattle.rule_expr.specs.Trees.{Tree, unary, choice, no_items};
+ghost use Rattle.rule_expr.specs.Rules.{IsRule};
+ghost use Rattle.rule_expr.specs.Trees.{Tree, or, unary, choice, no_items};
 ghost use Rattle.rule_expr.specs.Values.{Event, Value, both, either, value, flag, number, text, null, equal, compared};
+ghost use Rattle.rule_expr.specs.Walks.{IsRefused};
 ghost use Rattle.rule_expr.specs.Wholes.{whole, whole_of};
+ghost use Rattle.rule_expr.specs.declared.error.RuleErr.{RuleErr};
 ghost use Rattle.rule_expr.specs.declared.part.Relation.TheVariants.{Equal, Unlike};
+
+/// A text that is a rule is refused nowhere, and one that is refused is so at one place and for one cause.
+pub fn rules_and_refusals()
+    ensures apart { (text : List ℕ) (tree : Tree or) (why : RuleErr) → IsRule text tree → IsRefused text why → ⊥ }
+    ensures once { (text : List ℕ) (one other : RuleErr) → IsRefused text one → IsRefused text other → one ≡ other }
+{}
 
 /// False on either side of `&&` makes it false, true on either side of `||` makes it true, whatever stands on the other, an
 /// error included; otherwise an error makes an error.

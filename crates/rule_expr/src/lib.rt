@@ -11,12 +11,12 @@ mod operand;
 mod parser;
 mod part;
 mod place;
+mod productions;
 mod quotes;
 mod rule_text;
 mod seen;
 mod stack;
-#[cfg(test)]
-mod tests;
+mod stop;
 mod truth;
 mod value;
 mod whole;

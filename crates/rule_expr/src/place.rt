@@ -1,35 +1,32 @@
-// Refusals by their places.
-ghost use Rattle.std.specs.Prelude.{◌≡◌, ◌-◌, length};
+// Why reading stops.
+ghost use Rattle.std.specs.Prelude.{◌≡◌, length};
+ghost use Rattle.rule_expr.specs.Parts.{part_at};
+ghost use Rattle.rule_expr.specs.Places.{why_not};
 
-use crate::error::RuleErr;
 use crate::part::Part;
-use crate::seen::{is_left_out, seen};
+use crate::seen::{is_left_out, part_at};
+use crate::stop::Stop;
 
-/// The place of what is left of a text of so many bytes.
-pub(crate) fn place_of(whole: usize, rest: &[u8]) -> usize
-    ensures { result ≡ whole - length rest.now }
+/// Why nothing goes on with what stands next. `named` is whether a name may stand there.
+pub(crate) fn why_not(rest: &[u8], named: bool) -> Stop
+    ensures { result ≡ why_not named (part_at rest.now) (length rest.now) }
 {
-    whole.saturating_sub(rest.len())
-}
-
-/// Why the grammar has no more of what stands next. `named` is whether a name may stand there.
-pub(crate) fn refusal(whole: usize, rest: &[u8], named: bool) -> RuleErr {
-    let at = place_of(whole, rest);
-    match seen(rest).part {
+    let left = rest.len();
+    match part_at(rest) {
         Part::Named { word: _ } => {
             if named {
-                RuleErr::LeftOut { at }
+                Stop::LeftOut { left }
             } else {
-                RuleErr::Bad { at }
+                Stop::Bad { left }
             }
         }
         Part::Stray { byte } => {
             if is_left_out(byte) {
-                RuleErr::LeftOut { at }
+                Stop::LeftOut { left }
             } else {
-                RuleErr::Bad { at }
+                Stop::Bad { left }
             }
         }
-        _ => RuleErr::Bad { at },
+        _ => Stop::Bad { left },
     }
 }

@@ -1,25 +1,30 @@
-ghost use Rattle.std.specs.Prelude.{IfOk};
+ghost use Rattle.std.specs.Prelude.{◌≢◌, IfOk, IfErr};
+ghost use Rattle.rule_expr.specs.declared.error.RuleErr.TheVariants.{NoMemory};
 ghost use Rattle.rule_expr.specs.Codes.{IsExpr};
 ghost use Rattle.rule_expr.specs.Rules.{IsRule};
 ghost use Rattle.rule_expr.specs.Trees.{Tree, or};
+ghost use Rattle.rule_expr.specs.Walks.{IsRefused};
 
 use crate::error::RuleErr;
 use crate::expr::Expr;
 use crate::parser::Parser;
+use crate::stop::error_at;
 use std::alloc::Global;
 
-/// Reads a rule, in which at most 32 brackets stand within one another.
+/// Reads a rule, in which at most 32 brackets stand within one another. A refusal is of the first place where the text leaves the
+/// grammar.
 #[tactic(auto, using(crate::proofs::Producing::ruled, crate::proofs::Producing::ruled_fits))]
 pub fn parse(alloc: Global, text: &[u8]) -> Result<Expr, RuleErr>
-    ensures { IfOk result (λ expr. (tree : Tree or) × IsRule text.now tree × IsExpr expr.ops.items tree) }
+    ensures ok { IfOk result (λ expr. (tree : Tree or) × IsRule text.now tree × IsExpr expr.ops.items tree) }
+    ensures err { IfErr result (λ why. why ≢ NoMemory → IsRefused text.now why) }
 {
     let mut parser = Parser::new(alloc, text);
     match parser.either(32) {
         Ok(()) => {}
-        Err(error) => return Err(error),
+        Err(stop) => return Err(error_at(text.len(), stop)),
     }
     match parser.finish() {
         Ok(ops) => Ok(Expr { ops }),
-        Err(error) => Err(error),
+        Err(stop) => Err(error_at(text.len(), stop)),
     }
 }

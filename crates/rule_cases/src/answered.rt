@@ -1,0 +1,41 @@
+// Rules and what they answer.
+
+use case_text::Lines;
+use json_text::read;
+use rule_expr::{Expr, RuleErr, Truth, matches, parse};
+use side_base::{NoMemory, Text};
+use std::alloc::Global;
+
+fn truth_word(truth: Truth) -> &'static str {
+    match truth {
+        Truth::Yes => "Yes",
+        Truth::No => "No",
+        Truth::Error => "Error",
+    }
+}
+
+fn add_refusal(error: RuleErr, lines: &mut Lines) {
+    match error {
+        RuleErr::Bad { at } => lines.add_number("Bad ", at as u64),
+        RuleErr::LeftOut { at } => lines.add_number("LeftOut ", at as u64),
+        RuleErr::Deep { at } => lines.add_number("Deep ", at as u64),
+        RuleErr::NoMemory => lines.add("no memory"),
+    }
+}
+
+fn add_truth(alloc: Global, rule: &Expr, event: &[u8], lines: &mut Lines) {
+    match read(alloc, event) {
+        Ok(doc) => lines.add(truth_word(matches(rule, &doc))),
+        Err(_) => lines.add("no event"),
+    }
+}
+
+/// What the rule of this text answers over an event, or why it is refused.
+pub(crate) fn answer(alloc: Global, event: &[u8], text: &[u8]) -> Result<Text, NoMemory> {
+    let mut lines = Lines::new(alloc);
+    match parse(alloc, text) {
+        Ok(rule) => add_truth(alloc, &rule, event, &mut lines),
+        Err(error) => add_refusal(error, &mut lines),
+    }
+    lines.done()
+}
