@@ -5,7 +5,7 @@ use Rattle.rule_expr.specs.declared.error.RuleErr.TheVariants as whys
 use Rattle.rule_expr.specs.declared.expr.Expr.{Expr}
 use Rattle.rule_expr.specs.Trees.{Tree, or}
 use Rattle.rule_expr.specs.Rules.{IsRule}
-use Rattle.rule_expr.specs.Refusals.{IsRefused}
+use Rattle.rule_expr.specs.Walks.{IsRefused}
 use Rattle.rule_expr.specs.Codes.{IsExpr}
 use Rattle.topic_spec.specs.declared.draft.RuleText.{RuleText}
 use Rattle.topic_spec.specs.declared.draft.Draft.{Draft}
