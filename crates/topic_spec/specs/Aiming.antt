@@ -1,17 +1,22 @@
 -- Which subscriptions a message is for, and which path each of them gives it.
-use Rattle.std.specs.Prelude.{◌≡◌, ℕ, ◌+◌, ◌⊎◌, Bool, true, false, ◌&&◌, List, [], ◌∷◌, ◌++◌, bytes_eq, filter, if◌then◌else◌, Option, Some, None}
+use Rattle.std.specs.Prelude.{◌≡◌, ◌≢◌, ℕ, ◌+◌, ⊤, ◌⊎◌, Bool, true, false, ◌&&◌, List, [], ◌∷◌, ◌++◌, bytes_eq, filter, if◌then◌else◌, Option, Some, None}
 use Rattle.std.specs.Option.{option_or}
 use Rattle.ledger_core.specs.declared.plan.Aim.{Aim}
 use Rattle.rule_expr.specs.declared.truth.Truth.{Truth}
 use Rattle.rule_expr.specs.declared.truth.Truth.TheVariants.{Yes, No, Error}
-use Rattle.rule_expr.specs.Values.{Event}
+use Rattle.rule_expr.specs.Rules.{IsRule}
+use Rattle.rule_expr.specs.Trees.{Tree, or}
+use Rattle.rule_expr.specs.Values.{Event, value, flag}
 use Rattle.rule_expr.specs.Codes.{verdict}
 use Rattle.resource_spec.specs.Component.{Loaded}
 use Rattle.resource_spec.specs.Components.{component_named}
 use Rattle.resource_spec.specs.declared.component.ComponentKind.{ComponentKind}
 use Rattle.resource_spec.specs.declared.component.ComponentKind.TheVariants as kinds
+use Rattle.topic_spec.specs.declared.draft.RuleText.{RuleText}
+use Rattle.topic_spec.specs.declared.draft.Draft.{Draft}
 use Rattle.topic_spec.specs.declared.sub.Rule.{Rule}
 use Rattle.topic_spec.specs.declared.sub.Sub.{Sub}
+use Rattle.topic_spec.specs.Reading.{IsSub}
 use Rattle.topic_spec.specs.Scopes.{may_subscribe}
 
 -- ---- the path of an event
@@ -54,6 +59,36 @@ aims_of event pubsub topic subs = aims_from 0 event pubsub topic subs
 -- nothing was added, or an aim of this place
 abbrev pub IsAimed : ℕ → List Aim → List Aim → Type 0
 IsAimed place old new = (new ≡ old) ⊎ ((path : Option (List ℕ)) × (new ≡ old ++ record { sub = place; path = path } ∷ []))
+
+-- ---- the same by the texts of rules
+
+-- the path of the first rule whose value is true, or else the default
+abbrev pub IsPath : Event → List RuleText → Option (List ℕ) → Option (List ℕ) → Type 0
+IsPath event [] default path = path ≡ default
+IsPath event (text ∷ texts) default path =
+    (tree : Tree or) × IsRule text.condition tree × (((value event tree ≡ flag true) × (path ≡ Some text.path)) ⊎ ((value event tree ≢ flag true) × IsPath event texts default path))
+
+-- these are the subscriptions that are written down
+abbrev pub AreSubs : List Draft → List Sub → Type 0
+AreSubs [] [] = ⊤
+AreSubs [] (sub ∷ subs) = ⊥
+AreSubs (draft ∷ drafts) [] = ⊥
+AreSubs (draft ∷ drafts) (sub ∷ subs) = IsSub draft sub × AreSubs drafts subs
+
+abbrev pub is_draft_to : List ℕ → List ℕ → Draft → Bool
+is_draft_to pubsub topic draft = bytes_eq draft.pubsub pubsub && bytes_eq draft.topic topic
+
+-- one aim for each that is to the topic, in order; the first of them has this place
+pub data AimsBy (event : Event) (pubsub topic : List ℕ) : ℕ → List Draft → List Aim → Type 0 where
+  done : {place : ℕ} → AimsBy event pubsub topic place [] []
+  past : {place : ℕ} {draft : Draft} {drafts : List Draft} {aims : List Aim} → is_draft_to pubsub topic draft ≡ false → AimsBy event pubsub topic (place + 1) drafts aims → AimsBy event pubsub topic place (draft ∷ drafts) aims
+  aimed : {place : ℕ} {draft : Draft} {drafts : List Draft} {aims : List Aim} {path : Option (List ℕ)} → is_draft_to pubsub topic draft ≡ true → IsPath event draft.rules draft.default path → AimsBy event pubsub topic (place + 1) drafts aims → AimsBy event pubsub topic place (draft ∷ drafts) (record { sub = place; path = path } ∷ aims)
+
+-- what is added for one of them
+abbrev pub AddsBy : Event → List ℕ → List ℕ → ℕ → Draft → List Aim → List Aim → Type 0
+AddsBy event pubsub topic place draft old new =
+    ((is_draft_to pubsub topic draft ≡ false) × (new ≡ old))
+    ⊎ ((is_draft_to pubsub topic draft ≡ true) × (path : Option (List ℕ)) × IsPath event draft.rules draft.default path × (new ≡ old ++ record { sub = place; path = path } ∷ []))
 
 -- ---- the subscriptions that are kept
 

@@ -1,9 +1,13 @@
 //! To which paths an event is delivered.
-ghost use Rattle.std.specs.Prelude.{◌≡◌, ◌++◌, length, option_map, OnOk, IfOk};
+ghost use Rattle.std.specs.Prelude.{◌≡◌, ◌++◌, ℕ, List, length, Option, option_map, OnOk, IfOk};
 ghost use Rattle.ledger_core.specs.Aims.{AreAims};
 ghost use Rattle.rule_expr.specs.Standing.{IsEvent};
 ghost use Rattle.rule_expr.specs.Values.{Event};
-ghost use Rattle.topic_spec.specs.Aiming.{is_yes, first_yes, path_of, is_to, aim_at, aims_of, IsAimed};
+ghost use Rattle.std.specs.Option.{option_or};
+ghost use Rattle.topic_spec.specs.declared.draft.Draft.{Draft};
+ghost use Rattle.topic_spec.specs.declared.draft.RuleText.{RuleText};
+ghost use Rattle.topic_spec.specs.Aiming.{is_yes, first_yes, path_of, is_to, aim_at, aims_of, IsAimed, IsPath, AreSubs, AddsBy, AimsBy};
+ghost use Rattle.topic_spec.specs.Reading.{AreRules, IsSub};
 
 use crate::sub::{Rules, Sub, Subs};
 use json_text::Doc;
@@ -25,7 +29,8 @@ fn is_yes(truth: Truth) -> bool
 // The path of the first rule that answers yes.
 #[tactic(auto, unfolding(crate::specs::Aiming::first_yes))]
 fn first_yes<'a>(rules: &'a Rules, event: &Doc<'_>) -> Option<&'a Text>
-    ensures { (shown : Event) → IsEvent event.now shown → option_map (λ t. t.now) result ≡ first_yes shown rules.now }
+    ensures first { (shown : Event) → IsEvent event.now shown → option_map (λ t. t.now) result ≡ first_yes shown rules.now }
+    ensures values { (shown : Event) (texts : List RuleText) (default : Option (List ℕ)) → IsEvent event.now shown → AreRules texts rules.now → IsPath shown texts default (option_or (option_map (λ t. t.now) result) default) }
 {
     for i in 0..rules.len() {
         let rule = rules.at(i);
@@ -39,7 +44,8 @@ fn first_yes<'a>(rules: &'a Rules, event: &Doc<'_>) -> Option<&'a Text>
 // The path of the first rule that answers yes, or else the default.
 #[tactic(auto, unfolding(crate::specs::Aiming::path_of))]
 fn path_of<'a>(sub: &'a Sub, event: &Doc<'_>) -> Option<&'a Text>
-    ensures { (shown : Event) → IsEvent event.now shown → option_map (λ t. t.now) result ≡ path_of shown sub.now }
+    ensures path { (shown : Event) → IsEvent event.now shown → option_map (λ t. t.now) result ≡ path_of shown sub.now }
+    ensures values { (shown : Event) (draft : Draft) → IsEvent event.now shown → IsSub draft sub.now → IsPath shown draft.rules draft.default (option_map (λ t. t.now) result) }
 {
     match first_yes(&sub.rules, event) {
         Some(path) => Some(path),
@@ -78,6 +84,7 @@ fn add_aim(
 ) -> Result<(), NoMemory>
     ensures aims { (shown : Event) → IsEvent event.now shown → OnOk result (aims.new ≡ aims.old ++ aim_at place shown pubsub.now topic.now sub.now) }
     ensures place { OnOk result (IsAimed place aims.old aims.new) }
+    ensures values { (shown : Event) (draft : Draft) → IsEvent event.now shown → IsSub draft sub.now → OnOk result (AddsBy shown pubsub.now topic.now place draft aims.old aims.new) }
 {
     if !is_to(sub, pubsub, topic) {
         return Ok(());
@@ -98,6 +105,7 @@ pub fn aims(
     event: &Doc<'_>,
 ) -> Result<Aims, NoMemory>
     ensures aims { (shown : Event) → IsEvent event.now shown → IfOk result (λ aims. aims ≡ aims_of shown pubsub.now topic.now subs.now) }
+    ensures values { (shown : Event) (drafts : List Draft) → IsEvent event.now shown → AreSubs drafts subs.now → IfOk result (AimsBy shown pubsub.now topic.now 0 drafts) }
     ensures given { IfOk result (AreAims (length subs.now)) }
 {
     let mut aims = Sequence::new(alloc);
