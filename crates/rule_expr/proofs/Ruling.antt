@@ -1,5 +1,5 @@
 -- The table takes each rule to its end, and each text to one end alone.
-use Rattle.std.proofs.Common.{◌≡◌, ◌∙◌, ap, sym, subst, ℕ, suc, max, ◌+◌, ◌-◌, ◌≤◌, List, [], ◌∷◌, ◌++◌, length, refl, arith, Bool, true, false}
+use Rattle.std.proofs.Common.{◌≡◌, ◌∙◌, ap, sym, subst, ℕ, ◌+◌, ◌-◌, ◌≤◌, List, [], ◌∷◌, ◌++◌, length, refl, arith, Bool, true, false}
 use Rattle.std.proofs.lemmas.Bool.{true≢false}
 use Rattle.rule_expr.specs.declared.part.Part.{Part}
 use Rattle.rule_expr.specs.declared.part.Part.TheVariants as parts
@@ -15,9 +15,9 @@ use Rattle.rule_expr.specs.Trees.{Level, Tree, Step, Token, mark, quote, spelled
 use Rattle.rule_expr.specs.Rules
 use Rattle.rule_expr.specs.Rules.{Leads, Stands, IsRule}
 use Rattle.rule_expr.specs.Refusals.{error_at}
-use Rattle.rule_expr.specs.Places.{State, Place, Tail, Home, Bracket, Move, path_end, value_end, list_end, operand, after, dot_path, dot_value, open_round, open_list, in_round, in_list, onward, ended, stop, state, to, row, step, after_path, is_open, is_close, name_row, dot_row, call_row, after_row, alone}
+use Rattle.rule_expr.specs.Places.{State, Place, Tail, Bracket, Move, path_end, value_end, list_end, operand, after, open_round, open_list, in_round, in_list, onward, ended, stop, state, to, row, step, after_path, is_open, is_close, name_row, dot_row, after_row, alone}
 use Rattle.rule_expr.specs.Walks.{Goes, Comes, IsRefused, stays, moves, start}
-use Rattle.rule_expr.specs.Walking.{Walks, WalksSteps, WalksHome, WalksAtom, WalksRound, tail_of, home_of}
+use Rattle.rule_expr.specs.Walking.{Walks, WalksSteps, WalksAtom, WalksRound, tail_of, home_of}
 use Rattle.rule_expr.proofs.Walking.{step_is, one_move, then_goes, then_comes, comes_here, walk_one, walk_on, unled, one_less, list_goes, list_empty, round_opens, lead_part, lead_rest}
 use Rattle.rule_expr.proofs.WalkingOperands.{group_walk, text_walk, number_walk, true_walk, false_walk, null_walk, int_walk, member_begins, has_walk, steps_none, steps_again, dot_begins, bracketed_walk, held_walk}
 
@@ -175,9 +175,13 @@ led_item : {room : ℕ} {text rest : List ℕ} → Led room text rest → LedIte
 led_item first = record { more = first.more; tail = first.tail; goes = λ outer fits. first.walks.goes (in_list ∷ outer) fits }
 
 led_items : {room : ℕ} {text end next rest : List ℕ} → LedItems room text end → part_at end ≡ parts.Comma → next ≡ behind end → Led room next rest → LedItems room text rest
-led_items {end = end} {next = next} first is moved second = record { more = second.more; tail = second.tail; goes = λ outer fits. then_goes (first.goes outer fits) (then_goes
-    (one_move (after first.more first.tail) (operand true) (in_list ∷ outer) (in_list ∷ outer) end next (ap (λ own. after_row first.more first.tail own (in_list ∷ outer) end) is ∙ comma_row first.more first.tail outer end ∙ ap (λ own. to (operand true) (in_list ∷ outer) own) (sym moved)))
-    (second.walks.goes (in_list ∷ outer) fits)) }
+led_items {end = end} {next = next} first is moved second = record {
+  more = second.more;
+  tail = second.tail;
+  goes = λ outer fits. then_goes (first.goes outer fits) (then_goes
+      (one_move (after first.more first.tail) (operand true) (in_list ∷ outer) (in_list ∷ outer) end next (ap (λ own. after_row first.more first.tail own (in_list ∷ outer) end) is ∙ comma_row first.more first.tail outer end ∙ ap (λ own. to (operand true) (in_list ∷ outer) own) (sym moved)))
+      (second.walks.goes (in_list ∷ outer) fits));
+}
 
 -- what begins with an operand does not begin with the bracket that ends a list
 abbrev is_operand : Place → Bool
@@ -194,18 +198,24 @@ begins_item now later brackets text rest begins ends (moves {next = next} {more 
     no_close (part_at text) brackets text (onward next more) (sym (step_is (operand true) brackets text) ∙ ap (λ own. step own text) (sym begins) ∙ is) refl
 
 led_list : {room inner : ℕ} {text next end rest : List ℕ} → Leads text (mark parts.OpenList ∷ []) next → 1 ≤ room → inner + 1 ≡ room → LedItems inner next end → Leads end (mark parts.CloseList ∷ []) rest → Walks room open_list text (after false list_end) rest
-led_list {room} {inner} {text} {next} {end} {rest} first some less items last = record { goes = λ brackets fits.
-    (let inside = items.goes brackets (one_less brackets in_list room inner fits less) in
-    let other : is_close (part_at next) ≡ false = begins_item (state (operand true) (in_list ∷ brackets)) (state (after items.more items.tail) (in_list ∷ brackets)) (in_list ∷ brackets) next end refl refl inside in
-    then_goes (list_goes first some (λ bad. true≢false (sym (ap is_close bad) ∙ other)) brackets fits) (then_goes inside
-    (one_move (after items.more items.tail) (after false list_end) (in_list ∷ brackets) brackets end rest
-    (ap (λ own. after_row items.more items.tail own (in_list ∷ brackets) end) (lead_part parts.CloseList last) ∙ close_list_row items.more items.tail brackets end ∙ ap (λ own. to (after false list_end) brackets own) (sym (lead_rest parts.CloseList last)))))) }
+led_list {room} {inner} {text} {next} {end} {rest} first some less items last = record {
+  goes = λ brackets fits.
+      (let inside = items.goes brackets (one_less brackets in_list room inner fits less) in
+      let other : is_close (part_at next) ≡ false = begins_item (state (operand true) (in_list ∷ brackets)) (state (after items.more items.tail) (in_list ∷ brackets)) (in_list ∷ brackets) next end refl refl inside in
+      then_goes (list_goes first some (λ bad. true≢false (sym (ap is_close bad) ∙ other)) brackets fits) (then_goes inside
+      (one_move (after items.more items.tail) (after false list_end) (in_list ∷ brackets) brackets end rest
+      (ap (λ own. after_row items.more items.tail own (in_list ∷ brackets) end) (lead_part parts.CloseList last) ∙ close_list_row items.more items.tail brackets end ∙ ap (λ own. to (after false list_end) brackets own) (sym (lead_rest parts.CloseList last))))));
+}
 
 led_round : {room inner : ℕ} {text next end rest : List ℕ} → Leads text (mark parts.Open ∷ []) next → 1 ≤ room → inner + 1 ≡ room → Led inner next end → Leads end (mark parts.Close ∷ []) rest → WalksRound room text rest
-led_round {room} {inner} {text} {next} {end} {rest} first some less inside last = record { walks = λ more. record { goes = λ brackets fits.
-    then_goes (round_opens more first some brackets fits) (then_goes (inside.walks.goes (in_round more ∷ brackets) (one_less brackets (in_round more) room inner fits less))
-    (one_move (after inside.more inside.tail) (after more value_end) (in_round more ∷ brackets) brackets end rest
-    (ap (λ own. after_row inside.more inside.tail own (in_round more ∷ brackets) end) (lead_part parts.Close last) ∙ close_row inside.more inside.tail more brackets end ∙ ap (λ own. to (after more value_end) brackets own) (sym (lead_rest parts.Close last))))) } }
+led_round {room} {inner} {text} {next} {end} {rest} first some less inside last = record {
+  walks = λ more. record {
+    goes = λ brackets fits.
+        then_goes (round_opens more first some brackets fits) (then_goes (inside.walks.goes (in_round more ∷ brackets) (one_less brackets (in_round more) room inner fits less))
+        (one_move (after inside.more inside.tail) (after more value_end) (in_round more ∷ brackets) brackets end rest
+        (ap (λ own. after_row inside.more inside.tail own (in_round more ∷ brackets) end) (lead_part parts.Close last) ∙ close_row inside.more inside.tail more brackets end ∙ ap (λ own. to (after more value_end) brackets own) (sym (lead_rest parts.Close last)))));
+  };
+}
 
 led_bang : {room : ℕ} {text next rest : List ℕ} → part_at text ≡ parts.Bang → next ≡ behind text → LedOperand room next rest → LedOperand room text rest
 led_bang is moved second = record { is_path = second.is_path; walks = λ more. walk_on (move_on parts.Bang (λ brackets. refl) is moved) (second.walks more) }
@@ -218,8 +228,8 @@ to_call : (more is_path : Bool) (which : Call) {end named next : List ℕ} → p
 to_call more true which {end} {named} {next} is moved named_is further opens room = walk_on
     (move_on parts.Dot (λ brackets. refl) is moved)
     (walk_one (λ brackets. ap (λ own. dot_row (alone more) own brackets named) named_is
-        ∙ ap (λ own. name_row (alone more) (words.Call which) (is_open (part_at own)) brackets named) (sym further) ∙ ap (λ own. name_row (alone more) (words.Call which) own brackets named) opens
-        ∙ ap (λ own. to (open_round more) brackets own) (sym further)) room)
+    ∙ ap (λ own. name_row (alone more) (words.Call which) (is_open (part_at own)) brackets named) (sym further) ∙ ap (λ own. name_row (alone more) (words.Call which) own brackets named) opens
+    ∙ ap (λ own. to (open_round more) brackets own) (sym further)) room)
 to_call more false which {end} {named} {next} is moved named_is further opens room = walk_on
     (move_on parts.Dot (λ brackets. refl) is moved)
     (move_on (parts.Named (words.Call which)) (λ brackets. refl) named_is further)
@@ -246,11 +256,13 @@ step_led in_has (Trees.dotted letters) text rest leads unopened =
     let second = unled first.2 in
     let last = unled second.2 in
     let moved = sym last ∙ second.1.2 in
-    record { walks = λ room more. walk_on (dot_begins in_has first.1.0 first.1.1 room more) (walk_one (λ brackets.
-        ap (λ part. dot_row (home_of in_has more) part brackets first.0) second.1.0.1
-        ∙ ap (λ flag. name_row (home_of in_has more) second.1.0.0 flag brackets first.0) (ap (λ own. is_open (part_at own)) (sym moved) ∙ unopened)
-        ∙ plain_name in_has more second.1.0.0 brackets first.0
-        ∙ ap (λ own. to (after_path (home_of in_has more)) brackets own) (sym moved)) room) }
+    record {
+      walks = λ room more. walk_on (dot_begins in_has first.1.0 first.1.1 room more) (walk_one (λ brackets.
+          ap (λ part. dot_row (home_of in_has more) part brackets first.0) second.1.0.1
+          ∙ ap (λ flag. name_row (home_of in_has more) second.1.0.0 flag brackets first.0) (ap (λ own. is_open (part_at own)) (sym moved) ∙ unopened)
+          ∙ plain_name in_has more second.1.0.0 brackets first.0
+          ∙ ap (λ own. to (after_path (home_of in_has more)) brackets own) (sym moved)) room);
+    }
 step_led in_has (Trees.quoted held) text rest leads unopened =
     let first = unled leads in
     let second = unled first.2 in

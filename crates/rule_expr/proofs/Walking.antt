@@ -1,14 +1,11 @@
 -- From the steps of a production to where the whole leads, or where it stops.
-use Rattle.std.proofs.Common.{◌≡◌, ◌≢◌, ◌∙◌, ap, sym, subst, ℕ, suc, cond, ◌+◌, ◌-◌, ◌≤◌, List, [], ◌∷◌, length, refl, arith, Bool, true, false, not, ◌&&◌, nat_lt, Option, Some, None, Result, Ok, Err, OnOk, IfErr}
+use Rattle.std.proofs.Common.{◌≡◌, ◌∙◌, ap, sym, subst, ℕ, cond, ◌+◌, ◌≤◌, List, [], ◌∷◌, length, refl, arith, Bool, true, false, nat_lt, None, Result, Ok, Err, OnOk, IfErr}
 use Rattle.std.proofs.lemmas.Bool.{true≢false, lt-ltb, le-ltb}
 use Rattle.std.specs.Result.{IsErrAnd}
 use Rattle.rule_expr.specs.declared.part.Part.{Part}
 use Rattle.rule_expr.specs.declared.part.Part.TheVariants as parts
-use Rattle.rule_expr.specs.declared.part.Word.{Word}
 use Rattle.rule_expr.specs.declared.part.Word.TheVariants as words
-use Rattle.rule_expr.specs.declared.part.Call.{Call}
 use Rattle.rule_expr.specs.declared.part.Relation.{Relation}
-use Rattle.rule_expr.specs.declared.part.Whole.{Whole}
 use Rattle.rule_expr.specs.declared.stop.Stop.{Stop}
 use Rattle.rule_expr.specs.declared.stop.Stop.TheVariants as stops
 use Rattle.rule_expr.specs.Parts.{part_at, behind, after_blanks, quoted}
@@ -16,9 +13,9 @@ use Rattle.rule_expr.specs.Trees.{Token, mark, quote}
 use Rattle.rule_expr.specs.Rules.{Leads, Stands}
 use Rattle.rule_expr.specs.Rules
 use Rattle.rule_expr.specs.Reading.{Passes}
-use Rattle.rule_expr.specs.Places.{State, Place, Tail, Home, Bracket, Move, path_end, value_end, list_end, alone, asked, operand, after, after_asked, dot_path, dot_value, bracketed, square, open_round, open_has, event, open_list, in_round, in_list, onward, stop, state, to, why_not, row, step, opened, whole, after_path, or_else, tail_next, test_next, both_next, either_next, asked_next, end_row, join_row, test_row, after_row, is_open, is_close, name_row, dot_row, call_row, quote_row, square_row, round_row, event_row, items_row, list_row, operand_row, word_row}
+use Rattle.rule_expr.specs.Places.{State, Place, Tail, Bracket, Move, value_end, list_end, operand, after, open_round, open_list, in_round, in_list, stop, state, to, why_not, row, step, or_else, tail_next, test_next, both_next, either_next, end_row, join_row, test_row, after_row, is_open, is_close, round_row, items_row, list_row}
 use Rattle.rule_expr.specs.Walks.{Goes, Comes, stays, moves}
-use Rattle.rule_expr.specs.Walking.{Walks, Halts, HaltsOperand, HaltsItems, WalksSteps, HaltsSteps, WalksHome, HaltsHome, Breaks, WalksAtom, WalksOperand, WalksRound, HaltsRound, Went, WentItems, NoRound, NoSquare, Lacks, IsRelationOver, IsAndOver, IsOrOver, IsItemsOver, tail_of, is_call, is_end, is_close_round, is_event, is_comma, is_called, path_next, begins_call, goes_on, home_of}
+use Rattle.rule_expr.specs.Walking.{Walks, Halts, HaltsOperand, HaltsItems, WalksAtom, WalksOperand, WalksRound, HaltsRound, Went, WentItems, NoRound, NoSquare, Lacks, IsRelationOver, IsAndOver, IsOrOver, IsItemsOver, is_close_round, is_comma}
 
 -- one step of the table
 pub step_is : (place : Place) (brackets : List Bracket) (text : List ℕ) → step (state place brackets) text ≡ row place (part_at text) brackets text
@@ -211,11 +208,13 @@ list_begins room text next is moved some brackets fits =
     ∙ ap (λ own. items_row (is_close (part_at own)) brackets text) (sym moved)
 
 pub list_empty : {room : ℕ} {text next rest : List ℕ} → Leads text (mark parts.OpenList ∷ []) next → 1 ≤ room → Leads next (mark parts.CloseList ∷ []) rest → Walks room open_list text (after false list_end) rest
-list_empty {room} {text} {next} {rest} first some last = record { goes = λ brackets fits. one_move open_list (after false list_end) brackets brackets text rest (
-    list_begins room text next (lead_part parts.OpenList first) (lead_rest parts.OpenList first) some brackets fits
-    ∙ ap (λ own. items_row (is_close own) brackets text) (lead_part parts.CloseList last)
-    ∙ ap (λ own. to (after false list_end) brackets (behind own)) (sym (lead_rest parts.OpenList first))
-    ∙ ap (λ own. to (after false list_end) brackets own) (sym (lead_rest parts.CloseList last))) }
+list_empty {room} {text} {next} {rest} first some last = record {
+  goes = λ brackets fits. one_move open_list (after false list_end) brackets brackets text rest (
+      list_begins room text next (lead_part parts.OpenList first) (lead_rest parts.OpenList first) some brackets fits
+      ∙ ap (λ own. items_row (is_close own) brackets text) (lead_part parts.CloseList last)
+      ∙ ap (λ own. to (after false list_end) brackets (behind own)) (sym (lead_rest parts.OpenList first))
+      ∙ ap (λ own. to (after false list_end) brackets own) (sym (lead_rest parts.CloseList last)));
+}
 
 pub list_goes : {room : ℕ} {text next : List ℕ} → Leads text (mark parts.OpenList ∷ []) next → 1 ≤ room → (part_at next ≡ parts.CloseList → ⊥) → (brackets : List Bracket) → length brackets + room ≡ 32 → Goes (state open_list brackets) text (state (operand true) (in_list ∷ brackets)) next
 list_goes {room} {text} {next} first some other brackets fits = one_move open_list (operand true) brackets (in_list ∷ brackets) text next (
@@ -227,17 +226,21 @@ pub one_less : (brackets : List Bracket) (bracket : Bracket) (room inner : ℕ) 
 one_less brackets bracket room inner fits less = omega (arith, fits, less)
 
 pub list_some : {room inner : ℕ} {text next end rest : List ℕ} → Leads text (mark parts.OpenList ∷ []) next → 1 ≤ room → (part_at next ≡ parts.CloseList → ⊥) → inner + 1 ≡ room → WentItems IsItemsOver inner next end → Leads end (mark parts.CloseList ∷ []) rest → Walks room open_list text (after false list_end) rest
-list_some {room} {inner} {text} {next} {end} {rest} first some other less items last = record { goes = λ brackets fits.
-    then_goes (list_goes first some other brackets fits) (then_goes (items.goes brackets (one_less brackets in_list room inner fits less))
-    (one_move (after items.more items.tail) (after false list_end) (in_list ∷ brackets) brackets end rest
-    (or_row items.more items.tail (part_at end) (in_list ∷ brackets) end items.over_is.0 ∙ ap (λ own. end_row (in_list ∷ brackets) own end) (lead_part parts.CloseList last) ∙ ap (λ own. to (after false list_end) brackets own) (sym (lead_rest parts.CloseList last))))) }
+list_some {room} {inner} {text} {next} {end} {rest} first some other less items last = record {
+  goes = λ brackets fits.
+      then_goes (list_goes first some other brackets fits) (then_goes (items.goes brackets (one_less brackets in_list room inner fits less))
+      (one_move (after items.more items.tail) (after false list_end) (in_list ∷ brackets) brackets end rest
+      (or_row items.more items.tail (part_at end) (in_list ∷ brackets) end items.over_is.0 ∙ ap (λ own. end_row (in_list ∷ brackets) own end) (lead_part parts.CloseList last) ∙ ap (λ own. to (after false list_end) brackets own) (sym (lead_rest parts.CloseList last)))));
+}
 
 pub list_unopened : {room : ℕ} {text : List ℕ} {why : Stop} → NoSquare room text why → Halts room open_list text why
 list_unopened {room} {text} {why} lack = record { comes = λ real brackets fits. comes_here open_list brackets text (stop why) (lack.row brackets fits) }
 
 pub list_halts : {room inner : ℕ} {text next : List ℕ} {why : Stop} → Leads text (mark parts.OpenList ∷ []) next → 1 ≤ room → (part_at next ≡ parts.CloseList → ⊥) → inner + 1 ≡ room → HaltsItems inner next why → Halts room open_list text why
-list_halts {room} {inner} first some other less items = record { comes = λ real brackets fits.
-    then_comes (list_goes first some other brackets fits) (items.comes real brackets (one_less brackets in_list room inner fits less)) }
+list_halts {room} {inner} first some other less items = record {
+  comes = λ real brackets fits.
+      then_comes (list_goes first some other brackets fits) (items.comes real brackets (one_less brackets in_list room inner fits less));
+}
 
 -- neither a comma nor the bracket
 unclosed_list : (brackets : List Bracket) (part : Part) (text : List ℕ) → is_comma part ≡ false → is_close part ≡ false → end_row (in_list ∷ brackets) part text ≡ stop (why_not false part (length text))
@@ -246,10 +249,12 @@ unclosed_list brackets parts.CloseList text no_comma no_close = absurd (true≢f
 unclosed_list brackets part text no_comma no_close = refl
 
 pub list_unclosed : {room inner : ℕ} {text next end : List ℕ} {why : Stop} → Leads text (mark parts.OpenList ∷ []) next → 1 ≤ room → (part_at next ≡ parts.CloseList → ⊥) → inner + 1 ≡ room → WentItems IsItemsOver inner next end → Lacks is_close false end why → Halts room open_list text why
-list_unclosed {room} {inner} {text} {next} {end} {why} first some other less items lack = record { comes = λ real brackets fits.
-    then_comes (list_goes first some other brackets fits) (then_comes (items.goes brackets (one_less brackets in_list room inner fits less))
-    (comes_here (after items.more items.tail) (in_list ∷ brackets) end (stop why)
-    (or_row items.more items.tail (part_at end) (in_list ∷ brackets) end items.over_is.0 ∙ unclosed_list brackets (part_at end) end items.over_is.1 lack.other ∙ ap stop (sym lack.why_is)))) }
+list_unclosed {room} {inner} {text} {next} {end} {why} first some other less items lack = record {
+  comes = λ real brackets fits.
+      then_comes (list_goes first some other brackets fits) (then_comes (items.goes brackets (one_less brackets in_list room inner fits less))
+      (comes_here (after items.more items.tail) (in_list ∷ brackets) end (stop why)
+      (or_row items.more items.tail (part_at end) (in_list ∷ brackets) end items.over_is.0 ∙ unclosed_list brackets (part_at end) end items.over_is.1 lack.other ∙ ap stop (sym lack.why_is))));
+}
 
 pub closed_after_all : {room : ℕ} {text next : List ℕ} {why : Stop} → part_at next ≡ parts.CloseList → Lacks is_close false next why → Halts room open_list text why
 closed_after_all is lack = absurd (true≢false (sym (ap is_close is) ∙ lack.other))
@@ -268,27 +273,39 @@ pub round_opens : {room : ℕ} {text next : List ℕ} (more : Bool) → Leads te
 round_opens {text = text} {next = next} more first some brackets fits = one_move (open_round more) (operand true) brackets (in_round more ∷ brackets) text next (round_goes more (operand true) first some brackets fits)
 
 pub round_walk : {room inner : ℕ} {text next end rest : List ℕ} → Leads text (mark parts.Open ∷ []) next → 1 ≤ room → inner + 1 ≡ room → Went IsOrOver inner next end → Leads end (mark parts.Close ∷ []) rest → WalksRound room text rest
-round_walk {room} {inner} {text} {next} {end} {rest} first some less inside last = record { walks = λ more. record { goes = λ brackets fits.
-    then_goes (round_opens more first some brackets fits) (then_goes (inside.walks.goes (in_round more ∷ brackets) (one_less brackets (in_round more) room inner fits less))
-    (one_move (after inside.more inside.tail) (after more value_end) (in_round more ∷ brackets) brackets end rest
-    (or_row inside.more inside.tail (part_at end) (in_round more ∷ brackets) end inside.over_is ∙ ap (λ own. end_row (in_round more ∷ brackets) own end) (lead_part parts.Close last) ∙ ap (λ own. to (after more value_end) brackets own) (sym (lead_rest parts.Close last))))) } }
+round_walk {room} {inner} {text} {next} {end} {rest} first some less inside last = record {
+  walks = λ more. record {
+    goes = λ brackets fits.
+        then_goes (round_opens more first some brackets fits) (then_goes (inside.walks.goes (in_round more ∷ brackets) (one_less brackets (in_round more) room inner fits less))
+        (one_move (after inside.more inside.tail) (after more value_end) (in_round more ∷ brackets) brackets end rest
+        (or_row inside.more inside.tail (part_at end) (in_round more ∷ brackets) end inside.over_is ∙ ap (λ own. end_row (in_round more ∷ brackets) own end) (lead_part parts.Close last) ∙ ap (λ own. to (after more value_end) brackets own) (sym (lead_rest parts.Close last)))));
+  };
+}
 
 pub round_unopened : {room : ℕ} {text : List ℕ} {why : Stop} → NoRound room text why → HaltsRound room text why
 round_unopened {room} {text} {why} lack = record { halts = λ more. record { comes = λ real brackets fits. comes_here (open_round more) brackets text (stop why) (lack.row more (operand true) brackets fits) } }
 
 pub round_halts : {room inner : ℕ} {text next : List ℕ} {why : Stop} → Leads text (mark parts.Open ∷ []) next → 1 ≤ room → inner + 1 ≡ room → Halts inner (operand true) next why → HaltsRound room text why
-round_halts {room} {inner} first some less inside = record { halts = λ more. record { comes = λ real brackets fits.
-    then_comes (round_opens more first some brackets fits) (inside.comes real (in_round more ∷ brackets) (one_less brackets (in_round more) room inner fits less)) } }
+round_halts {room} {inner} first some less inside = record {
+  halts = λ more. record {
+    comes = λ real brackets fits.
+        then_comes (round_opens more first some brackets fits) (inside.comes real (in_round more ∷ brackets) (one_less brackets (in_round more) room inner fits less));
+  };
+}
 
 unclosed_round : (more : Bool) (brackets : List Bracket) (part : Part) (text : List ℕ) → is_close_round part ≡ false → end_row (in_round more ∷ brackets) part text ≡ stop (why_not false part (length text))
 unclosed_round more brackets parts.Close text other = absurd (true≢false other)
 unclosed_round more brackets part text other = refl
 
 pub round_unclosed : {room inner : ℕ} {text next end : List ℕ} {why : Stop} → Leads text (mark parts.Open ∷ []) next → 1 ≤ room → inner + 1 ≡ room → Went IsOrOver inner next end → Lacks is_close_round false end why → HaltsRound room text why
-round_unclosed {room} {inner} {text} {next} {end} {why} first some less inside lack = record { halts = λ more. record { comes = λ real brackets fits.
-    then_comes (round_opens more first some brackets fits) (then_comes (inside.walks.goes (in_round more ∷ brackets) (one_less brackets (in_round more) room inner fits less))
-    (comes_here (after inside.more inside.tail) (in_round more ∷ brackets) end (stop why)
-    (or_row inside.more inside.tail (part_at end) (in_round more ∷ brackets) end inside.over_is ∙ unclosed_round more brackets (part_at end) end lack.other ∙ ap stop (sym lack.why_is)))) } }
+round_unclosed {room} {inner} {text} {next} {end} {why} first some less inside lack = record {
+  halts = λ more. record {
+    comes = λ real brackets fits.
+        then_comes (round_opens more first some brackets fits) (then_comes (inside.walks.goes (in_round more ∷ brackets) (one_less brackets (in_round more) room inner fits less))
+        (comes_here (after inside.more inside.tail) (in_round more ∷ brackets) end (stop why)
+        (or_row inside.more inside.tail (part_at end) (in_round more ∷ brackets) end inside.over_is ∙ unclosed_round more brackets (part_at end) end lack.other ∙ ap stop (sym lack.why_is))));
+  };
+}
 
 -- a bracket that isn't there, or for which there is no room
 pub no_round : {room : ℕ} {text : List ℕ} {why : Stop} → is_open (part_at text) ≡ false → why ≡ why_not false (part_at text) (length text) → NoRound room text why
@@ -299,10 +316,12 @@ no_round {room} {text} {why} other is = record { row = λ more inside brackets f
     no_open more inside brackets part own bad = refl
 
 pub deep_round : {room : ℕ} {text : List ℕ} {why : Stop} → part_at text ≡ parts.Open → room ≡ 0 → why ≡ stops.Deep (length text) → NoRound room text why
-deep_round {room} {text} {why} is none_left deep = record { row = λ more inside brackets fits.
-    ap (λ own. round_row more inside own brackets text) is
-    ∙ ap (λ own. cond own (to inside (in_round more ∷ brackets) (behind text)) (stop (stops.Deep (length text)))) (no_room brackets room fits none_left)
-    ∙ ap stop (sym deep) }
+deep_round {room} {text} {why} is none_left deep = record {
+  row = λ more inside brackets fits.
+      ap (λ own. round_row more inside own brackets text) is
+      ∙ ap (λ own. cond own (to inside (in_round more ∷ brackets) (behind text)) (stop (stops.Deep (length text)))) (no_room brackets room fits none_left)
+      ∙ ap stop (sym deep);
+}
 
 abbrev pub is_open_list : Part → Bool
 is_open_list parts.OpenList = true
@@ -316,10 +335,12 @@ no_square {room} {text} {why} other is = record { row = λ brackets fits. no_ope
     no_open brackets part own bad = refl
 
 pub deep_square : {room : ℕ} {text : List ℕ} {why : Stop} → part_at text ≡ parts.OpenList → room ≡ 0 → why ≡ stops.Deep (length text) → NoSquare room text why
-deep_square {room} {text} {why} is none_left deep = record { row = λ brackets fits.
-    ap (λ own. list_row own brackets text) is
-    ∙ ap (λ own. cond own (items_row (is_close (part_at (behind text))) brackets text) (stop (stops.Deep (length text)))) (no_room brackets room fits none_left)
-    ∙ ap stop (sym deep) }
+deep_square {room} {text} {why} is none_left deep = record {
+  row = λ brackets fits.
+      ap (λ own. list_row own brackets text) is
+      ∙ ap (λ own. cond own (items_row (is_close (part_at (behind text))) brackets text) (stop (stops.Deep (length text)))) (no_room brackets room fits none_left)
+      ∙ ap stop (sym deep);
+}
 
 -- results that go on
 pub at_exit : {T : Type 0} (P : Stop → Type 0) (result : Result T Stop) (why : Stop) → IsErrAnd result (λ own. own ≡ why) → P why → IfErr result P

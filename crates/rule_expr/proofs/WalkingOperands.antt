@@ -1,5 +1,5 @@
 -- Where operands and what they are made of lead, or where they stop.
-use Rattle.std.proofs.Common.{◌≡◌, ◌≢◌, ◌∙◌, ap, sym, subst, ℕ, ◌+◌, ◌-◌, ◌≤◌, List, [], ◌∷◌, length, refl, arith, Bool, true, false, not, ◌&&◌, Option, Some, None, Result, Ok, Err, IfOk, OnOk, IfErr}
+use Rattle.std.proofs.Common.{◌≡◌, ◌≢◌, ◌∙◌, ap, sym, subst, ℕ, ◌+◌, ◌-◌, ◌≤◌, List, [], ◌∷◌, length, refl, arith, Bool, true, false, not, ◌&&◌, None, Result, Ok, Err, IfOk, OnOk, IfErr}
 use Rattle.std.proofs.lemmas.Bool.{true≢false}
 use Rattle.rule_expr.specs.declared.part.Part.{Part}
 use Rattle.rule_expr.specs.declared.part.Part.TheVariants as parts
@@ -14,7 +14,7 @@ use Rattle.rule_expr.specs.declared.error.RuleErr.TheVariants as errors
 use Rattle.rule_expr.specs.Parts.{part_at, behind, after_blanks, quoted}
 use Rattle.rule_expr.specs.Trees.{mark, quote}
 use Rattle.rule_expr.specs.Rules.{Leads}
-use Rattle.rule_expr.specs.Places.{State, Place, Home, Bracket, path_end, value_end, alone, asked, operand, after, after_asked, dot_path, dot_value, bracketed, square, open_round, open_has, event, in_round, stop, state, to, why_not, row, step, whole, after_path, or_else, tail_next, asked_next, end_row, after_row, is_open, is_close, name_row, dot_row, call_row, quote_row, square_row, round_row, event_row, operand_row, word_row}
+use Rattle.rule_expr.specs.Places.{State, Place, Home, Bracket, path_end, value_end, alone, operand, after, after_asked, dot_path, dot_value, bracketed, square, open_round, open_has, event, in_round, stop, state, to, why_not, row, step, whole, after_path, tail_next, end_row, after_row, is_open, is_close, name_row, dot_row, call_row, quote_row, square_row, round_row, event_row, operand_row, word_row}
 use Rattle.rule_expr.specs.Walks.{Goes, Comes, IsRefused, stays, moves, start}
 use Rattle.rule_expr.specs.Refusals.{error_at}
 use Rattle.rule_expr.specs.Walking.{Walks, Halts, HaltsOperand, WalksBangs, WalksSteps, HaltsSteps, WalksHome, HaltsHome, Breaks, WalksAtom, WalksOperand, WalksRound, HaltsRound, Went, NoRound, Lacks, IsOrOver, tail_of, is_call, is_named_call, is_end, is_close_round, is_event, is_called, path_next, begins_call, goes_on, home_of, is_bang}
@@ -25,8 +25,10 @@ pub no_bangs : {room : ℕ} (text : List ℕ) → WalksBangs room text text
 no_bangs text = record { walks = λ more. record { goes = λ brackets fits. stays } }
 
 pub bang_more : {room : ℕ} {text between rest : List ℕ} → WalksBangs room text between → part_at between ≡ parts.Bang → rest ≡ behind between → WalksBangs room text rest
-bang_more {room} {text} {between} {rest} first is moved = record { walks = λ more. walk_on (first.walks more) (walk_one (λ brackets.
-    ap (λ own. operand_row more own brackets between) is ∙ ap (λ own. to (operand more) brackets own) (sym moved)) room) }
+bang_more {room} {text} {between} {rest} first is moved = record {
+  walks = λ more. walk_on (first.walks more) (walk_one (λ brackets.
+      ap (λ own. operand_row more own brackets between) is ∙ ap (λ own. to (operand more) brackets own) (sym moved)) room);
+}
 
 pub bangs_before : {room : ℕ} {text next rest : List ℕ} → WalksBangs room text next → WalksOperand room next rest → WalksOperand room text rest
 bangs_before first second = record { tail = second.tail; walks = λ more. walk_on (first.walks more) (second.walks more); over = second.over }
@@ -129,8 +131,12 @@ pub group_walk : {room : ℕ} {text rest : List ℕ} → part_at text ≡ parts.
 group_walk {text = text} is first = plain (λ more. record { goes = λ brackets fits. same_goes (same_open more brackets text is) refl refl ((first.walks more).goes brackets fits) })
 
 pub group_halts : {room : ℕ} {text : List ℕ} {why : Stop} → part_at text ≡ parts.Open → HaltsRound room text why → HaltsOperand room text why
-group_halts {text = text} {why = why} is first = record { halts = λ more. record { comes = λ real brackets fits.
-    (let comes = (first.halts more).comes real brackets fits in same_comes why (same_open more brackets text is) comes.goes comes.ends) } }
+group_halts {text = text} {why = why} is first = record {
+  halts = λ more. record {
+    comes = λ real brackets fits.
+        (let comes = (first.halts more).comes real brackets fits in same_comes why (same_open more brackets text is) comes.goes comes.ends);
+  };
+}
 
 -- a text
 whole_goes : (next : Place) (brackets : List Bracket) (text held others rest : List ℕ) → quoted text ≡ Ok (held, others) → rest ≡ after_blanks others → whole next brackets (quoted text) ≡ to next brackets rest
@@ -144,10 +150,13 @@ text_walk {room} {text} {rest} held leads = let read = lead_quoted held leads in
     ap (λ own. operand_row more own brackets text) (lead_quote held leads) ∙ whole_goes (after more value_end) brackets text held read.0 rest read.1 read.2) room)
 
 pub text_halts : {room : ℕ} {text : List ℕ} {why : Stop} → part_at text ≡ parts.Quote → Breaks text why → HaltsOperand room text why
-text_halts {room} {text} {why} is lack = record { halts = λ more. record { comes = λ real brackets fits. comes_here (operand more) brackets text (stop why)
-    (ap (λ own. operand_row more own brackets text) is ∙ broken_stops (after more value_end) brackets text why lack real) } }
+text_halts {room} {text} {why} is lack = record {
+  halts = λ more. record {
+    comes = λ real brackets fits. comes_here (operand more) brackets text (stop why)
+        (ap (λ own. operand_row more own brackets text) is ∙ broken_stops (after more value_end) brackets text why lack real);
+  };
+}
 
--- one part
 part_walk : {room : ℕ} {text rest : List ℕ} (part : Part) → ((more : Bool) (brackets : List Bracket) → operand_row more part brackets text ≡ to (after more value_end) brackets (behind text)) → part_at text ≡ part → rest ≡ behind text → WalksAtom room text rest
 part_walk {room} {text} {rest} part known is moved = plain (λ more. walk_one (λ brackets.
     ap (λ own. operand_row more own brackets text) is ∙ known more brackets ∙ ap (λ own. to (after more value_end) brackets own) (sym moved)) room)
@@ -166,8 +175,10 @@ null_walk is moved = part_walk (parts.Named words.Null) (λ more brackets. refl)
 
 -- a name that begins no atom
 pub word_refused : (word : Word) {room : ℕ} {text : List ℕ} {why : Stop} → ((more : Bool) (brackets : List Bracket) → word_row more word brackets text ≡ stop (stops.LeftOut (length text))) → part_at text ≡ parts.Named word → why ≡ why_not true (part_at text) (length text) → HaltsOperand room text why
-word_refused word {room} {text} {why} known is why_is = record { halts = λ more. halts_here (λ brackets.
-    ap (λ own. operand_row more own brackets text) is ∙ known more brackets ∙ ap (λ own. stop (why_not true own (length text))) (sym is) ∙ ap stop (sym why_is)) room }
+word_refused word {room} {text} {why} known is why_is = record {
+  halts = λ more. halts_here (λ brackets.
+      ap (λ own. operand_row more own brackets text) is ∙ known more brackets ∙ ap (λ own. stop (why_not true own (length text))) (sym is) ∙ ap stop (sym why_is)) room;
+}
 
 pub in_refused : {room : ℕ} {text : List ℕ} {why : Stop} → part_at text ≡ parts.Named words.In → why ≡ why_not true (part_at text) (length text) → HaltsOperand room text why
 in_refused is why_is = word_refused words.In (λ more brackets. refl) is why_is
@@ -241,26 +252,38 @@ has_path {room} is moved first some event_first steps more brackets fits = then_
     ((steps.walks (room - 1) more).goes (in_round more ∷ brackets) (room_inside more brackets room fits some)))
 
 pub has_walk : {room : ℕ} {text next inside begun end rest : List ℕ} → part_at text ≡ parts.Named words.Has → next ≡ behind text → Leads next (mark parts.Open ∷ []) inside → 1 ≤ room → Leads inside (mark (parts.Named words.Event) ∷ []) begun → WalksSteps true begun end → Leads end (mark parts.Close ∷ []) rest → WalksAtom room text rest
-has_walk {end = end} {rest = rest} is moved first some event_first steps last = plain (λ more. record { goes = λ brackets fits. then_goes (has_path is moved first some event_first steps more brackets fits)
-    (one_move after_asked (after more value_end) (in_round more ∷ brackets) brackets end rest
-    (ap (λ own. row after_asked own (in_round more ∷ brackets) end) (lead_part parts.Close last) ∙ ap (λ own. to (after more value_end) brackets own) (sym (lead_rest parts.Close last)))) })
+has_walk {end = end} {rest = rest} is moved first some event_first steps last = plain (λ more. record {
+  goes = λ brackets fits. then_goes (has_path is moved first some event_first steps more brackets fits)
+      (one_move after_asked (after more value_end) (in_round more ∷ brackets) brackets end rest
+      (ap (λ own. row after_asked own (in_round more ∷ brackets) end) (lead_part parts.Close last) ∙ ap (λ own. to (after more value_end) brackets own) (sym (lead_rest parts.Close last))));
+})
 
 pub has_unopened : {room : ℕ} {text next : List ℕ} {why : Stop} → part_at text ≡ parts.Named words.Has → next ≡ behind text → NoRound room next why → HaltsOperand room text why
-has_unopened {room} {text} {next} {why} is moved lack = record { halts = λ more. walk_halts (has_begins is moved room more)
-    (record { comes = λ real brackets fits. comes_here (open_has more) brackets next (stop why) (lack.row more event brackets fits) }) }
+has_unopened {room} {text} {next} {why} is moved lack = record {
+  halts = λ more. walk_halts (has_begins is moved room more)
+      (record { comes = λ real brackets fits. comes_here (open_has more) brackets next (stop why) (lack.row more event brackets fits) });
+}
 
 no_event : (part : Part) (brackets : List Bracket) (text : List ℕ) → is_event part ≡ false → event_row part brackets text ≡ stop (why_not true part (length text))
 no_event (parts.Named words.Event) brackets text other = absurd (true≢false other)
 no_event part brackets text other = refl
 
 pub has_eventless : {room : ℕ} {text next inside : List ℕ} {why : Stop} → part_at text ≡ parts.Named words.Has → next ≡ behind text → Leads next (mark parts.Open ∷ []) inside → 1 ≤ room → Lacks is_event true inside why → HaltsOperand room text why
-has_eventless {inside = inside} {why = why} is moved first some lack = record { halts = λ more. record { comes = λ real brackets fits.
-    then_comes (has_opens is moved first some more brackets fits) (comes_here event (in_round more ∷ brackets) inside (stop why) (no_event (part_at inside) (in_round more ∷ brackets) inside lack.other ∙ ap stop (sym lack.why_is))) } }
+has_eventless {inside = inside} {why = why} is moved first some lack = record {
+  halts = λ more. record {
+    comes = λ real brackets fits.
+        then_comes (has_opens is moved first some more brackets fits) (comes_here event (in_round more ∷ brackets) inside (stop why) (no_event (part_at inside) (in_round more ∷ brackets) inside lack.other ∙ ap stop (sym lack.why_is)));
+  };
+}
 
 pub has_halts : {room : ℕ} {text next inside begun : List ℕ} {why : Stop} → part_at text ≡ parts.Named words.Has → next ≡ behind text → Leads next (mark parts.Open ∷ []) inside → 1 ≤ room → Leads inside (mark (parts.Named words.Event) ∷ []) begun → HaltsSteps true begun why → HaltsOperand room text why
-has_halts {room} is moved first some event_first steps = record { halts = λ more. record { comes = λ real brackets fits.
-    then_comes (has_opens is moved first some more brackets fits) (then_comes (has_event (in_round more ∷ brackets) event_first)
-    ((steps.halts (room - 1) more).comes real (in_round more ∷ brackets) (room_inside more brackets room fits some))) } }
+has_halts {room} is moved first some event_first steps = record {
+  halts = λ more. record {
+    comes = λ real brackets fits.
+        then_comes (has_opens is moved first some more brackets fits) (then_comes (has_event (in_round more ∷ brackets) event_first)
+        ((steps.halts (room - 1) more).comes real (in_round more ∷ brackets) (room_inside more brackets room fits some)));
+  };
+}
 
 unclosed_has : (more : Bool) (brackets : List Bracket) (part : Part) (text : List ℕ) → path_next part false ≡ false → is_close_round part ≡ false → row after_asked part (in_round more ∷ brackets) text ≡ stop (why_not false part (length text))
 unclosed_has more brackets parts.Dot text over other = absurd (true≢false over)
@@ -269,9 +292,13 @@ unclosed_has more brackets parts.Close text over other = absurd (true≢false ot
 unclosed_has more brackets part text over other = refl
 
 pub has_unclosed : {room : ℕ} {text next inside begun end : List ℕ} {why : Stop} → part_at text ≡ parts.Named words.Has → next ≡ behind text → Leads next (mark parts.Open ∷ []) inside → 1 ≤ room → Leads inside (mark (parts.Named words.Event) ∷ []) begun → WalksSteps true begun end → goes_on true end ≡ false → Lacks is_close_round false end why → HaltsOperand room text why
-has_unclosed {end = end} {why = why} is moved first some event_first steps over lack = record { halts = λ more. record { comes = λ real brackets fits.
-    then_comes (has_path is moved first some event_first steps more brackets fits)
-    (comes_here after_asked (in_round more ∷ brackets) end (stop why) (unclosed_has more brackets (part_at end) end over lack.other ∙ ap stop (sym lack.why_is))) } }
+has_unclosed {end = end} {why = why} is moved first some event_first steps over lack = record {
+  halts = λ more. record {
+    comes = λ real brackets fits.
+        then_comes (has_path is moved first some event_first steps more brackets fits)
+        (comes_here after_asked (in_round more ∷ brackets) end (stop why) (unclosed_has more brackets (part_at end) end over lack.other ∙ ap stop (sym lack.why_is)));
+  };
+}
 
 -- steps of a path
 pub steps_none : (in_has : Bool) (text : List ℕ) → WalksSteps in_has text text
@@ -335,10 +362,12 @@ name_on false more (words.Call which) true brackets text no_call listed = absurd
 name_on in_has more word true brackets text no_call listed = absurd (true≢false listed)
 
 pub name_walk : (in_has : Bool) (word : Word) {text rest : List ℕ} → part_at text ≡ parts.Named word → (not (is_call word) && is_open (part_at (behind text))) ≡ false → begins_call in_has text ≡ false → rest ≡ behind text → WalksHome dot_path in_has text rest
-name_walk in_has word {text} {rest} is listed no_call moved = record { walks = λ room more. walk_one (λ brackets.
-    ap (λ own. dot_row (home_of in_has more) own brackets text) is
-    ∙ name_on in_has more word (is_open (part_at (behind text))) brackets text (ap (λ own. not in_has && (is_named_call own && is_open (part_at (behind text)))) (sym is) ∙ no_call) listed
-    ∙ ap (λ own. to (after_path (home_of in_has more)) brackets own) (sym moved)) room }
+name_walk in_has word {text} {rest} is listed no_call moved = record {
+  walks = λ room more. walk_one (λ brackets.
+      ap (λ own. dot_row (home_of in_has more) own brackets text) is
+      ∙ name_on in_has more word (is_open (part_at (behind text))) brackets text (ap (λ own. not in_has && (is_named_call own && is_open (part_at (behind text)))) (sym is) ∙ no_call) listed
+      ∙ ap (λ own. to (after_path (home_of in_has more)) brackets own) (sym moved)) room;
+}
 
 name_off : (in_has more : Bool) (word : Word) (opens : Bool) (brackets : List Bracket) (text : List ℕ) → (not (is_call word) && opens) ≡ true → name_row (home_of in_has more) word opens brackets text ≡ stop (stops.LeftOut (length text))
 name_off in_has more (words.Call which) opens brackets text unlisted = absurd (true≢false (sym unlisted))
@@ -347,10 +376,12 @@ name_off true more word true brackets text unlisted = refl
 name_off false more word true brackets text unlisted = refl
 
 pub name_left_out : (in_has : Bool) (word : Word) {text : List ℕ} {why : Stop} → part_at text ≡ parts.Named word → (not (is_call word) && is_open (part_at (behind text))) ≡ true → why ≡ why_not true (part_at text) (length text) → HaltsHome dot_path in_has text why
-name_left_out in_has word {text} {why} is unlisted why_is = record { halts = λ room more. halts_here (λ brackets.
-    ap (λ own. dot_row (home_of in_has more) own brackets text) is
-    ∙ name_off in_has more word (is_open (part_at (behind text))) brackets text unlisted
-    ∙ ap (λ own. stop (why_not true own (length text))) (sym is) ∙ ap stop (sym why_is)) room }
+name_left_out in_has word {text} {why} is unlisted why_is = record {
+  halts = λ room more. halts_here (λ brackets.
+      ap (λ own. dot_row (home_of in_has more) own brackets text) is
+      ∙ name_off in_has more word (is_open (part_at (behind text))) brackets text unlisted
+      ∙ ap (λ own. stop (why_not true own (length text))) (sym is) ∙ ap stop (sym why_is)) room;
+}
 
 abbrev pub is_named : Part → Bool
 is_named (parts.Named word) = true
@@ -369,20 +400,28 @@ quote_passes home {text} {next} held leads room = let read = lead_quoted held le
     ap (λ own. quote_row home own brackets text) (lead_quote held leads) ∙ whole_goes (square home) brackets text held read.0 next read.1 read.2) room
 
 pub held_walk : (in_has : Bool) {text next rest : List ℕ} (held : List ℕ) → Leads text (quote held ∷ []) next → Leads next (mark parts.CloseList ∷ []) rest → WalksHome bracketed in_has text rest
-held_walk in_has {text} {next} {rest} held first last = record { walks = λ room more. walk_on (quote_passes (home_of in_has more) held first room) (walk_one (λ brackets.
-    ap (λ own. square_row (home_of in_has more) own brackets next) (lead_part parts.CloseList last) ∙ ap (λ own. to (after_path (home_of in_has more)) brackets own) (sym (lead_rest parts.CloseList last))) room) }
+held_walk in_has {text} {next} {rest} held first last = record {
+  walks = λ room more. walk_on (quote_passes (home_of in_has more) held first room) (walk_one (λ brackets.
+      ap (λ own. square_row (home_of in_has more) own brackets next) (lead_part parts.CloseList last) ∙ ap (λ own. to (after_path (home_of in_has more)) brackets own) (sym (lead_rest parts.CloseList last))) room);
+}
 
 pub held_halts : (in_has : Bool) {text : List ℕ} {why : Stop} → part_at text ≡ parts.Quote → Breaks text why → HaltsHome bracketed in_has text why
-held_halts in_has {text} {why} is lack = record { halts = λ room more. record { comes = λ real brackets fits. comes_here (bracketed (home_of in_has more)) brackets text (stop why)
-    (ap (λ own. quote_row (home_of in_has more) own brackets text) is ∙ broken_stops (square (home_of in_has more)) brackets text why lack real) } }
+held_halts in_has {text} {why} is lack = record {
+  halts = λ room more. record {
+    comes = λ real brackets fits. comes_here (bracketed (home_of in_has more)) brackets text (stop why)
+        (ap (λ own. quote_row (home_of in_has more) own brackets text) is ∙ broken_stops (square (home_of in_has more)) brackets text why lack real);
+  };
+}
 
 no_bracket : (home : Home) (part : Part) (brackets : List Bracket) (text : List ℕ) → is_close part ≡ false → square_row home part brackets text ≡ stop (why_not false part (length text))
 no_bracket home parts.CloseList brackets text other = absurd (true≢false other)
 no_bracket home part brackets text other = refl
 
 pub held_unclosed : (in_has : Bool) {text next : List ℕ} {why : Stop} (held : List ℕ) → Leads text (quote held ∷ []) next → Lacks is_close false next why → HaltsHome bracketed in_has text why
-held_unclosed in_has {text} {next} {why} held first lack = record { halts = λ room more. walk_halts (quote_passes (home_of in_has more) held first room)
-    (halts_here (λ brackets. no_bracket (home_of in_has more) (part_at next) brackets next lack.other ∙ ap stop (sym lack.why_is)) room) }
+held_unclosed in_has {text} {next} {why} held first lack = record {
+  halts = λ room more. walk_halts (quote_passes (home_of in_has more) held first room)
+      (halts_here (λ brackets. no_bracket (home_of in_has more) (part_at next) brackets next lack.other ∙ ap stop (sym lack.why_is)) room);
+}
 
 no_quote : (home : Home) (part : Part) (brackets : List Bracket) (text : List ℕ) → (part ≡ parts.Quote → ⊥) → quote_row home part brackets text ≡ stop (why_not false part (length text))
 no_quote home parts.Quote brackets text other = absurd (other refl)
@@ -414,7 +453,6 @@ refused_behind text begun rest stopped why begins went lack is = record {
   at = is;
 }
 
--- results that go on
 pub group_ok : {T : Type 0} (result : Result T Stop) (room : ℕ) (text rest : List ℕ) → part_at text ≡ parts.Open → OnOk result (WalksRound room text rest) → OnOk result (WalksAtom room text rest)
 group_ok (Ok x) room text rest is first = group_walk is first
 group_ok (Err why) room text rest is first = tt

@@ -1,5 +1,5 @@
 -- Which part of a rule may stand where, as a table. What comes next and the brackets that are open are all that it knows of what
--- stands before: it speaks of the first place where a text leaves the grammar, and of trees not at all.
+-- stands before. It says where a text leaves the grammar; that it takes each rule to its end is a law.
 use Rattle.std.specs.Prelude.{ℕ, Bool, true, false, nat_lt, if◌then◌else◌, List, [], ◌∷◌, length, Option, Some, None, Result, Ok, Err}
 use Rattle.rule_expr.specs.declared.part.Part.{Part}
 use Rattle.rule_expr.specs.declared.part.Part.TheVariants as parts
@@ -79,6 +79,7 @@ why_not false (parts.Named word) left = stops.Bad left
 why_not named (parts.Stray byte) left = if is_left_out byte then stops.LeftOut left else stops.Bad left
 why_not named part left = stops.Bad left
 
+-- the table has nothing for the part
 abbrev pub none : Bool → Part → List ℕ → Move
 none named part text = stop (why_not named part (length text))
 
@@ -167,8 +168,8 @@ abbrev pub is_open : Part → Bool
 is_open parts.Open = true
 is_open part = false
 
--- A name behind the dot of a path, and whether `(` follows it. It is a member's where none does; in `has` a call's name is one
--- as well.
+-- A name behind the dot of a path, and whether `(` follows it: where none does it is a member's. In `has`, which takes no call, the
+-- name of one is a member's too.
 abbrev pub name_row : Home → Word → Bool → List Bracket → List ℕ → Move
 name_row (alone more) (words.Call which) true brackets text = to (open_round more) brackets (behind text)
 name_row asked (words.Call which) true brackets text = to after_asked brackets (behind text)
@@ -199,11 +200,11 @@ abbrev pub event_row : Part → List Bracket → List ℕ → Move
 event_row (parts.Named words.Event) brackets text = to after_asked brackets (behind text)
 event_row part brackets text = none true part text
 
--- a list without items is passed whole
 abbrev pub is_close : Part → Bool
 is_close parts.CloseList = true
 is_close part = false
 
+-- what follows the bracket of a list, and whether that is the bracket at its end: a list without items is passed whole
 abbrev pub items_row : Bool → List Bracket → List ℕ → Move
 items_row true brackets text = to (after false list_end) brackets (behind (behind text))
 items_row false brackets text = to (operand true) (in_list ∷ brackets) (behind text)

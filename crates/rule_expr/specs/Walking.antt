@@ -1,5 +1,5 @@
 -- What reading a part of a rule comes to by the table: where it leads, or where it stops.
-use Rattle.std.specs.Prelude.{◌≡◌, ◌≢◌, ◌+◌, ℕ, Bool, true, false, not, ◌&&◌, if◌then◌else◌, List, ◌∷◌, length, Option, Some, None, Err}
+use Rattle.std.specs.Prelude.{◌≡◌, ◌≢◌, ◌+◌, ℕ, Bool, true, false, not, ◌&&◌, if◌then◌else◌, List, ◌∷◌, length, None, Err}
 use Rattle.rule_expr.specs.declared.part.Part.{Part}
 use Rattle.rule_expr.specs.declared.part.Part.TheVariants as parts
 use Rattle.rule_expr.specs.declared.part.Word.{Word}

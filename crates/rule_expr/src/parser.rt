@@ -291,7 +291,6 @@ impl<'t> Parser<'t> {
     }
 }
 
-
 fn is_call(word: Word) -> bool
     ensures { result ≡ is_call word }
 {

@@ -1,7 +1,6 @@
 use Rattle.std.proofs.Common.{rules, ◌∙◌, ap, sym, subst, refl, length, arith, true}
 use Rattle.std.proofs.lemmas.List.{append-nil}
 use Rattle.rule_expr.specs.declared.part.Part.TheVariants as parts
-use Rattle.rule_expr.specs.declared.part.Word.TheVariants as words
 use Rattle.rule_expr.specs.Parts.{part_at}
 use Rattle.rule_expr.specs.Trees
 use Rattle.rule_expr.specs.Reading.{Reads}
