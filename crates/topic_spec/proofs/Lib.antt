@@ -1,0 +1,6 @@
+mod Aimed
+mod Gathering
+mod Members
+mod Pathing
+mod Readings
+mod Steps

@@ -1,0 +1,19 @@
+use Rattle.std.proofs.Common.{length, []}
+use Rattle.std.specs.Prelude.{IfSome}
+use Rattle.json_text.specs.Forest.{Forest}
+use Rattle.json_text.specs.Doc.{bytes_read, IsNode, values_kept}
+use Rattle.rule_expr.specs.Standing.{IsAt}
+use Rattle.rule_expr.specs.Values.{held}
+use Rattle.topic_spec.specs.Listed.{items_said}
+use Rattle.topic_spec.specs.Loading.{Loads}
+use Rattle.topic_spec.proofs.Steps.{GoingItems, nodes_left}
+use Rattle.topic_spec.proofs.loading.subs_of_list.Given as goal
+
+abbrev pub invariant-loop-here : goal.invariant-loop-here
+invariant-loop-here l = record {
+  here_is : IfSome l.here (IsNode l.doc);
+  going : (values : Forest) → IsAt l.doc l.fn.n values → GoingItems l.doc (Loads 0 [] (items_said (bytes_read l.doc) 0 (held values))) (length l.all) l.here l.all;
+}
+
+abbrev pub decreases-loop-here : goal.decreases-loop-here
+decreases-loop-here l = nodes_left (length (values_kept l.doc)) l.here

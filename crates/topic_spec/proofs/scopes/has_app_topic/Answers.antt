@@ -1,0 +1,11 @@
+use Rattle.std.proofs.Common.{rules, tests}
+use Rattle.std.proofs.lemmas.Iterator.Splits.{YieldsList-from_slice_split}
+use Rattle.std.proofs.lemmas.Iterator.Search.{any_from_yields_List}
+use Rattle.topic_spec.specs.Scopes.{has_app_topic, is_of_topic}
+use Rattle.topic_spec.proofs.scopes.has_app_topic.Goals as goal
+
+pub returns : goal.returns
+unfolding has_app_topic
+returns c =
+    let parts = YieldsList-from_slice_split _ _ c.args.scopes.now c.split.ensures.rest c.split.ensures.done c.split.ensures.closure (λ x b q k. search (rules, tests)) in
+    any_from_yields_List (is_of_topic c.args.app.now c.args.topic.now) _ _ c.any.result c.any.ensures.ran parts (λ x b q k. search (rules, tests))

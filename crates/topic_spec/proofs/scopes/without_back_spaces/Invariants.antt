@@ -1,0 +1,9 @@
+use Rattle.std.proofs.Common.{◌≡◌, length, reverse}
+use Rattle.topic_spec.specs.Scopes.{without_front_spaces}
+use Rattle.topic_spec.proofs.scopes.without_back_spaces.Given as goal
+
+abbrev pub invariant-loop-rest : goal.invariant-loop-rest
+invariant-loop-rest l = without_front_spaces (reverse l.rest) ≡ without_front_spaces (reverse l.bytes)
+
+abbrev pub decreases-loop-rest : goal.decreases-loop-rest
+decreases-loop-rest l = length l.rest
