@@ -3,6 +3,7 @@
 use crate::bound_text::bound_text;
 use crate::component_text::components_text;
 use crate::given::{Outcome, Reason};
+use crate::subscription_text::subscriptions_text;
 use crate::trip_text::breakers_text;
 use case_text::{Lines, Section};
 use policy_spec::{Target, breakers};
@@ -51,6 +52,7 @@ fn of_resources(
     match section.word {
         "components" => components_text(alloc, &resources.components, app),
         "count" => count_text(alloc, resources.components.len()),
+        "subscriptions" => subscriptions_text(alloc, &resources.subscriptions),
         "place" => place_text(alloc, &resources.components, section.name),
         "breakers" => breakers_text(alloc, breakers(&resources.policies)),
         _ => Ok(Text::from_static(alloc, "no such section\n")),

@@ -7,11 +7,19 @@ use resource_files::{Refusal, Resources, refusal_text};
 use resource_spec::{Components, SpecErr, components};
 use side_base::{NoMemory, Text};
 use std::alloc::Global;
+use topic_spec::{SubErr, Subs, subscriptions};
 use yaml_subset::{Docs, read_docs};
 
 fn join_components(all: &mut Components, more: Result<Components, SpecErr>) -> Result<(), SpecErr> {
     match more {
         Ok(more) => resource_spec::join(all, more),
+        Err(error) => Err(error),
+    }
+}
+
+fn join_subscriptions(all: &mut Subs, more: Result<Subs, SubErr>) -> Result<(), SubErr> {
+    match more {
+        Ok(more) => topic_spec::join(all, more),
         Err(error) => Err(error),
     }
 }
@@ -23,13 +31,21 @@ fn join_policies(all: &mut Policies, more: Result<Policies, PolicyErr>) -> Resul
     }
 }
 
-// Joins what documents say.
-fn join_docs(alloc: Global, docs: &Docs, app: &Text, all: &mut Resources) -> Result<(), Refusal> {
-    match join_components(&mut all.components, components(alloc, docs, app)) {
+// Joins what documents bind, and the subscriptions that they say.
+fn join_others(alloc: Global, docs: &Docs, app: &Text, all: &mut Resources) -> Result<(), Refusal> {
+    match join_subscriptions(&mut all.subscriptions, subscriptions(alloc, docs, app)) {
         Ok(()) => match join_policies(&mut all.policies, policies(alloc, docs, app)) {
             Ok(()) => Ok(()),
             Err(error) => Err(Refusal::Policies(error)),
         },
+        Err(error) => Err(Refusal::Subscriptions(error)),
+    }
+}
+
+// Joins what documents say.
+fn join_docs(alloc: Global, docs: &Docs, app: &Text, all: &mut Resources) -> Result<(), Refusal> {
+    match join_components(&mut all.components, components(alloc, docs, app)) {
+        Ok(()) => join_others(alloc, docs, app, all),
         Err(error) => Err(Refusal::Components(error)),
     }
 }
@@ -72,6 +88,7 @@ pub(crate) fn read_each(
 ) -> Result<Outcome, NoMemory> {
     let mut resources = Resources {
         components: Components::new(alloc),
+        subscriptions: Subs::new(alloc),
         policies: Policies::new(alloc),
     };
     let mut told = Lines::new(alloc);

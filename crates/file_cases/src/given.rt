@@ -11,6 +11,7 @@ use resource_spec::SpecErr;
 use side_base::{Blob, NoMemory, Places, Sequence, Text};
 use side_memory::MemoryFiles;
 use std::alloc::Global;
+use topic_spec::SubErr;
 
 /// The app and the folder of a case that names none.
 const APP: &str = "shop";
@@ -175,6 +176,15 @@ fn doc_of_components(error: &SpecErr) -> Option<usize> {
     }
 }
 
+fn doc_of_subscriptions(error: &SubErr) -> Option<usize> {
+    match error {
+        SubErr::Missing { doc, .. } => Some(*doc),
+        SubErr::Wrong { doc, .. } => Some(*doc),
+        SubErr::Rule { doc, .. } => Some(*doc),
+        _ => None,
+    }
+}
+
 fn doc_of_policies(error: &PolicyErr) -> Option<usize> {
     match error {
         PolicyErr::Missing { doc, .. } => Some(*doc),
@@ -187,6 +197,7 @@ fn doc_of_policies(error: &PolicyErr) -> Option<usize> {
 fn doc_of(refusal: &Refusal) -> Option<usize> {
     match refusal {
         Refusal::Components(error) => doc_of_components(error),
+        Refusal::Subscriptions(error) => doc_of_subscriptions(error),
         Refusal::Policies(error) => doc_of_policies(error),
         _ => None,
     }

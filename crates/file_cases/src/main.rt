@@ -8,6 +8,7 @@ mod component_text;
 mod each;
 mod given;
 mod playing;
+mod subscription_text;
 mod trip_text;
 
 use crate::playing::played;

@@ -1,3 +1,4 @@
 mod Causes
+mod Subscribing
 mod Underway
 mod UsualText

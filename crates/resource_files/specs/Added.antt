@@ -16,15 +16,28 @@ use Rattle.policy_spec.specs.Join.{first_repeated, IsRefused, IsBoth}
 use Rattle.policy_spec.specs.declared.policy_err.PolicyErr.{PolicyErr}
 use Rattle.resource_files.specs.declared.resources.Resources.{Resources}
 use Rattle.resource_files.specs.declared.resources.Refusal.{Refusal}
-use Rattle.resource_files.specs.declared.resources.Refusal.TheVariants.{TooLong, Yaml, Components, Policies}
+use Rattle.topic_spec.specs.declared.sub.Sub.{Sub}
+use Rattle.topic_spec.specs.declared.sub_err.SubErr.{SubErr}
+use Rattle.topic_spec.specs.Documents.{all_said}
+use Rattle.topic_spec.specs.Loading.{Loads}
+use Rattle.topic_spec.specs.Joining.{joined as subscriptions_joined}
+use Rattle.resource_files.specs.declared.resources.Refusal.TheVariants.{TooLong, Yaml, Components, Subscriptions, Policies}
 
--- what no file says: no component, and nothing is bound
+-- what no file says: no component, no subscription, and nothing is bound
 abbrev pub nothing_said : Resources
-nothing_said = record { components = []; policies = nothing_bound }
+nothing_said = record { components = []; subscriptions = []; policies = nothing_bound }
 
 -- the components that these documents say for the app, behind those of the files before
 abbrev pub components_with : List ℕ → Trees → List Loaded → Result (List Loaded) SpecErr
 components_with app documents before = follow (loaded app 0 [] documents) (λ more. joined (length before + length more) before more)
+
+-- the subscriptions that these documents say for the app, or why they are refused
+abbrev pub Subscribes : List ℕ → Trees → Result (List Sub) SubErr → Type 0
+Subscribes app documents said = Loads 0 [] (all_said app 0 documents) said
+
+-- behind those of the files before
+abbrev pub AreSubscribed : List ℕ → Trees → List Sub → List Sub → Type 0
+AreSubscribed app documents before after = (said : List Sub) × (Subscribes app documents (Ok said) × (subscriptions_joined before said ≡ Ok after))
 
 -- what these documents bind to targets for the app, whatever reads their durations and trips as they are
 abbrev pub Binds : List ℕ → Trees → Result Binding PolicyErr → Type 0
@@ -36,6 +49,7 @@ pub record Adds (app bytes : List ℕ) (before after : Resources) : Type 0 where
   pub documents : Trees
   pub shows : Shows documents bytes
   pub components : components_with app documents before.components ≡ Ok after.components
+  pub subscribed : AreSubscribed app documents before.subscriptions after.subscriptions
   pub bound : Binding
   pub binds : Binds app documents (Ok bound)
   pub both : IsBoth before.policies bound after.policies
@@ -53,23 +67,39 @@ pub record HasNoComponents (app bytes : List ℕ) (before : Resources) (e : Spec
   pub shows : Shows documents bytes
   pub refused : components_with app documents before.components ≡ Err e
 
+-- the subscriptions of documents are refused, or there are too many behind those before
+abbrev pub AreUnsubscribed : List ℕ → Trees → List Sub → SubErr → Type 0
+AreUnsubscribed app documents before e = Subscribes app documents (Err e) ⊎ ((said : List Sub) × (Subscribes app documents (Ok said) × (subscriptions_joined before said ≡ Err e)))
+
+-- the subscriptions of a file are refused, and its components are not
+pub record HasNoSubscriptions (app bytes : List ℕ) (before : Resources) (e : SubErr) : Type 0 where
+  pub within : length bytes ≤ 1048576
+  pub documents : Trees
+  pub shows : Shows documents bytes
+  pub components : List Loaded
+  pub joined_are : components_with app documents before.components ≡ Ok components
+  pub refused : AreUnsubscribed app documents before.subscriptions e
+
 -- the policies of documents are refused, or one of their targets is bound before
 abbrev pub AreRefused : List ℕ → Trees → Binding → PolicyErr → Type 0
 AreRefused app documents before e = Binds app documents (Err e) ⊎ ((bound : Binding) × Binds app documents (Ok bound) × IsRefused e (first_repeated before bound))
 
--- the policies of a file are refused, and its components are not
+-- the policies of a file are refused, and its components and subscriptions are not
 pub record HasNoPolicies (app bytes : List ℕ) (before : Resources) (e : PolicyErr) : Type 0 where
   pub within : length bytes ≤ 1048576
   pub documents : Trees
   pub shows : Shows documents bytes
   pub components : List Loaded
   pub joined_are : components_with app documents before.components ≡ Ok components
+  pub subscriptions : List Sub
+  pub subscribed : AreSubscribed app documents before.subscriptions subscriptions
   pub refused : AreRefused app documents before.policies e
 
--- a file of these bytes is refused so behind those that say what stood before: for its length, as YAML, for its components or
--- for its policies, the first of them that refuses
+-- a file of these bytes is refused so behind those that say what stood before: for its length, as YAML, for its components,
+-- its subscriptions or its policies, the first of them that refuses
 abbrev pub IsRefusedBehind : List ℕ → List ℕ → Resources → Refusal → Type 0
 IsRefusedBehind app bytes before (TooLong len) = (length bytes ≡ len) × (1048576 < len)
 IsRefusedBehind app bytes before (Yaml e) = IsNoYaml bytes e
 IsRefusedBehind app bytes before (Components e) = HasNoComponents app bytes before e
+IsRefusedBehind app bytes before (Subscriptions e) = HasNoSubscriptions app bytes before e
 IsRefusedBehind app bytes before (Policies e) = HasNoPolicies app bytes before e

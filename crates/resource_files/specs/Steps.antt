@@ -1,4 +1,4 @@
--- What the steps of a reading do: the components, the policies and the whole of one file, and one call for a file.
+-- What the steps of a reading do: the components, the subscriptions, the policies and the whole of one file, and one call for a file.
 use Rattle.std.specs.Prelude.{◌≡◌, ℕ, false, List, Option, Result, Ok, Err}
 use Rattle.yaml_subset.specs.Trees.{Trees}
 use Rattle.resource_spec.specs.Component.{Loaded}
@@ -6,6 +6,8 @@ use Rattle.resource_spec.specs.declared.spec_err.SpecErr.{SpecErr}
 use Rattle.policy_spec.specs.Policies.{Binding}
 use Rattle.policy_spec.specs.Join.{IsBoth}
 use Rattle.policy_spec.specs.declared.policy_err.PolicyErr.{PolicyErr}
+use Rattle.topic_spec.specs.declared.sub.Sub.{Sub}
+use Rattle.topic_spec.specs.declared.sub_err.SubErr.{SubErr}
 use Rattle.side_world.specs.Faults.{Rose}
 use Rattle.side_world.specs.Files.{Folders, HasBytes}
 use Rattle.side_world.specs.declared.files.FilesErr.{FilesErr}
@@ -15,13 +17,18 @@ use Rattle.resource_files.specs.declared.resources.Refusal.{Refusal}
 use Rattle.resource_files.specs.declared.resources.Refusal.TheVariants.{TooLong}
 use Rattle.resource_files.specs.declared.resources.ResourcesErr.{ResourcesErr}
 use Rattle.resource_files.specs.declared.resources.ResourcesErr.TheVariants.{Refused, Failed, NoMemory}
-use Rattle.resource_files.specs.Refusals.{components_want_memory, policies_want_memory, wants_memory}
-use Rattle.resource_files.specs.Added.{components_with, Binds, AreRefused, Adds, IsRefusedBehind}
+use Rattle.resource_files.specs.Refusals.{components_want_memory, subscriptions_want_memory, policies_want_memory, wants_memory}
+use Rattle.resource_files.specs.Added.{components_with, AreSubscribed, AreUnsubscribed, Binds, AreRefused, Adds, IsRefusedBehind}
 
 -- the components of documents are added to others, or refused but for want of memory
 abbrev pub AddsComponents : List ℕ → Trees → List Loaded → List Loaded → Result (Unit {0}) SpecErr → Type 0
 AddsComponents app documents old new (Ok done) = components_with app documents old ≡ Ok new
 AddsComponents app documents old new (Err e) = components_want_memory e ≡ false → components_with app documents old ≡ Err e
+
+-- the same of their subscriptions
+abbrev pub AddsSubscriptions : List ℕ → Trees → List Sub → List Sub → Result (Unit {0}) SubErr → Type 0
+AddsSubscriptions app documents old new (Ok done) = AreSubscribed app documents old new
+AddsSubscriptions app documents old new (Err e) = subscriptions_want_memory e ≡ false → AreUnsubscribed app documents old e
 
 -- the same of what they bind
 abbrev pub AddsPolicies : List ℕ → Trees → Binding → Binding → Result (Unit {0}) PolicyErr → Type 0

@@ -14,6 +14,6 @@ plain_component name kind = record { name = name; kind = kind; version = codes "
 abbrev pub usual_components : List Loaded
 usual_components = plain_component (codes "statestore") StateMemory ∷ plain_component (codes "pubsub") PubsubMemory ∷ []
 
--- these components, and nothing is bound
+-- these components, no subscription, and nothing is bound
 abbrev pub usual : Resources
-usual = record { components = usual_components; policies = nothing_bound }
+usual = record { components = usual_components; subscriptions = []; policies = nothing_bound }

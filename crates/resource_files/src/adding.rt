@@ -1,13 +1,14 @@
 // What one file adds to those before it.
 ghost use Rattle.std.specs.Prelude.{◌≤◌, ℕ, List, length};
 ghost use Rattle.yaml_subset.specs.Docs.{Shows};
-ghost use Rattle.resource_files.specs.Steps.{AddsComponents, AddsPolicies, AddsFile};
+ghost use Rattle.resource_files.specs.Steps.{AddsComponents, AddsSubscriptions, AddsPolicies, AddsFile};
 
 use crate::resources::{Refusal, Resources};
 use policy_spec::{Policies, PolicyErr, join as join_policies, policies};
 use resource_spec::{Components, SpecErr, components, join as join_components};
 use side_base::Text;
 use std::alloc::Global;
+use topic_spec::{SubErr, Subs, join as join_subscriptions, subscriptions};
 use yaml_subset::{Docs, read_docs};
 
 fn add_components(
@@ -24,6 +25,20 @@ fn add_components(
     }
 }
 
+fn add_subscriptions(
+    alloc: Global,
+    docs: &Docs,
+    app: &Text,
+    all: &mut Subs,
+) -> Result<(), SubErr>
+    ensures { AddsSubscriptions app.now docs.now all.old all.new result }
+{
+    match subscriptions(alloc, docs, app) {
+        Ok(more) => join_subscriptions(all, more),
+        Err(error) => Err(error),
+    }
+}
+
 fn add_policies(alloc: Global, docs: &Docs, app: &Text, all: &mut Policies) -> Result<(), PolicyErr>
     ensures { AddsPolicies app.now docs.now all.old all.new result }
 {
@@ -33,14 +48,17 @@ fn add_policies(alloc: Global, docs: &Docs, app: &Text, all: &mut Policies) -> R
     }
 }
 
-// Adds what documents say: their components, and then what they bind.
+// Adds what documents say: their components, their subscriptions, and then what they bind.
 fn add_documents(alloc: Global, docs: &Docs, app: &Text, all: &mut Resources) -> Result<(), Refusal>
     ensures { (bytes : List ℕ) → Shows docs.now bytes → length bytes ≤ 1048576 → AddsFile app.now bytes all.old all.new result }
 {
     match add_components(alloc, docs, app, &mut all.components) {
-        Ok(()) => match add_policies(alloc, docs, app, &mut all.policies) {
-            Ok(()) => Ok(()),
-            Err(error) => Err(Refusal::Policies(error)),
+        Ok(()) => match add_subscriptions(alloc, docs, app, &mut all.subscriptions) {
+            Ok(()) => match add_policies(alloc, docs, app, &mut all.policies) {
+                Ok(()) => Ok(()),
+                Err(error) => Err(Refusal::Policies(error)),
+            },
+            Err(error) => Err(Refusal::Subscriptions(error)),
         },
         Err(error) => Err(Refusal::Components(error)),
     }

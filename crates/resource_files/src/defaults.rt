@@ -8,6 +8,7 @@ use policy_spec::Policies;
 use resource_spec::{Components, components};
 use side_base::{NoMemory, Text};
 use std::alloc::Global;
+use topic_spec::Subs;
 use yaml_subset::read_docs;
 
 /// The file that is as if read where no folder is named.
@@ -50,13 +51,14 @@ fn usual_components(alloc: Global, app: &Text) -> Result<Components, NoMemory>
 }
 
 /// The resources of a run that names no folder: a store `statestore` of the type `state.in-memory` and a broker `pubsub` of the
-/// type `pubsub.in-memory`, both of version `v1` and without settings, and nothing is bound.
+/// type `pubsub.in-memory`, both of version `v1` and without settings, no subscription, and nothing is bound.
 pub fn usual_resources(alloc: Global, app: &Text) -> Result<Resources, NoMemory>
     ensures { IfOk result (λ resources. resources ≡ usual) }
 {
     match usual_components(alloc, app) {
         Ok(components) => Ok(Resources {
             components,
+            subscriptions: Subs::new(alloc),
             policies: Policies::new(alloc),
         }),
         Err(error) => Err(error),

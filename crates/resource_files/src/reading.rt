@@ -79,8 +79,8 @@ fn read_file<F: Files>(
 /// Reads the resource files of a folder in the order of their names, for this app, up to the first that is refused: one call
 /// lists the folder, and one reads each file.
 ///
-/// Of a file its documents are read first, then its components, then its policies, each joined to those of the files before
-/// it; the first refusal counts. A file of more than 1,048,576 bytes is refused. `Failed` comes only where the count of faults
+/// Of a file its documents are read first, then its components, then its subscriptions, then its policies, each joined to those
+/// of the files before it; the first refusal counts. A file of more than 1,048,576 bytes is refused. `Failed` comes only where the count of faults
 /// rose, as where the folder isn't there; with every other answer that count is as before.
 pub fn read_resources<F: Files>(
     alloc: Global,

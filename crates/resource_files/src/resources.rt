@@ -5,6 +5,7 @@ use policy_spec::{Policies, PolicyErr};
 use resource_spec::{Components, SpecErr};
 use side_base::Text;
 use std::alloc::Global;
+use topic_spec::{SubErr, Subs};
 use yaml_subset::YamlErr;
 
 /// What resource files say together.
@@ -12,6 +13,8 @@ use yaml_subset::YamlErr;
 pub struct Resources {
     /// The components, in the order of the files and of their documents.
     pub components: Components,
+    /// The subscriptions, in the order of the files and of their documents.
+    pub subscriptions: Subs,
     /// What is bound to which target.
     pub policies: Policies,
 }
@@ -25,6 +28,8 @@ pub enum Refusal {
     Yaml(YamlErr),
     /// Its components aren't read, or not joined to those of the files before it.
     Components(SpecErr),
+    /// Its subscriptions aren't read, or not joined to those of the files before it.
+    Subscriptions(SubErr),
     /// Its policies aren't read, or not joined to those of the files before it.
     Policies(PolicyErr),
 }
@@ -40,12 +45,13 @@ pub enum ResourcesErr {
     NoMemory,
 }
 
-/// What no file says: no component, and nothing is bound. Takes no memory.
+/// What no file says: no component, no subscription, and nothing is bound. Takes no memory.
 pub(crate) fn nothing(alloc: Global) -> Resources
     ensures { result ≡ nothing_said }
 {
     Resources {
         components: Components::new(alloc),
+        subscriptions: Subs::new(alloc),
         policies: Policies::new(alloc),
     }
 }

@@ -1,6 +1,6 @@
 // How a refusal is told, and which are told at all.
 ghost use Rattle.std.specs.Prelude.{◌≡◌, ◌++◌, IfOk, decimal};
-ghost use Rattle.resource_files.specs.Refusals.{yaml_wants_memory, components_want_memory, policies_want_memory, wants_memory, components_text, policies_text, told_as};
+ghost use Rattle.resource_files.specs.Refusals.{yaml_wants_memory, components_want_memory, subscriptions_want_memory, policies_want_memory, wants_memory, components_text, subscriptions_text, policies_text, told_as};
 
 use crate::resources::Refusal;
 use itoa::Buffer;
@@ -8,6 +8,7 @@ use policy_spec::PolicyErr;
 use resource_spec::SpecErr;
 use side_base::{NoMemory, Text};
 use std::alloc::Global;
+use topic_spec::SubErr;
 use yaml_subset::YamlErr;
 
 fn is_yaml_memory(error: &YamlErr) -> bool
@@ -38,6 +39,19 @@ fn is_components_memory(error: &SpecErr) -> bool
     }
 }
 
+fn is_subscriptions_memory(error: &SubErr) -> bool
+    ensures { result ≡ subscriptions_want_memory error.now }
+{
+    match error {
+        SubErr::NoMemory => true,
+        SubErr::Missing { .. } => false,
+        SubErr::Wrong { .. } => false,
+        SubErr::SelfDead { .. } => false,
+        SubErr::TooMany { .. } => false,
+        SubErr::Rule { .. } => false,
+    }
+}
+
 fn is_policies_memory(error: &PolicyErr) -> bool
     ensures { result ≡ policies_want_memory error.now }
 {
@@ -58,6 +72,7 @@ pub(crate) fn is_memory(refusal: &Refusal) -> bool
         Refusal::TooLong { .. } => false,
         Refusal::Yaml(error) => is_yaml_memory(error),
         Refusal::Components(error) => is_components_memory(error),
+        Refusal::Subscriptions(error) => is_subscriptions_memory(error),
         Refusal::Policies(error) => is_policies_memory(error),
     }
 }
@@ -95,6 +110,19 @@ fn text_of_components(alloc: Global, error: &SpecErr) -> Result<Text, NoMemory>
     }
 }
 
+fn text_of_subscriptions(alloc: Global, error: &SubErr) -> Result<Text, NoMemory>
+    ensures { IfOk result (λ text. text ≡ subscriptions_text error.now) }
+{
+    match error {
+        SubErr::Missing { field, .. } => with_text(alloc, "Missing ", field),
+        SubErr::Wrong { field, .. } => with_text(alloc, "Wrong ", field),
+        SubErr::NoMemory => Ok(Text::from_static(alloc, "NoMemory")),
+        SubErr::SelfDead { name } => with_text(alloc, "SelfDead ", name),
+        SubErr::TooMany { count } => with_number(alloc, "TooMany at ", *count as u128),
+        SubErr::Rule { at, .. } => with_number(alloc, "Rule at ", *at as u128),
+    }
+}
+
 fn text_of_policies(alloc: Global, error: &PolicyErr) -> Result<Text, NoMemory>
     ensures { IfOk result (λ text. text ≡ policies_text error.now) }
 {
@@ -108,7 +136,7 @@ fn text_of_policies(alloc: Global, error: &PolicyErr) -> Result<Text, NoMemory>
 }
 
 /// The text by which a refusal is told: its name, and behind a space its line, its place, its field or its name, where it has
-/// one. A length or a number of components counts as a place. The number of a document is left out. Fields and names are as
+/// one. A length or a number of components or subscriptions counts as a place. The number of a document is left out. Fields and names are as
 /// the file has them, and may hold any character.
 pub fn refusal_text(alloc: Global, refusal: &Refusal) -> Result<Text, NoMemory>
     ensures { IfOk result (λ text. text ≡ told_as refusal.now) }
@@ -117,6 +145,7 @@ pub fn refusal_text(alloc: Global, refusal: &Refusal) -> Result<Text, NoMemory>
         Refusal::TooLong { len } => with_number(alloc, "TooLong at ", *len),
         Refusal::Yaml(error) => error.text(alloc),
         Refusal::Components(error) => text_of_components(alloc, error),
+        Refusal::Subscriptions(error) => text_of_subscriptions(alloc, error),
         Refusal::Policies(error) => text_of_policies(alloc, error),
     }
 }

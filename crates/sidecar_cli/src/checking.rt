@@ -6,12 +6,14 @@ ghost use Rattle.sidecar_cli.specs.World.{world_at};
 use crate::configuring::{configured, without_resources};
 use crate::{Device, Status, World};
 use itoa::Buffer;
+use resource_files::Resources;
 use side_base::{Blob, NoMemory};
 use side_world::{Clock, Failed, Files, Link, Outside, Sink, Source, send};
 use sidecar_words::Words;
 use std::alloc::Global;
+use topic_spec::allowed;
 
-/// Reads the resources, and says how many there are.
+/// Reads the resources, and says how many components there are, and how many subscriptions that are kept.
 pub(crate) fn check<S: Source, N: Sink, E: Sink, F: Files, L: Link, C: Clock, O: Outside>(
     alloc: Global,
     given: &Words,
@@ -20,16 +22,20 @@ pub(crate) fn check<S: Source, N: Sink, E: Sink, F: Files, L: Link, C: Clock, O:
     ensures { IsCheck given.now (world_at S.Source N.Sink E.Sink F.Files L.Link C.Clock O.Outside world.old) (world_at S.Source N.Sink E.Sink F.Files L.Link C.Clock O.Outside world.new) result }
 {
     match configured(alloc, &mut world.files, &given.resources, &given.app) {
-        Ok(resources) => tell(alloc, resources.components.len(), &mut world.sink),
+        Ok(resources) => {
+            let Resources { components, subscriptions, .. } = resources;
+            let kept = allowed(subscriptions, &components, &given.app);
+            tell(alloc, components.len(), kept.len(), &mut world.sink)
+        }
         Err(error) => without_resources(alloc, error),
     }
 }
 
-/// Says how many components there are.
-fn tell<N: Sink>(alloc: Global, components: usize, sink: &mut N) -> Status
-    ensures { IsCounted components (sink_at N.Sink sink.old) (sink_at N.Sink sink.new) result }
+/// Says how many components and subscriptions there are.
+fn tell<N: Sink>(alloc: Global, components: usize, subscriptions: usize, sink: &mut N) -> Status
+    ensures { IsCounted components subscriptions (sink_at N.Sink sink.old) (sink_at N.Sink sink.new) result }
 {
-    let Ok(line) = line(alloc, components) else {
+    let Ok(line) = line(alloc, components, subscriptions) else {
         return Status::NoMemory;
     };
     match send(sink, line.bytes()) {
@@ -38,12 +44,14 @@ fn tell<N: Sink>(alloc: Global, components: usize, sink: &mut N) -> Status
     }
 }
 
-/// The line that says so many components.
-fn line(alloc: Global, components: usize) -> Result<Blob, NoMemory>
-    ensures { IfOk result (λ line. line ≡ check_line components) }
+/// The line that says so many components and subscriptions.
+fn line(alloc: Global, components: usize, subscriptions: usize) -> Result<Blob, NoMemory>
+    ensures { IfOk result (λ line. line ≡ check_line components subscriptions) }
 {
     let mut line = Blob::from_bytes(alloc, b"ok components ")?;
     line.push(Buffer::new().format(components).as_bytes())?;
-    line.push(b" subscriptions 0\n")?;
+    line.push(b" subscriptions ")?;
+    line.push(Buffer::new().format(subscriptions).as_bytes())?;
+    line.push(b"\n")?;
     Ok(line)
 }
