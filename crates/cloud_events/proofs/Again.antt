@@ -198,7 +198,7 @@ second_rises : (m x : Attribute) (members : List Attribute) → NamesRise (m ∷
 second_rises m x [] h = tt
 second_rises m x (y ∷ members) h = (nat_list_cmp_total.trans m.name x.name y.name h.0 h.1.0, h.1.1)
 
-tail_rises : (m : Attribute) (members : List Attribute) → NamesRise (m ∷ members) → NamesRise members
+pub tail_rises : (m : Attribute) (members : List Attribute) → NamesRise (m ∷ members) → NamesRise members
 tail_rises m [] h = tt
 tail_rises m (x ∷ members) h = h.1
 
@@ -208,7 +208,7 @@ apart_by true m x name v rest e less h later =
     ap (bytes_eq m.name) (sym ((bytes_eq-Decides x.name name).0 e)) ∙ other
 apart_by false m x name v rest e less h later = later h
 
-apart : (m : Attribute) (members : List Attribute) (name v : List ℕ) → NamesRise (m ∷ members) → value_in name members ≡ Some v → bytes_eq m.name name ≡ false
+pub apart : (m : Attribute) (members : List Attribute) (name v : List ℕ) → NamesRise (m ∷ members) → value_in name members ≡ Some v → bytes_eq m.name name ≡ false
 apart m [] name v rise h = none_some v _ h
 apart m (x ∷ members) name v rise h =
     apart_by (bytes_eq x.name name) m x name v (value_in name members) refl rise.0 h (λ e. apart m members name v (second_rises m x members rise) e)

@@ -33,10 +33,10 @@ no_unread body values at read (inl h) = no_bad body at read.clean h
 no_unread body values at read (inr h) = no_deep body at read.clean h
 
 -- the value of a text is one
-same_spot : (body : List ℕ) (s t : Spot) (c d l m : Forest) → IsRead body (grows s c l) → IsRead body (grows t d m) → s ≡ t
+pub same_spot : (body : List ℕ) (s t : Spot) (c d l m : Forest) → IsRead body (grows s c l) → IsRead body (grows t d m) → s ≡ t
 same_spot body s t c d l m a b = let tree = one_tree body (grows s c l) (grows t d m) a.text b.text in let same : s ≡ t = cc in same
 
-same_held : (body : List ℕ) (s t : Spot) (c d l m : Forest) → IsRead body (grows s c l) → IsRead body (grows t d m) → c ≡ d
+pub same_held : (body : List ℕ) (s t : Spot) (c d l m : Forest) → IsRead body (grows s c l) → IsRead body (grows t d m) → c ≡ d
 same_held body s t c d l m a b = let tree = one_tree body (grows s c l) (grows t d m) a.text b.text in let same : c ≡ d = cc in same
 
 map_faults : (body : List ℕ) (spot : Spot) (children : Forest) (e : EventErr) → is_map spot.kind ≡ true → AreEvents (said body children) → IsMapRefusal body spot children e → e ≡ NoMemory

@@ -6,6 +6,7 @@ pub mod Joined
 pub mod Judged
 pub mod Lasts
 pub mod Nodes
+pub mod OneEvent
 pub mod Placed
 pub mod Putting
 pub mod Results

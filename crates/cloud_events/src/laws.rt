@@ -16,3 +16,8 @@ pub fn an_event_has_no_cause_of_refusal()
 pub fn an_event_is_read_again()
     ensures { (sent : Sent) (id event : List ℕ) (now : ℕ) (wrapped : IsWrapped sent id now event) → AreTexts sent id → IsReadAs wrapped.event_is.members event }
 {}
+
+/// A body with an id and a moment becomes one event at most.
+pub fn a_body_becomes_one_event()
+    ensures { (sent : Sent) (id one other : List ℕ) (now : ℕ) → IsWrapped sent id now one → IsWrapped sent id now other → one ≡ other }
+{}
