@@ -25,12 +25,7 @@ fn add_components(
     }
 }
 
-fn add_subscriptions(
-    alloc: Global,
-    docs: &Docs,
-    app: &Text,
-    all: &mut Subs,
-) -> Result<(), SubErr>
+fn add_subscriptions(alloc: Global, docs: &Docs, app: &Text, all: &mut Subs) -> Result<(), SubErr>
     ensures { AddsSubscriptions app.now docs.now all.old all.new result }
 {
     match subscriptions(alloc, docs, app) {

@@ -23,7 +23,11 @@ pub(crate) fn check<S: Source, N: Sink, E: Sink, F: Files, L: Link, C: Clock, O:
 {
     match configured(alloc, &mut world.files, &given.resources, &given.app) {
         Ok(resources) => {
-            let Resources { components, subscriptions, .. } = resources;
+            let Resources {
+                components,
+                subscriptions,
+                ..
+            } = resources;
             let kept = allowed(subscriptions, &components, &given.app);
             tell(alloc, components.len(), kept.len(), &mut world.sink)
         }

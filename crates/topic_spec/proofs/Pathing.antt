@@ -88,6 +88,7 @@ module _ (event : Event) (pubsub topic : List ℕ) (drafts : List Draft) where
       further draft left more on (inl (other, same)) by = subst (λ a. AimsBy event pubsub topic 0 drafts (a ++ more)) (sym same) (on more (past other by))
       further draft left more on (inr (to, path, is, same)) by =
           subst (AimsBy event pubsub topic 0 drafts) (sym (ap (λ a. a ++ more) same ∙ append_assoc old (record { sub = place; path = path } ∷ []) more)) (on (record { sub = place; path = path } ∷ more) (aimed to is by))
+
       pick : (left : List Draft) → AreSubs left (sub ∷ later) → ((more : List Aim) → AimsBy event pubsub topic place left more → AimsBy event pubsub topic 0 drafts (old ++ more)) → Aiming event pubsub topic drafts (place + 1) later new
       pick [] are on = absurd are
       pick (draft ∷ left) are on = (left, are.1, λ more by. further draft left more on (adds draft are.0) by)
