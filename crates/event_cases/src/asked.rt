@@ -85,6 +85,18 @@ fn add_wrapped(
     }
 }
 
+// The event alone, which is not sent again.
+fn add_once(alloc: Global, words: &str, body: &[u8], lines: &mut Lines) -> Result<(), NoMemory> {
+    let sent = sent_of(
+        alloc,
+        typed(alloc, words)?,
+        Blob::from_bytes(alloc, body)?,
+        false,
+    );
+    add_event(&wrapped_at(alloc, &sent, NOW), lines);
+    Ok(())
+}
+
 // The time of an event of a moment.
 fn add_moment(alloc: Global, given: &[u8], lines: &mut Lines) -> Result<(), NoMemory> {
     let sent = sent_of(alloc, None, Blob::new(alloc), false);
@@ -146,6 +158,7 @@ fn add_answer(
     match word {
         "wrap" => add_wrapped(alloc, words, given, false, lines),
         "traced" => add_wrapped(alloc, words, given, true, lines),
+        "once" => add_once(alloc, words, given, lines),
         "moment" => add_moment(alloc, given, lines),
         "nested" => add_nested(alloc, words, b"", b"", number_in(given), lines),
         "data-nested" => add_nested(alloc, words, b"{\"data\":", b"}", number_in(given), lines),
