@@ -1,5 +1,5 @@
 -- A check: the resources are read, and the sink gets how many components there are, and how many subscriptions are kept.
-use Rattle.std.specs.Prelude.{◌≡◌, ℕ, List, [], ◌∷◌, ◌++◌, Ok, Err, length, codes, decimal}
+use Rattle.std.specs.Prelude.{◌≡◌, ℕ, List, ◌++◌, Ok, Err, length, codes, decimal}
 use Rattle.side_world.specs.Faults.{Rose}
 use Rattle.side_world.specs.Told.{Told, SentSome}
 use Rattle.conn_serve.specs.Ends.{SinkAt}
@@ -14,8 +14,8 @@ use Rattle.sidecar_cli.specs.declared.status.Status.TheVariants as ends
 use Rattle.sidecar_cli.specs.declared.status.Device.TheVariants.{Sink}
 
 -- so many components and subscriptions
-abbrev pub check_line : ℕ → ℕ → List ℕ
-check_line components subscriptions = codes "ok components " ++ (decimal components ++ (codes " subscriptions " ++ (decimal subscriptions ++ 10 ∷ [])))
+unfoldable pub check_line : ℕ → ℕ → List ℕ
+check_line components subscriptions = (((codes "ok components " ++ decimal components) ++ codes " subscriptions ") ++ decimal subscriptions) ++ codes "\n"
 
 -- the line was sent, or the sink failed and a front of the line was sent, or there was no memory for it
 pub data IsCounted (components subscriptions : ℕ) (sink sink' : SinkAt) (status : Status) : Type 0 where

@@ -49,6 +49,7 @@ fn tell<N: Sink>(alloc: Global, components: usize, subscriptions: usize, sink: &
 }
 
 /// The line that says so many components and subscriptions.
+#[tactic(auto, unfolding(crate::specs::Check::check_line))]
 fn line(alloc: Global, components: usize, subscriptions: usize) -> Result<Blob, NoMemory>
     ensures { IfOk result (λ line. line ≡ check_line components subscriptions) }
 {
