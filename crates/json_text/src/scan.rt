@@ -5,7 +5,7 @@ ghost use Rattle.byte_lanes.specs.Bytes.{is_special};
 ghost use Rattle.byte_lanes.specs.Places.{NonePasses};
 ghost use Rattle.json_text.specs.Lexeme.{ends};
 ghost use Rattle.json_text.specs.Faults.{is_lone_in};
-ghost use Rattle.json_text.specs.Scan.{Passes, EndsAt, BreaksAt, ArePlain, IsAsciiUpTo};
+ghost use Rattle.json_text.specs.Scan.{Passes, EndsAt, BreaksAt, IsAsciiUpTo};
 
 use crate::kind::Kind;
 use crate::lexeme::{Lexeme, meaning, next_word};
@@ -113,19 +113,7 @@ fn plain_high(word: Lexeme) -> Option<bool>
 {
     match word {
         Lexeme::Plain { high } => Some(high),
-        Lexeme::Minus => None,
-        Lexeme::LeadingZero => None,
-        Lexeme::Integer => None,
-        Lexeme::Point => None,
-        Lexeme::Decimals => None,
-        Lexeme::Exponent => None,
-        Lexeme::ExponentSign => None,
-        Lexeme::ExponentDigits => None,
-        Lexeme::Letters { kind: _, read: _ } => None,
-        Lexeme::Tail { second: _, more: _ } => None,
-        Lexeme::Escape => None,
-        Lexeme::Digits { more: _, unit: _ } => None,
-        Lexeme::Closed => None,
+        _ => None,
     }
 }
 
@@ -164,20 +152,22 @@ fn run_end(bytes: &[u8], at: usize, above: usize, high: bool) -> usize
     if high {
         return at;
     }
-    if above > at {
-        return plain_end(bytes, at, above);
+    let stop = special_at(bytes, at);
+    if stop <= above {
+        return stop;
     }
-    text_end(bytes, at)
+    text_end(bytes, at, stop)
 }
 
-// The end of the UTF-8 from place `at` on that stands for itself.
-fn text_end(bytes: &[u8], at: usize) -> usize
-    requires { at ≤ length bytes.now }
+// The end of the UTF-8 from place `at` on, where no byte up to place `stop` is special.
+fn text_end(bytes: &[u8], at: usize, stop: usize) -> usize
+    requires low { at ≤ stop }
+    requires high { stop ≤ length bytes.now }
+    requires usual { NonePasses is_special bytes.now at stop }
     ensures low { at ≤ result }
     ensures high { result ≤ length bytes.now }
     ensures passes { Passes bytes.now at (Lexeme.Plain false) result (Lexeme.Plain false) }
 {
-    let stop = special_at(bytes, at);
     at + utf8_len(&bytes[at..stop])
 }
 
@@ -202,20 +192,5 @@ fn utf8_len(bytes: &[u8]) -> usize
     match from_utf8(bytes) {
         Ok(_) => bytes.len(),
         Err(error) => error.valid_up_to(),
-    }
-}
-
-// The end of the ASCII from place `at` on that stands for itself.
-fn plain_end(bytes: &[u8], at: usize, above: usize) -> usize
-    requires inside { at ≤ length bytes.now }
-    requires known { IsAsciiUpTo bytes.now at above }
-    ensures { ArePlain bytes.now at result }
-{
-    if above <= at {
-        return at;
-    }
-    match first_special(&bytes[..above], at) {
-        Some(place) => place,
-        None => above,
     }
 }

@@ -6,5 +6,7 @@ pub returns-then-high-clause-passes : goal.returns-then-high-clause-passes
 returns-then-high-clause-passes c =
     plain_passes c.args.bytes.now c.args.at c.args.at c.args.high (record { low = omega arith; high = c.requires.inside; usual = λ k low high. absurd (omega (arith, low, high)); ascii = λ k low high. absurd (omega (arith, low, high)) })
 
-pub returns-then-above-at-clause-passes : goal.returns-then-above-at-clause-passes
-returns-then-above-at-clause-passes c = plain_passes c.args.bytes.now c.args.at c.plain_end.result c.args.high c.plain_end.ensures
+pub returns-then-stop-above-clause-passes : goal.returns-then-stop-above-clause-passes
+returns-then-stop-above-clause-passes c =
+    let stop = c.special_at-stop in
+    plain_passes c.args.bytes.now c.args.at stop.result c.args.high (record { low = stop.ensures.low; high = stop.ensures.high; usual = stop.ensures.usual; ascii = λ k low high. c.requires.known.ascii k low (omega (arith, high, c.if-stop-above.true)) })
