@@ -26,6 +26,7 @@ pub mod NumberWords
 pub mod StringWords
 pub mod CharTexts
 pub mod Productions
+pub mod Structure
 pub mod Shapes
 pub mod Depths
 pub mod Every

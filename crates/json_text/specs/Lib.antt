@@ -18,6 +18,7 @@ pub mod Written
 pub mod Visits
 pub mod Productions
 pub mod Words
+pub mod Structure
 pub mod Shape
 pub mod Levels
 pub mod LastMembers

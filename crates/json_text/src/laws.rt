@@ -12,6 +12,7 @@ ghost use Rattle.json_text.specs.declared.kind.Kind.{Kind};
 ghost use Rattle.json_text.specs.Productions.{Char, IsChar, inside_of, text_of};
 ghost use Rattle.json_text.specs.Unescape.{unescaped};
 ghost use Rattle.json_text.specs.Words.{HasWord, HasProduced};
+ghost use Rattle.json_text.specs.Structure.{IsJsonText};
 ghost use Rattle.json_text.specs.Written.{ReadsBack};
 ghost use Rattle.json_text.specs.Grammar.{IsText};
 ghost use Rattle.json_text.specs.Shape.{AreInRow, nesting, IsPlaced, value_bytes};
@@ -37,6 +38,12 @@ pub fn a_walk_visits_all_items()
 pub fn words_are_those_of_the_productions()
     ensures words { (kind : Kind) (i j : ℕ) (s t : List ℕ) → HasWord kind i s j t ↔ HasProduced kind i s j t }
     ensures texts { (chars : List Char) → AllByRecursion IsChar chars → unescaped (inside_of chars) ≡ text_of chars }
+{}
+
+/// The texts of the grammar are those of the productions of RFC 8259 for texts, values, objects and arrays, with the same
+/// values at the same places.
+pub fn texts_are_those_of_the_productions()
+    ensures { (bytes : List ℕ) (values : Forest) → IsText bytes values ↔ IsJsonText bytes values }
 {}
 
 /// The values of a text stand within it, one behind the other and each within the list or the map that holds it; the values
