@@ -324,53 +324,53 @@ leads (a_value name) i k s u values (a_word {kind = kind} p) = λ level part_her
 leads (a_value name) i k s u values (empty_array {at = at} {k = k1} {end = end} {u = u1} o h) = λ level part_here e x others takes c.
     past level part_here i at e s (91 ∷ o.behind) x (grows (spot kinds.List at (suc end) name) empty others) o.before
     (nested {bracket = list} takes refl (past (Some list) start (suc at) k1 (suc end) o.behind u1 h.behind empty o.after (past (Some list) start k1 end (suc end) u1 (93 ∷ h.behind) h.behind empty h.before (close all_close.0)))
-        (past level rest (suc end) k e h.behind u x others h.after c))
+    (past level rest (suc end) k e h.behind u x others h.after c))
 leads (a_value name) i k s u values (array {at = at} {k = k1} {m = m} {end = end} {u = u1} {v = v} {held = held} o r h) = λ level part_here e x others takes c.
     past level part_here i at e s (91 ∷ o.behind) x (grows (spot kinds.List at (suc end) name) held others) o.before
     (nested {bracket = list} takes refl (past (Some list) start (suc at) k1 (suc end) o.behind u1 h.behind held o.after
-            (subst (λ f. Completes (Some list) start k1 u1 (suc end) h.behind f) (append-empty held)
-                (leads items k1 m u1 v held r start (suc end) h.behind empty list_takes.0 (past (Some list) rest m end (suc end) v (93 ∷ h.behind) h.behind empty h.before (close all_close.1)))))
-        (past level rest (suc end) k e h.behind u x others h.after c))
+    (subst (λ f. Completes (Some list) start k1 u1 (suc end) h.behind f) (append-empty held)
+    (leads items k1 m u1 v held r start (suc end) h.behind empty list_takes.0 (past (Some list) rest m end (suc end) v (93 ∷ h.behind) h.behind empty h.before (close all_close.1)))))
+    (past level rest (suc end) k e h.behind u x others h.after c))
 leads (a_value name) i k s u values (empty_object {at = at} {k = k1} {end = end} {u = u1} o h) = λ level part_here e x others takes c.
     past level part_here i at e s (123 ∷ o.behind) x (grows (spot kinds.Map at (suc end) name) empty others) o.before
     (nested {bracket = map} takes refl (past (Some map) start (suc at) k1 (suc end) o.behind u1 h.behind empty o.after (past (Some map) start k1 end (suc end) u1 (125 ∷ h.behind) h.behind empty h.before (close all_close.2)))
-        (past level rest (suc end) k e h.behind u x others h.after c))
+    (past level rest (suc end) k e h.behind u x others h.after c))
 leads (a_value name) i k s u values (object {at = at} {k = k1} {m = m} {end = end} {u = u1} {v = v} {held = held} o r h) = λ level part_here e x others takes c.
     past level part_here i at e s (123 ∷ o.behind) x (grows (spot kinds.Map at (suc end) name) held others) o.before
     (nested {bracket = map} takes refl (past (Some map) start (suc at) k1 (suc end) o.behind u1 h.behind held o.after
-            (subst (λ f. Completes (Some map) start k1 u1 (suc end) h.behind f) (append-empty held)
-                (leads members k1 m u1 v held r start (suc end) h.behind empty map_takes.0 (past (Some map) rest m end (suc end) v (125 ∷ h.behind) h.behind empty h.before (close all_close.3)))))
-        (past level rest (suc end) k e h.behind u x others h.after c))
+    (subst (λ f. Completes (Some map) start k1 u1 (suc end) h.behind f) (append-empty held)
+    (leads members k1 m u1 v held r start (suc end) h.behind empty map_takes.0 (past (Some map) rest m end (suc end) v (125 ∷ h.behind) h.behind empty h.before (close all_close.3)))))
+    (past level rest (suc end) k e h.behind u x others h.after c))
 leads items i k s u values (last_item p) = λ part_here e x others takes c. leads (a_value None) i k s u values p (Some list) part_here e x others takes c
 leads items i k s u values (more_items {k = k1} {at = at} {m = m} {u = u1} {v = v} {first = first} {others = more} p comma q) = λ part_here e x others takes c.
     subst (λ f. Completes (Some list) part_here i s e x f) (sym (append-assoc first more others))
     (leads (a_value None) i k1 s u1 first p (Some list) part_here e x (append more others) takes
-        (past (Some list) rest k1 at e u1 (44 ∷ comma.behind) x (append more others) comma.before
-            (turn commas.0 (past (Some list) next_part (suc at) m e comma.behind v x (append more others) comma.after
-                    (leads items m k v u more q next_part e x others list_takes.1 c)))))
+    (past (Some list) rest k1 at e u1 (44 ∷ comma.behind) x (append more others) comma.before
+    (turn commas.0 (past (Some list) next_part (suc at) m e comma.behind v x (append more others) comma.after
+    (leads items m k v u more q next_part e x others list_takes.1 c)))))
 leads members i k s u values (last_member {k = k1} {at = at} {m = m} {u = u1} {v = v} name point p) = λ part_here e x others takes c.
     let own : Span = record { start = i; end = k1 } in
     name_back part_here i k1 e s u1 x (append values others) takes name
     (past (Some map) (named own) k1 at e u1 (58 ∷ point.behind) x (append values others) point.before
-        (turn (colon_turns own) (past (Some map) (member own) (suc at) m e point.behind v x (append values others) point.after
-                (leads (a_value (Some own)) m k v u values p (Some map) (member own) e x others (member_takes own) c))))
+    (turn (colon_turns own) (past (Some map) (member own) (suc at) m e point.behind v x (append values others) point.after
+    (leads (a_value (Some own)) m k v u values p (Some map) (member own) e x others (member_takes own) c))))
 leads members i k s u values (more_members {k = k1} {at = at} {m = m} {n = n} {comma = at_comma} {p = p1} {u = u1} {v = v} {w = w} {x = x1} {first = first} {others = more} name point p comma q) = λ part_here e x others takes c.
     let own : Span = record { start = i; end = k1 } in
     subst (λ f. Completes (Some map) part_here i s e x f) (sym (append-assoc first more others))
     (name_back part_here i k1 e s u1 x (append first (append more others)) takes name
-        (past (Some map) (named own) k1 at e u1 (58 ∷ point.behind) x (append first (append more others)) point.before
-            (turn (colon_turns own) (past (Some map) (member own) (suc at) m e point.behind v x (append first (append more others)) point.after
-                    (leads (a_value (Some own)) m n v w first p (Some map) (member own) e x (append more others) (member_takes own)
-                        (past (Some map) rest n at_comma e w (44 ∷ comma.behind) x (append more others) comma.before
-                            (turn commas.1 (past (Some map) next_part (suc at_comma) p1 e comma.behind x1 x (append more others) comma.after
-                                    (leads members p1 k x1 u more q next_part e x others map_takes.1 c)))))))))
+    (past (Some map) (named own) k1 at e u1 (58 ∷ point.behind) x (append first (append more others)) point.before
+    (turn (colon_turns own) (past (Some map) (member own) (suc at) m e point.behind v x (append first (append more others)) point.after
+    (leads (a_value (Some own)) m n v w first p (Some map) (member own) e x (append more others) (member_takes own)
+    (past (Some map) rest n at_comma e w (44 ∷ comma.behind) x (append more others) comma.before
+    (turn commas.1 (past (Some map) next_part (suc at_comma) p1 e comma.behind x1 x (append more others) comma.after
+    (leads members p1 k x1 u more q next_part e x others map_takes.1 c)))))))))
 
 back : (bytes : List ℕ) (values : Forest) → IsJsonText bytes values → IsText bytes values
 back bytes values h =
     past None start 0 h.from (length bytes) bytes h.front [] values h.before
     (subst (λ f. Completes None start h.from h.front (length bytes) [] f) (append-empty values)
-        (leads (a_value None) h.from h.to h.front h.back values h.produced None start (length bytes) [] empty list_takes.2
-            (past None rest h.to (length bytes) (length bytes) h.back [] [] empty h.after (finish refl))))
+    (leads (a_value None) h.from h.to h.front h.back values h.produced None start (length bytes) [] empty list_takes.2
+    (past None rest h.to (length bytes) (length bytes) h.back [] [] empty h.after (finish refl))))
 
 pub structure : (bytes : List ℕ) (values : Forest) → IsText bytes values ↔ IsJsonText bytes values
 structure bytes values = (λ h. forth bytes values h, λ h. back bytes values h)

@@ -44,12 +44,8 @@ fn is_holder(kind: Kind) -> bool
     ensures { result ≡ is_holder kind }
 {
     match kind {
-        Kind::List => true,
-        Kind::Map => true,
-        Kind::Null => false,
-        Kind::Flag { on: _ } => false,
-        Kind::Number => false,
-        Kind::Text => false,
+        Kind::List | Kind::Map => true,
+        _ => false,
     }
 }
 

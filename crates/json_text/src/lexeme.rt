@@ -313,19 +313,11 @@ pub(crate) fn meaning(word: Lexeme) -> Option<Kind>
     ensures { result ≡ ends word }
 {
     match word {
-        Lexeme::LeadingZero => Some(Kind::Number),
-        Lexeme::Integer => Some(Kind::Number),
-        Lexeme::Decimals => Some(Kind::Number),
-        Lexeme::ExponentDigits => Some(Kind::Number),
+        Lexeme::LeadingZero | Lexeme::Integer | Lexeme::Decimals | Lexeme::ExponentDigits => {
+            Some(Kind::Number)
+        }
         Lexeme::Letters { kind, read } => letters_meaning(kind, read),
         Lexeme::Closed => Some(Kind::Text),
-        Lexeme::Minus => None,
-        Lexeme::Point => None,
-        Lexeme::Exponent => None,
-        Lexeme::ExponentSign => None,
-        Lexeme::Plain { high: _ } => None,
-        Lexeme::Tail { second: _, more: _ } => None,
-        Lexeme::Escape => None,
-        Lexeme::Digits { more: _, unit: _ } => None,
+        _ => None,
     }
 }

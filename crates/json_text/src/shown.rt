@@ -14,11 +14,7 @@ pub(crate) fn has_text(bytes: &[u8], spot: Spot, text: &[u8]) -> bool
 {
     match spot.kind {
         Kind::Text => spells(content_of(bytes, spot.span), text),
-        Kind::Null => false,
-        Kind::Flag { on: _ } => false,
-        Kind::Number => false,
-        Kind::List => false,
-        Kind::Map => false,
+        _ => false,
     }
 }
 
@@ -39,11 +35,7 @@ pub(crate) fn text_inside(bytes: &[u8], spot: Spot) -> &[u8]
 {
     match spot.kind {
         Kind::Text => content_of(bytes, spot.span),
-        Kind::Null => b"",
-        Kind::Flag { on: _ } => b"",
-        Kind::Number => b"",
-        Kind::List => b"",
-        Kind::Map => b"",
+        _ => b"",
     }
 }
 

@@ -72,10 +72,8 @@ fn push_plain_and_escape(out: &mut Blob, plain: &[u8], special: u8) -> Result<()
     ensures ok { OnOk result (out.new ≡ out.old ++ plain.now ++ spelled_byte special) }
     ensures err { OnErr result (take (length out.old) out.new ≡ out.old) }
 {
-    match out.push(plain) {
-        Ok(()) => push_escape(out, special),
-        Err(error) => Err(error),
-    }
+    out.push(plain)?;
+    push_escape(out, special)
 }
 
 // A byte that can't stand for itself.
