@@ -27,6 +27,7 @@ pub mod StringWords
 pub mod CharTexts
 pub mod Productions
 pub mod Structure
+pub mod Root
 pub mod Shapes
 pub mod Depths
 pub mod Every

@@ -374,3 +374,19 @@ back bytes values h =
 
 pub structure : (bytes : List ℕ) (values : Forest) → IsText bytes values ↔ IsJsonText bytes values
 structure bytes values = (λ h. forth bytes values h, λ h. back bytes values h)
+
+-- a text is one value
+pub record IsOne (values : Forest) : Type 0 where
+  pub first : Spot
+  pub children : Forest
+  pub is : values ≡ one first children
+
+made_one : (name : Option Span) (i k : ℕ) (s u : List ℕ) (values : Forest) → Produces (a_value name) i s k u values → IsOne values
+made_one name i k s u values (a_word {kind = kind} p) = record { first = spot kind i k name; children = empty; is = refl }
+made_one name i k s u values (empty_array {at = at} {end = end} o h) = record { first = spot kinds.List at (suc end) name; children = empty; is = refl }
+made_one name i k s u values (array {at = at} {end = end} {held = held} o r h) = record { first = spot kinds.List at (suc end) name; children = held; is = refl }
+made_one name i k s u values (empty_object {at = at} {end = end} o h) = record { first = spot kinds.Map at (suc end) name; children = empty; is = refl }
+made_one name i k s u values (object {at = at} {end = end} {held = held} o r h) = record { first = spot kinds.Map at (suc end) name; children = held; is = refl }
+
+pub text_is_one : (bytes : List ℕ) (values : Forest) → IsText bytes values → IsOne values
+text_is_one bytes values h = let t = forth bytes values h in made_one None t.from t.to t.front t.back values t.produced

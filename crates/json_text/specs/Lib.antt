@@ -19,6 +19,7 @@ pub mod Visits
 pub mod Productions
 pub mod Words
 pub mod Structure
+pub mod Root
 pub mod Shape
 pub mod Levels
 pub mod LastMembers

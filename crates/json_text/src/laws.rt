@@ -6,7 +6,8 @@ ghost use Rattle.json_text.specs.declared.doc.Doc.{Doc};
 ghost use Rattle.json_text.specs.declared.doc.Node.{Node};
 ghost use Rattle.json_text.specs.declared.spot.Spot.{Spot};
 ghost use Rattle.json_text.specs.Forest.{Forest, grows, count};
-ghost use Rattle.json_text.specs.Doc.{StandsAt, Shows};
+ghost use Rattle.json_text.specs.Doc.{IsRoot, StandsAt, Shows};
+ghost use Rattle.json_text.specs.Root.{IsValueOf};
 ghost use Rattle.json_text.specs.Visits.{IsVisited, HasValue};
 ghost use Rattle.json_text.specs.declared.kind.Kind.{Kind};
 ghost use Rattle.json_text.specs.Productions.{Char, IsChar, inside_of, text_of};
@@ -62,6 +63,11 @@ pub fn what_may_be_wrong_with_a_text()
 /// at most.
 pub fn each_value_has_its_place()
     ensures { (doc : Doc) (bytes : List ℕ) (node : Node) (spot : Spot) (children later : Forest) → Shows doc bytes → StandsAt doc node (grows spot children later) → IsPlaced bytes spot children }
+{}
+
+/// The root of a document is the one value that its text is. Where it is a map, all that it holds are members.
+pub fn the_root_is_the_value_of_the_text()
+    ensures { (doc : Doc) (bytes : List ℕ) (root : Node) → Shows doc bytes → IsRoot root → IsValueOf doc bytes root }
 {}
 
 /// A text has one tree at most.
