@@ -3,6 +3,7 @@ ghost use Rattle.turn_cell.specs.Sitting.{IsSeatOf, IsAlone, IsSound, Extends, E
 
 use crate::error::Exhausted;
 use crate::object::Object;
+use crate::sleepers::Sleepers;
 use crate::table::{Gather, Grow, Meet, OBJECT, SERVING, Store, Token};
 use crate::turn::take_turn;
 use atomic_table::{Refused, Table};
@@ -18,6 +19,7 @@ use std::sync::Wait;
 #[derive(Drop)]
 pub struct TurnCell<O: Object> {
     store: Store<O>,
+    sleepers: Sleepers,
 }
 
 impl<O: Object> Model for TurnCell<O> {
@@ -103,7 +105,13 @@ impl<O: Object> TurnCell<O> {
             made: 1,
             count: None,
         };
-        Ok((TurnCell { store }, seat))
+        Ok((
+            TurnCell {
+                store,
+                sleepers: Sleepers::none(),
+            },
+            seat,
+        ))
     }
 
     /// A further seat, split off the root `seat`: it has seen what the root has seen, and has made no calls. Takes no memory.
@@ -140,7 +148,7 @@ impl<O: Object> TurnCell<O> {
         ensures err { IfErr result (λ e. Exhausts O.Object self.now.first seat.old e.count seat.new) }
         ensures exact { IsAlone seat.old → (IsErr result ↔ (length seat.old.seen ≡ 2 ^ 62)) }
     {
-        match take_turn(rt, &self.store.shared, &mut seat.token, cmd) {
+        match take_turn(rt, &self.store.shared, &self.sleepers, &mut seat.token, cmd) {
             Ok(reply) => Ok(reply),
             Err(exhausted) => {
                 seat.count = Some(exhausted.count);

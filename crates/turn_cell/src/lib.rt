@@ -5,6 +5,7 @@ mod cell;
 mod entry;
 mod error;
 mod object;
+mod sleepers;
 mod table;
 mod turn;
 mod view;

@@ -7,6 +7,7 @@ ghost use Rattle.turn_cell.specs.Play.{Hit, IsTokenOf, IsFree, IsWaiting, IsServ
 
 use crate::error::Exhausted;
 use crate::object::Object;
+use crate::sleepers::Sleepers;
 use crate::table::{
     Decide, Decision, Draw, Glance, Leave, Look, OBJECT, Pass, SERVING, TICKET, Token, Words,
 };
@@ -18,13 +19,64 @@ use std::thread::yield_now;
 /// The most entries of a history.
 const MOST_ENTRIES: u64 = 1 << 62;
 
-// How often a seat that waits looks before it yields the processor, and how often before it sleeps.
-const LOOKS: u32 = 32;
+// How often a seat without a ticket looks before it sleeps, and how often it sleeps before it draws a ticket while others have one.
+const GLIMPSES: u32 = 100;
 
-const YIELDS: u32 = 40;
+const PATIENCE: u32 = 8;
+
+// How often a seat with a ticket looks before it yields the processor, and how often before it sleeps.
+const LOOKS: u32 = 200;
+
+const YIELDS: u32 = 208;
+
+/// Whether nobody has a ticket that isn't served yet. It tells the seat nothing.
+fn is_quiet<O: Object>(table: &Words<O>) -> bool
+    requires { table.now.table_id.words ≡ 2 }
+{
+    table.peek(TICKET) == table.peek(SERVING)
+}
+
+/// Whether nobody has a ticket at one of some looks.
+fn falls_quiet<O: Object>(table: &Words<O>) -> bool
+    requires { table.now.table_id.words ≡ 2 }
+{
+    for _ in 0..GLIMPSES {
+        if is_quiet(table) {
+            return true;
+        }
+        spin_loop();
+    }
+    false
+}
+
+/// Waits without a ticket while others have one, though not for ever. Who slept announces those that may sleep still.
+fn approach<O: Object, R: Wait>(rt: &R, table: &Words<O>, sleepers: &Sleepers)
+    requires { table.now.table_id.words ≡ 2 }
+{
+    if is_quiet(table) {
+        return;
+    }
+    for slept in 0..PATIENCE {
+        if falls_quiet(table) {
+            if slept != 0 {
+                sleepers.announce();
+            }
+            return;
+        }
+        sleepers.announce();
+        if !is_quiet(table) {
+            sleepers.sleep(rt);
+        }
+    }
+    sleepers.announce();
+}
 
 /// The ticket of a free seat, unless the cell is exhausted.
-fn draw<O: Object>(table: &Words<O>, token: &mut Token<O>) -> Result<u64, Exhausted>
+fn draw<O: Object>(
+    table: &Words<O>,
+    sleepers: &Sleepers,
+    token: &mut Token<O>,
+) -> Result<u64, Exhausted>
     requires table { IsTokenOf table.now.table_id table.now.key.value token.old }
     requires free { IsFree token.old }
     ensures table { token.new.table_id ≡ token.old.table_id }
@@ -34,13 +86,14 @@ fn draw<O: Object>(table: &Words<O>, token: &mut Token<O>) -> Result<u64, Exhaus
 {
     let count = table.load::<Glance>(token, TICKET);
     if count >= MOST_ENTRIES {
+        sleepers.wake_one();
         return Err(Exhausted { count });
     }
     Ok(table.fetch_add::<Draw>(token, TICKET, 1))
 }
 
 // What a seat does between two looks: it spins, then yields, then sleeps until the word moves.
-fn rest<O: Object, R: Wait>(rt: &R, table: &Words<O>, serving: u64, looks: u32)
+fn rest<O: Object, R: Wait>(rt: &R, table: &Words<O>, sleepers: &Sleepers, serving: u64, looks: u32)
     requires { table.now.table_id.words ≡ 2 }
 {
     if looks < LOOKS {
@@ -48,12 +101,20 @@ fn rest<O: Object, R: Wait>(rt: &R, table: &Words<O>, serving: u64, looks: u32)
     } else if looks < YIELDS {
         yield_now();
     } else {
+        sleepers.enter();
         table.park(rt, SERVING, (serving & 0xffff_ffff) as u32);
+        sleepers.leave();
     }
 }
 
 /// Waits until the ticket is served.
-fn wait<O: Object, R: Wait>(rt: &R, table: &Words<O>, token: &mut Token<O>, number: u64)
+fn wait<O: Object, R: Wait>(
+    rt: &R,
+    table: &Words<O>,
+    sleepers: &Sleepers,
+    token: &mut Token<O>,
+    number: u64,
+)
     requires table { IsTokenOf table.now.table_id table.now.key.value token.old }
     requires waits { IsWaiting number token.old }
     ensures table { token.new.table_id ≡ token.old.table_id }
@@ -65,18 +126,20 @@ fn wait<O: Object, R: Wait>(rt: &R, table: &Words<O>, token: &mut Token<O>, numb
         if serving == number {
             return;
         }
-        rest(rt, table, serving, looks);
+        rest(rt, table, sleepers, serving, looks);
         looks = looks.saturating_add(1);
     }
     unreachable!()
 }
 
-/// Wakes those who sleep, where somebody waits for the ticket after `number`.
-fn hand_on<O: Object>(table: &Words<O>, number: u64)
+/// Wakes those with a ticket where one of them sleeps, or else one of those without.
+fn hand_on<O: Object>(table: &Words<O>, sleepers: &Sleepers)
     requires { table.now.table_id.words ≡ 2 }
 {
-    if table.peek(TICKET) > number.saturating_add(1) {
+    if sleepers.has_heirs() {
         table.wake_all(SERVING);
+    } else {
+        sleepers.wake_one();
     }
 }
 
@@ -117,7 +180,6 @@ fn run<O: Object>(table: &Words<O>, token: &mut Token<O>, number: u64, cmd: &O::
     decide::<O, Brand>(table, token, number, &object, cmd, &reply);
     table.exchange(token, OBJECT, Some(object));
     table.fetch_add::<Leave>(token, SERVING, 1);
-    hand_on(table, number);
     reply
 }
 
@@ -131,13 +193,13 @@ fn pass<O: Object>(table: &Words<O>, token: &mut Token<O>, number: u64)
     ensures sound { IsSoundView O.Object table.now.key.value token.new.me.0 }
 {
     table.fetch_add::<Pass>(token, SERVING, 1);
-    hand_on(table, number);
 }
 
 /// One call of a free seat.
 pub(crate) fn take_turn<O: Object, R: Wait>(
     rt: &R,
     table: &Words<O>,
+    sleepers: &Sleepers,
     token: &mut Token<O>,
     cmd: &O::Cmd,
 ) -> Result<O::Reply, Exhausted>
@@ -149,11 +211,15 @@ pub(crate) fn take_turn<O: Object, R: Wait>(
     ensures err { IfErr result (λ e. Exhausts O.Object table.now.key.value (sitting token.old) e.count (sitting token.new)) }
     ensures exact { IsAlone (sitting token.old) → (IsErr result ↔ (length token.old.me.0.seen ≡ 2 ^ 62)) }
 {
-    let number = draw(table, token)?;
-    wait(rt, table, token, number);
+    approach(rt, table, sleepers);
+    let number = draw(table, sleepers, token)?;
+    wait(rt, table, sleepers, token, number);
     if number >= MOST_ENTRIES {
         pass(table, token, number);
+        hand_on(table, sleepers);
         return Err(Exhausted { count: number });
     }
-    Ok(run(table, token, number, cmd))
+    let reply = run(table, token, number, cmd);
+    hand_on(table, sleepers);
+    Ok(reply)
 }

@@ -7,5 +7,5 @@ returns-then-number-ge-MOST_ENTRIES-clause-err g c = passed_by g.O.Object c.args
     _ _ c.in_ok-number.ensures.ok c.wait.ensures.hit c.if-number-ge-MOST_ENTRIES.true c.pass.ensures.free c.pass.ensures.sound
 
 pub returns-clause-ok : goal.returns-clause-ok
-returns-clause-ok g c = stepped_on g.O.Object c.args.table.now.key.value c.args.token.now c.run.new.token (c.run.ensures.table ∙ (c.wait.ensures.table ∙ c.in_ok-number.ensures.table)) c.in_ok-number.number
-    _ _ c.in_ok-number.ensures.ok c.wait.ensures.hit c.args.cmd.now c.run.result c.run.ensures.step
+returns-clause-ok g c = stepped_on g.O.Object c.args.table.now.key.value c.args.token.now c.run-reply.new.token (c.run-reply.ensures.table ∙ (c.wait.ensures.table ∙ c.in_ok-number.ensures.table)) c.in_ok-number.number
+    _ _ c.in_ok-number.ensures.ok c.wait.ensures.hit c.args.cmd.now c.run-reply.result c.run-reply.ensures.step
