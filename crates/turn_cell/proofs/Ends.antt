@@ -9,7 +9,7 @@ use Rattle.turn_cell.specs.declared.object.Object.{Ghosts}
 use Rattle.turn_cell.specs.declared.view.Stage.TheVariants.{Idle}
 use Rattle.turn_cell.specs.declared.view.View.{View}
 use Rattle.turn_cell.specs.Play.{IsAloneView, IsSoundView, opening_view}
-use Rattle.turn_cell.specs.Rule.{working, living, Sits, IsMet, Rule}
+use Rattle.turn_cell.specs.Rule.{laid, working, living, Sits, IsMet, Rule}
 use Rattle.turn_cell.proofs.Histories.{legal_none}
 use Rattle.turn_cell.proofs.Known.{sound, alone_seen, alone_home}
 
@@ -36,7 +36,7 @@ module _ {O C R : Type 0} (object : Ghosts O C R) (first : O) where
     knows = tt;
   }
 
-  pub opens : object.stands first [] first → Rule object first (opening (0 ∷ 0 ∷ []) (Some first ∷ []) (opening_view first))
+  pub opens : object.stands first [] first → Rule object first (opening (laid 0 0) (Some first ∷ []) (opening_view first))
   opens stands = record {
     log = [];
     owner = λ _. 0;
@@ -58,7 +58,7 @@ module _ {O C R : Type 0} (object : Ghosts O C R) (first : O) where
   }
 
   pub opened_sound : object.stands first [] first → IsSoundView object first (opening_view first)
-  opened_sound stands = sound object first (opening (0 ∷ 0 ∷ []) (Some first ∷ []) Opened) (opens stands) 0 Opened refl refl refl
+  opened_sound stands = sound object first (opening (laid 0 0) (Some first ∷ []) Opened) (opens stands) 0 Opened refl refl refl
 
   -- a root that is alone closes its cell: the object in the slot stands for what it has seen
   pub closes : (id : ℕ) (v : View O C R) (words : List ℕ) (slots : List (Option O)) → v.stage ≡ Idle → v.kept ≡ [] → IsAloneView v → Final (Seen (Rule object first) id v) words slots

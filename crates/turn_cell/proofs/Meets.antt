@@ -73,10 +73,10 @@ module _ {O C R : Type 0} (object : Ghosts O C R) (first : O) where
     }
 
     abbrev Met_state : State (Option O) (View O C R)
-    Met_state = stepped s 1 (slice_index s.words 1) id m.1 Late keeps
+    Met_state = stepped s 7 (slice_index s.words 7) id m.1 Late keeps
 
     meet_rule : Rule object first Met_state
-    meet_rule = quiet object first s r id m.0 Late (set s.words 1 (slice_index s.words 1)) s.homes at lives lives (refl, refl, refl) (loaded1 object first slots id m s r at)
+    meet_rule = quiet object first s r id m.0 Late (set s.words 7 (slice_index s.words 7)) s.homes at lives lives (refl, refl, refl) (loaded1 object first slots id m s r at)
         (omega (arith, r.room, glance_sum s id m.0 Late at)) refl late_sits
         (λ k x apart all h. inl (⊎_elim (λ (p : entries_of k m.0.seen ≡ x). between k m.0.seen Late.seen r.log x chosen.left_of chosen.within p all)
         (λ (p : entries_of k m.0.kept ≡ x). between k m.0.kept Late.seen r.log x chosen.right_of chosen.within p all) h))
@@ -96,8 +96,8 @@ module _ {O C R : Type 0} (object : Ghosts O C R) (first : O) where
       sound = sound object first Met_state meet_rule id Late in_place lives refl;
     }
 
-    pub meet_next : Next object first s id m 1 (λ n. n) (met object m)
+    pub meet_next : Next object first s id m 7 (λ n. n) (met object m)
     meet_next = (Late, keeps, tt, meet_rule, λ f f-is. from_first object first (λ (z : O). Met object z m (Late, m.1)) m.0 here.first_is meet_tells f f-is)
 
-  pub meets : (slots id : ℕ) (m : Me (Option O) (View O C R)) → m.0.stage ≡ Idle → Allows (Rule object first) slots id m 1 (λ n. n) (met object m)
+  pub meets : (slots id : ℕ) (m : Me (Option O) (View O C R)) → m.0.stage ≡ Idle → Allows (Rule object first) slots id m 7 (λ n. n) (met object m)
   meets slots id m idle s r _ at _ = meet_next slots id m idle s r at

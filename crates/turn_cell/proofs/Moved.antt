@@ -16,7 +16,7 @@ use Rattle.turn_cell.specs.declared.view.Stage.{Stage}
 use Rattle.turn_cell.specs.declared.view.Stage.TheVariants.{Idle, Glanced, Waiting, InTurn, Decided, Spent}
 use Rattle.turn_cell.specs.declared.view.View.{View}
 use Rattle.turn_cell.specs.History.{entries_of, IsLegal}
-use Rattle.turn_cell.specs.Rule.{glancing, holding, living, Knows, Sits, IsSpentAt, IsMet, Rooted, Holder, AtHome, AtWork, Rule}
+use Rattle.turn_cell.specs.Rule.{laid, glancing, holding, living, Knows, Sits, IsSpentAt, IsMet, Rooted, Holder, AtHome, AtWork, Rule}
 use Rattle.turn_cell.proofs.Lists.{in_range, one_place, sum_set}
 
 module _ {O C R : Type 0} (object : Ghosts O C R) (first : O) where
@@ -41,7 +41,7 @@ module _ {O C R : Type 0} (object : Ghosts O C R) (first : O) where
     pub owner : ℕ → ℕ
     pub ticket : ℕ
     pub serving : ℕ
-    pub words : words' ≡ ticket ∷ serving ∷ []
+    pub words : words' ≡ laid ticket serving
     pub room : ticket + sum_by (λ u. glancing u.stage) (set s.views me w) ≤ 2 ^ 62 + 65536
     pub held : ticket ≡ serving + sum_by (λ u. holding u.stage) (set s.views me w)
     pub legal : IsLegal object first log

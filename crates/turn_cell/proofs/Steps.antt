@@ -16,7 +16,7 @@ use Rattle.turn_cell.specs.declared.view.Stage.TheVariants.{Idle, Glanced}
 use Rattle.turn_cell.specs.declared.view.View.{View}
 use Rattle.turn_cell.specs.History.{entries_of}
 use Rattle.turn_cell.specs.Play.{IsAloneView, IsSoundView, glanced}
-use Rattle.turn_cell.specs.Rule.{glancing, holding, working, living, Knows, Sits, Holder, AtHome, AtWork, Rule}
+use Rattle.turn_cell.specs.Rule.{laid, glancing, holding, working, living, Knows, Sits, Holder, AtHome, AtWork, Rule}
 use Rattle.turn_cell.proofs.Lists.{in_range, one_place, sum_set, sum_le_length}
 use Rattle.turn_cell.proofs.Moved.{moved}
 use Rattle.turn_cell.proofs.Known.{glancing_small, some_count, place, sound, alone_seen, alone_served}
@@ -54,7 +54,7 @@ module _ {O C R : Type 0} (s : State (Option O) (View O C R)) (me : ℕ) (v w : 
 module _ {O C R : Type 0} (object : Ghosts O C R) (first : O) where
   -- a step that changes neither the history nor the words
   pub quiet : (s : State (Option O) (View O C R)) (r : Rule object first s) (me : ℕ) (v w : View O C R) (words' : List ℕ) (homes' : List (maybe.Option (Option O))) → get_elem? s.views me ≡ some v → living v.stage ≡ 1 → living w.stage ≡ 1
-      → (w.made ≡ v.made) × (w.out ≡ v.out) × (w.met ≡ v.met) → words' ≡ r.ticket ∷ r.serving ∷ [] → r.ticket + sum_by (λ (u : View O C R). glancing u.stage) (set s.views me w) ≤ 2 ^ 62 + 65536
+      → (w.made ≡ v.made) × (w.out ≡ v.out) × (w.met ≡ v.met) → words' ≡ laid r.ticket r.serving → r.ticket + sum_by (λ (u : View O C R). glancing u.stage) (set s.views me w) ≤ 2 ^ 62 + 65536
       → holding w.stage ≡ holding v.stage → Sits object first r.log r.owner r.ticket r.serving me w
       → ((k : ℕ) (x : List (Entry C R)) → k ≢ me → entries_of k r.log ≡ x → (entries_of k v.seen ≡ x) ⊎ (entries_of k v.kept ≡ x) → (entries_of k w.seen ≡ x) ⊎ (entries_of k w.kept ≡ x))
       → ((v.seen ≡ r.log) ⊎ (v.kept ≡ r.log) → (w.seen ≡ r.log) ⊎ (w.kept ≡ r.log)) → AtHome object first homes' r.log ⊎ AtWork (set s.views me w)
@@ -138,35 +138,35 @@ module _ {O C R : Type 0} (object : Ghosts O C R) (first : O) where
 
   module _ (slots id : ℕ) (m : Me (Option O) (View O C R)) (s : State (Option O) (View O C R)) (r : Rule object first s) (at : get_elem? s.views id ≡ some m.0) where
     abbrev Found : ℕ
-    Found = slice_index s.words 0
+    Found = slice_index s.words 6
 
-    pub tickets_found : slice_index s.words 0 ≡ r.ticket
-    tickets_found = ap (λ (ws : List ℕ). slice_index ws 0) r.words
+    pub tickets_found : slice_index s.words 6 ≡ r.ticket
+    tickets_found = ap (λ (ws : List ℕ). slice_index ws 6) r.words
 
-    pub serving_found : slice_index s.words 1 ≡ r.serving
-    serving_found = ap (λ (ws : List ℕ). slice_index ws 1) r.words
+    pub serving_found : slice_index s.words 7 ≡ r.serving
+    serving_found = ap (λ (ws : List ℕ). slice_index ws 7) r.words
 
-    pub loaded0 : set s.words 0 (slice_index s.words 0) ≡ r.ticket ∷ r.serving ∷ []
-    loaded0 = ap (λ (ws : List ℕ). set ws 0 (slice_index ws 0)) r.words
+    pub loaded0 : set s.words 6 (slice_index s.words 6) ≡ laid r.ticket r.serving
+    loaded0 = ap (λ (ws : List ℕ). set ws 6 (slice_index ws 6)) r.words
 
-    pub loaded1 : set s.words 1 (slice_index s.words 1) ≡ r.ticket ∷ r.serving ∷ []
-    loaded1 = ap (λ (ws : List ℕ). set ws 1 (slice_index ws 1)) r.words
+    pub loaded1 : set s.words 7 (slice_index s.words 7) ≡ laid r.ticket r.serving
+    loaded1 = ap (λ (ws : List ℕ). set ws 7 (slice_index ws 7)) r.words
 
     module _ (idle : m.0.stage ≡ Idle) (done : m.0.kept ≡ []) where
-      glance_left : slice_index s.words 0 < 2 ^ 62 → Next s id m 0 (λ n. n) (glanced object m)
+      glance_left : slice_index s.words 6 < 2 ^ 62 → Next s id m 6 (λ n. n) (glanced object m)
       glance_left few = let w : View O C R = record m.0 { stage = Glanced } in let found = tickets_found in let here = place object first s r id m.0 at (ap living idle) in (
         w,
         keeps,
         tt,
-        quiet s r id m.0 w (set s.words 0 (slice_index s.words 0)) s.homes at (ap living idle) refl (refl, refl, refl) loaded0
+        quiet s r id m.0 w (set s.words 6 (slice_index s.words 6)) s.homes at (ap living idle) refl (refl, refl, refl) loaded0
             (omega (arith, found, few, sum_le_length (λ (u : View O C R). glancing u.stage) (λ u. glancing_small u.stage) (set s.views id w), length-set s.views id w, r.few))
             (sym (ap holding idle)) (restaged r.log r.owner r.ticket r.serving id m.0 Glanced here (λ shows. let n = some_count m.0.count shows in absurd (omega (arith, found, few, here.count n.0 n.1))) tt) (λ k x other all h. h) (λ h. h) (home_stays s r id m.0 w at (ap working idle)),
         ((λ _. refl), (λ late. absurd (omega arith))),
       )
 
-      glance_past : 2 ^ 62 ≤ slice_index s.words 0 → Next s id m 0 (λ n. n) (glanced object m)
-      glance_past late = let n : ℕ = slice_index s.words 0 in let w : View O C R = record m.0 { count = Some n } in let found = tickets_found in let lives : living m.0.stage ≡ 1 = ap living idle in
-          let rule : Rule object first (stepped s 0 n id m.1 w keeps) = quiet s r id m.0 w (set s.words 0 n) s.homes at lives lives (refl, refl, refl) loaded0
+      glance_past : 2 ^ 62 ≤ slice_index s.words 6 → Next s id m 6 (λ n. n) (glanced object m)
+      glance_past late = let n : ℕ = slice_index s.words 6 in let w : View O C R = record m.0 { count = Some n } in let found = tickets_found in let lives : living m.0.stage ≡ 1 = ap living idle in
+          let rule : Rule object first (stepped s 6 n id m.1 w keeps) = quiet s r id m.0 w (set s.words 6 n) s.homes at lives lives (refl, refl, refl) loaded0
           (omega (arith, r.room, glance_sum s id m.0 w at)) refl (counted r.log r.owner r.ticket r.serving id m.0 n (place object first s r id m.0 at lives) idle late (omega (arith, found)))
           (λ k x other all h. h) (λ h. h) (home_stays s r id m.0 w at (ap working idle)) in (
             w,
@@ -178,15 +178,15 @@ module _ {O C R : Type 0} (object : Ghosts O C R) (first : O) where
               (λ _. (
                 refl,
                 from_first (λ (f : O). IsSoundView object f w × (IsAloneView m.0 → length m.0.seen ≡ 2 ^ 62)) m.0 (place object first s r id m.0 at lives).first_is (
-                  sound object first (stepped s 0 n id m.1 w keeps) rule id w (set_here s.views id w (in_range s.views id m.0 at)) lives done,
+                  sound object first (stepped s 6 n id m.1 w keeps) rule id w (set_here s.views id w (in_range s.views id m.0 at)) lives done,
                   λ alone. omega (arith, found, late, ap length (alone_seen object first s r id m.0 at lives alone done), r.long, alone_served object first s r id m.0 at lives alone (ap holding idle)),
                 ),
               )),
             ),
           )
 
-      pub glance_next : Next s id m 0 (λ n. n) (glanced object m)
-      glance_next = ⊎_elim glance_left glance_past (cases_lt (slice_index s.words 0) (2 ^ 62))
+      pub glance_next : Next s id m 6 (λ n. n) (glanced object m)
+      glance_next = ⊎_elim glance_left glance_past (cases_lt (slice_index s.words 6) (2 ^ 62))
 
-  pub glances : (slots id : ℕ) (m : Me (Option O) (View O C R)) → m.0.stage ≡ Idle → m.0.kept ≡ [] → Allows (Rule object first) slots id m 0 (λ n. n) (glanced object m)
+  pub glances : (slots id : ℕ) (m : Me (Option O) (View O C R)) → m.0.stage ≡ Idle → m.0.kept ≡ [] → Allows (Rule object first) slots id m 6 (λ n. n) (glanced object m)
   glances slots id m idle done s r _ at _ = glance_next slots id m s r at idle done

@@ -16,7 +16,7 @@ use Rattle.turn_cell.specs.declared.view.Stage.TheVariants.{Idle, Glanced, Waiti
 use Rattle.turn_cell.specs.declared.view.View.{View}
 use Rattle.turn_cell.specs.History.{entries_of, IsLegal}
 use Rattle.turn_cell.specs.Play.{Hit, drew, looked, decided}
-use Rattle.turn_cell.specs.Rule.{glancing, holding, working, living, Knows, Sits, AtHome, AtWork, Rule}
+use Rattle.turn_cell.specs.Rule.{laid, glancing, holding, working, living, Knows, Sits, AtHome, AtWork, Rule}
 use Rattle.turn_cell.proofs.Lists.{in_range, one_place}
 use Rattle.turn_cell.proofs.Histories.{none_added, foreign}
 use Rattle.turn_cell.proofs.Moved.{moved}
@@ -34,13 +34,13 @@ owned_else : (owner : ℕ → ℕ) (ticket me n : ℕ) → n < ticket → owned 
 owned_else owner ticket me n less = ap (λ b. cond b me (owner n)) (ne_eqb n ticket (λ e. omega arith))
 
 module _ {O C R : Type 0} (object : Ghosts O C R) (first : O) where
-  pub draws : (slots id : ℕ) (m : Me (Option O) (View O C R)) → m.0.stage ≡ Glanced → Allows (Rule object first) slots id m 0 (λ n. (n + 1) % 2 ^ 64) (drew m)
-  draws slots id m sees s r _ at _ = let n : ℕ = slice_index s.words 0 in let w : View O C R = record m.0 { stage = Waiting n } in let found = tickets_found object first slots id m s r at in let lives : living m.0.stage ≡ 1 = ap living sees in
+  pub draws : (slots id : ℕ) (m : Me (Option O) (View O C R)) → m.0.stage ≡ Glanced → Allows (Rule object first) slots id m 6 (λ n. (n + 1) % 2 ^ 64) (drew m)
+  draws slots id m sees s r _ at _ = let n : ℕ = slice_index s.words 6 in let w : View O C R = record m.0 { stage = Waiting n } in let found = tickets_found object first slots id m s r at in let lives : living m.0.stage ≡ 1 = ap living sees in
       let st = place object first s r id m.0 at lives in let was : glancing m.0.stage ≡ 1 = ap glancing sees in let none : holding m.0.stage ≡ 0 = ap holding sees in (
         w,
         keeps,
         tt,
-        moved object first s r id m.0 w (set s.words 0 ((n + 1) % 2 ^ 64)) s.homes record {
+        moved object first s r id m.0 w (set s.words 6 ((n + 1) % 2 ^ 64)) s.homes record {
           at = at;
           lived = lives;
           lives = refl;
@@ -51,7 +51,7 @@ module _ {O C R : Type 0} (object : Ghosts O C R) (first : O) where
           owner = owned r.owner r.ticket id;
           ticket = r.ticket + 1;
           serving = r.serving;
-          words = ap (λ (ws : List ℕ). set ws 0 ((slice_index ws 0 + 1) % 2 ^ 64)) r.words ∙ ap (λ (t : ℕ). t ∷ r.serving ∷ []) (let small : r.ticket + 1 < 2 ^ 64 = omega (arith, r.room) in mod-eq_of_lt small);
+          words = ap (λ (ws : List ℕ). set ws 6 ((slice_index ws 6 + 1) % 2 ^ 64)) r.words ∙ ap (λ (t : ℕ). laid t r.serving) (let small : r.ticket + 1 < 2 ^ 64 = omega (arith, r.room) in mod-eq_of_lt small);
           room = omega (arith, r.room, was, glance_sum s id m.0 w at);
           held = omega (arith, r.held, none, hold_sum s id m.0 w at);
           legal = r.legal;
@@ -90,17 +90,17 @@ module _ {O C R : Type 0} (object : Ghosts O C R) (first : O) where
       same_ticket : (n : ℕ) → m.0.stage ≡ Waiting n → q ≡ n
       same_ticket n is = let e : Waiting q ≡ Waiting n = sym waits ∙ is in cc
 
-      look_misses : slice_index s.words 1 ≢ q → Next object first s id m 1 (λ n. n) (looked object m)
+      look_misses : slice_index s.words 7 ≢ q → Next object first s id m 7 (λ n. n) (looked object m)
       look_misses other = (
         m.0,
         keeps,
         tt,
-        quiet object first s r id m.0 m.0 (set s.words 1 (slice_index s.words 1)) s.homes at lives lives (refl, refl, refl) (loaded1 object first slots id m s r at)
+        quiet object first s r id m.0 m.0 (set s.words 7 (slice_index s.words 7)) s.homes at lives lives (refl, refl, refl) (loaded1 object first slots id m s r at)
             (omega (arith, r.room, glance_sum s id m.0 m.0 at)) refl (place object first s r id m.0 at lives) (λ k x apart all h. h) (λ h. h) (home_stays object first s r id m.0 m.0 at (ap working waits)),
         λ n is. ((λ _. refl), (λ hit f f-is. absurd (other (hit ∙ sym (same_ticket n is))))),
       )
 
-      module _ (hit : slice_index s.words 1 ≡ q) where
+      module _ (hit : slice_index s.words 7 ≡ q) where
         served : r.serving ≡ q
         served = sym (serving_found object first slots id m s r at) ∙ hit
 
@@ -142,10 +142,10 @@ module _ {O C R : Type 0} (object : Ghosts O C R) (first : O) where
         }
 
         abbrev Later : State (Option O) (View O C R)
-        Later = stepped s 1 (slice_index s.words 1) id m.1 Now (takes 0 (Some home.now))
+        Later = stepped s 7 (slice_index s.words 7) id m.1 Now (takes 0 (Some home.now))
 
         hit_rule : Rule object first Later
-        hit_rule = quiet object first s r id m.0 Now (set s.words 1 (slice_index s.words 1)) (set s.homes 0 none) at lives refl (refl, refl, refl) (loaded1 object first slots id m s r at)
+        hit_rule = quiet object first s r id m.0 Now (set s.words 7 (slice_index s.words 7)) (set s.homes 0 none) at lives refl (refl, refl, refl) (loaded1 object first slots id m s r at)
             (let was : glancing m.0.stage ≡ 0 = ap glancing waits in omega (arith, r.room, was, glance_sum s id m.0 Now at)) (sym (ap holding waits)) hit_sits
             (λ k x apart all_of h. inl (ap (entries_of k) all ∙ all_of)) (λ h. inl all) (inr (work_here s id m.0 Now at refl))
 
@@ -162,7 +162,7 @@ module _ {O C R : Type 0} (object : Ghosts O C R) (first : O) where
           sound = sound object first Later hit_rule id Now (set_here s.views id Now (in_range s.views id m.0 at)) refl done;
         }
 
-        look_hits : Next object first s id m 1 (λ n. n) (looked object m)
+        look_hits : Next object first s id m 7 (λ n. n) (looked object m)
         look_hits = (
           Now,
           takes 0 (Some home.now),
@@ -175,19 +175,19 @@ module _ {O C R : Type 0} (object : Ghosts O C R) (first : O) where
           ),
         )
 
-      pub look_next : Next object first s id m 1 (λ n. n) (looked object m)
-      look_next = dite (ℕ_discrete (slice_index s.words 1) q) look_hits look_misses
+      pub look_next : Next object first s id m 7 (λ n. n) (looked object m)
+      look_next = dite (ℕ_discrete (slice_index s.words 7) q) look_hits look_misses
 
     module _ (q : ℕ) (e : Entry C R) (picked : Option (Entry C R)) (serves : m.0.stage ≡ InTurn q) (few : q < 2 ^ 62) (picks : picked ≡ Some e) (own : e.seat ≡ m.0.number) (legal : IsLegal object first (m.0.seen ++ e ∷ [])) where
-      pub decide_next : Next object first s id m 1 (λ n. bit_or n 0) (decided picked m)
+      pub decide_next : Next object first s id m 7 (λ n. bit_or n 0) (decided picked m)
       decide_next = let w : View O C R = record m.0 { stage = Decided q e } in let lives : living m.0.stage ≡ 1 = ap living serves in let here = place object first s r id m.0 at lives in
           let knows : (r.owner q ≡ id) × (q ≡ r.serving) × (q < r.ticket) × (m.0.seen ≡ r.log) = subst (Knows object first r.log r.owner r.ticket r.serving id m.0.seen) serves here.knows in
           let was : glancing m.0.stage ≡ 0 = ap glancing serves in (
             w,
             keeps,
             tt,
-            quiet object first s r id m.0 w (set s.words 1 (bit_or (slice_index s.words 1) 0)) s.homes at lives refl (refl, refl, refl)
-                (ap (λ (ws : List ℕ). set ws 1 (bit_or (slice_index ws 1) 0)) r.words ∙ ap (λ (n : ℕ). r.ticket ∷ n ∷ []) (or_zero_r r.serving))
+            quiet object first s r id m.0 w (set s.words 7 (bit_or (slice_index s.words 7) 0)) s.homes at lives refl (refl, refl, refl)
+                (ap (λ (ws : List ℕ). set ws 7 (bit_or (slice_index ws 7) 0)) r.words ∙ ap (λ (n : ℕ). laid r.ticket n) (or_zero_r r.serving))
                 (omega (arith, r.room, was, glance_sum s id m.0 w at)) (sym (ap holding serves))
                 (restaged object first r.log r.owner r.ticket r.serving id m.0 (Decided q e) here (λ shows. let both : Idle ≡ InTurn q = sym (here.rests shows) ∙ serves in absurd (cc)) (knows.0, knows.1, knows.2, knows.3, few, own ∙ here.number_is, subst (λ (l : List (Entry C R)). IsLegal object first (l ++ e ∷ [])) knows.3 legal))
                 (λ k x apart all h. h) (λ h. h) (inr (work_here s id m.0 w at refl)),
@@ -195,9 +195,9 @@ module _ {O C R : Type 0} (object : Ghosts O C R) (first : O) where
                 ap (λ (z : ℕ × Entry C R). (record m.0 { stage = Decided z.0 z.1 }, m.1)) (λ i. (same i, same' i)),
           )
 
-  pub looks : (slots id : ℕ) (m : Me (Option O) (View O C R)) (q : ℕ) → m.0.stage ≡ Waiting q → m.0.kept ≡ [] → Allows (Rule object first) slots id m 1 (λ n. n) (looked object m)
+  pub looks : (slots id : ℕ) (m : Me (Option O) (View O C R)) (q : ℕ) → m.0.stage ≡ Waiting q → m.0.kept ≡ [] → Allows (Rule object first) slots id m 7 (λ n. n) (looked object m)
   looks slots id m q waits done s r _ at _ = look_next slots id m s r at q waits done
 
   pub decides : (slots id : ℕ) (m : Me (Option O) (View O C R)) (q : ℕ) (e : Entry C R) (picked : Option (Entry C R)) → m.0.stage ≡ InTurn q → q < 2 ^ 62 → picked ≡ Some e → e.seat ≡ m.0.number → IsLegal object first (m.0.seen ++ e ∷ [])
-      → Allows (Rule object first) slots id m 1 (λ n. bit_or n 0) (decided picked m)
+      → Allows (Rule object first) slots id m 7 (λ n. bit_or n 0) (decided picked m)
   decides slots id m q e picked serves few picks own legal s r _ at _ = decide_next slots id m s r at q e picked serves few picks own legal

@@ -45,7 +45,7 @@ module _ {O C R : Type 0} where
 abbrev pub IsSoundView : {O C R : Type 0} → Ghosts O C R → O → View O C R → Type 0
 IsSoundView object first v = (table : TableId) → IsSound object first (shown table v)
 
--- Of a load of word 0 by an idle seat: tickets are left, or the cell is exhausted
+-- Of a load of word 6 by an idle seat: tickets are left, or the cell is exhausted
 module _ {O C R : Type 0} (object : Ghosts O C R) where
   abbrev pub glanced : Me (Option O) (View O C R) → ℕ → Me (Option O) (View O C R) → Type 0
   glanced m found m' = (found < 2 ^ 62 → m' ≡ (record m.0 { stage = Glanced }, m.1))
@@ -78,7 +78,7 @@ pub record Met {O C R : Type 0} (object : Ghosts O C R) (first : O) (m m' : Me (
   pub sound : IsSoundView object first m'.0
 
 module _ {O C R : Type 0} (object : Ghosts O C R) where
-  -- of a load of word 1: another ticket is served, or the seat's own
+  -- of a load of word 7: another ticket is served, or the seat's own
   abbrev pub looked : Me (Option O) (View O C R) → ℕ → Me (Option O) (View O C R) → Type 0
   looked m found m' = (n : ℕ) → m.0.stage ≡ Waiting n → (found ≢ n → m' ≡ m) × (found ≡ n → (first : O) → m.0.first ≡ Some first → Hit object first m n m')
 
@@ -94,9 +94,9 @@ module _ {O C R : Type 0} (object : Ghosts O C R) where
   abbrev pub met : Me (Option O) (View O C R) → ℕ → Me (Option O) (View O C R) → Type 0
   met m found m' = (first : O) → m.0.first ≡ Some first → Met object first m m'
 
--- two words and a slot
+-- sixteen words and a slot
 abbrev pub IsSized : TableId → Type 0
-IsSized table = (table.words ≡ 2) × (table.slots ≡ 1)
+IsSized table = (table.words ≡ 16) × (table.slots ≡ 1)
 
 module _ {O C R : Type 0} where
   abbrev pub sitting : Seat (Option O) (View O C R) → Sitting O C R
@@ -104,7 +104,7 @@ module _ {O C R : Type 0} where
 
   -- a seat of this table, whose cell began with `first`
   abbrev pub IsTokenOf : TableId → O → Seat (Option O) (View O C R) → Type 0
-  IsTokenOf table first token = (table.words ≡ 2) × (table.slots ≡ 1) × (token.table_id ≡ table) × (token.me.0.first ≡ Some first)
+  IsTokenOf table first token = (table.words ≡ 16) × (table.slots ≡ 1) × (token.table_id ≡ table) × (token.me.0.first ≡ Some first)
 
 -- a seat between two calls
 pub record IsFree {O C R : Type 0} (token : Seat (Option O) (View O C R)) : Type 0 where

@@ -1,4 +1,4 @@
--- The rule of a cell's table. Word 0 is the next ticket, word 1 the ticket that is served, and slot 0 has the object.
+-- The rule of a cell's table. Word 6 is the next ticket, word 7 the ticket that is served, and slot 0 has the object.
 use Rattle.std.specs.Prelude.{◌≡◌, ◌≢◌, ◌⊎◌, ℕ, ◌+◌, ◌^◌, ◌<◌, ◌≤◌, min, ◌==◌, List, [], ◌∷◌, ◌++◌, length, sum_by, All, Option, Some, IsSome}
 use mathlib.Core.Option.{some}
 use mathlib.Core.List.{IsPrefix}
@@ -10,6 +10,10 @@ use Rattle.turn_cell.specs.declared.view.Stage.{Stage}
 use Rattle.turn_cell.specs.declared.view.Stage.TheVariants.{Idle, Glanced, Waiting, InTurn, Decided, Spent}
 use Rattle.turn_cell.specs.declared.view.View.{View}
 use Rattle.turn_cell.specs.History.{entries_of, IsLegal}
+
+-- the words of a table: the two that count stand beside each other, on a cache line that no other memory shares
+abbrev pub laid : ℕ → ℕ → List ℕ
+laid ticket serving = 0 ∷ 0 ∷ 0 ∷ 0 ∷ 0 ∷ 0 ∷ ticket ∷ serving ∷ 0 ∷ 0 ∷ 0 ∷ 0 ∷ 0 ∷ 0 ∷ 0 ∷ 0 ∷ []
 
 module _ {C R : Type 0} where
   -- 1 where the seat has read that tickets are left, and not drawn
@@ -116,7 +120,7 @@ pub record Rule {O C R : Type 0} (object : Ghosts O C R) (first : O) (s : State 
   pub owner : ℕ → ℕ
   pub ticket : ℕ
   pub serving : ℕ
-  pub words : s.words ≡ ticket ∷ serving ∷ []
+  pub words : s.words ≡ laid ticket serving
   pub few : length s.views ≤ 65536
   pub room : ticket + sum_by (λ v. glancing v.stage) s.views ≤ 2 ^ 62 + 65536
   pub held : ticket ≡ serving + sum_by (λ v. holding v.stage) s.views

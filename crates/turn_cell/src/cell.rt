@@ -96,7 +96,12 @@ impl<O: Object> TurnCell<O> {
             let AllocFailed { value: _ } = failed;
             return Err(AllocError);
         }
-        let (store, token) = match Table::new(alloc, &[0, 0], slots, &key) {
+        let (store, token) = match Table::new(
+            alloc,
+            &[0, 0, 0, 0, 0, 0, 0, 0, 0, 0, 0, 0, 0, 0, 0, 0],
+            slots,
+            &key,
+        ) {
             Ok(made) => made,
             Err(Refused { slots: _ }) => return Err(AllocError),
         };

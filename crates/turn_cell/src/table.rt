@@ -8,10 +8,11 @@ use std::alloc::Global;
 use std::marker::{Brand, PhantomData};
 use std::snapshot::Snapshot;
 
-// The word with the next ticket, the word with the ticket that is served, and the slot with the object.
-pub(crate) const TICKET: usize = 0;
+// The word with the next ticket, the word with the ticket that is served, and the slot with the object. Both words are looked at together, so they stand beside each other; the words before and after
+// them keep other memory off their cache line, wherever the block begins.
+pub(crate) const TICKET: usize = 6;
 
-pub(crate) const SERVING: usize = 1;
+pub(crate) const SERVING: usize = 7;
 
 pub(crate) const OBJECT: usize = 0;
 

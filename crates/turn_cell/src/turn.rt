@@ -31,14 +31,14 @@ const YIELDS: u32 = 208;
 
 /// Whether nobody has a ticket that isn't served yet. It tells the seat nothing.
 fn is_quiet<O: Object>(table: &Words<O>) -> bool
-    requires { table.now.table_id.words ≡ 2 }
+    requires { table.now.table_id.words ≡ 16 }
 {
     table.peek(TICKET) == table.peek(SERVING)
 }
 
 /// Whether nobody has a ticket at one of some looks.
 fn falls_quiet<O: Object>(table: &Words<O>) -> bool
-    requires { table.now.table_id.words ≡ 2 }
+    requires { table.now.table_id.words ≡ 16 }
 {
     for _ in 0..GLIMPSES {
         if is_quiet(table) {
@@ -51,7 +51,7 @@ fn falls_quiet<O: Object>(table: &Words<O>) -> bool
 
 /// Waits without a ticket while others have one, though not for ever. Who slept announces those that may sleep still.
 fn approach<O: Object, R: Wait>(rt: &R, table: &Words<O>, sleepers: &Sleepers)
-    requires { table.now.table_id.words ≡ 2 }
+    requires { table.now.table_id.words ≡ 16 }
 {
     if is_quiet(table) {
         return;
@@ -94,7 +94,7 @@ fn draw<O: Object>(
 
 // What a seat does between two looks: it spins, then yields, then sleeps until the word moves.
 fn rest<O: Object, R: Wait>(rt: &R, table: &Words<O>, sleepers: &Sleepers, serving: u64, looks: u32)
-    requires { table.now.table_id.words ≡ 2 }
+    requires { table.now.table_id.words ≡ 16 }
 {
     if looks < LOOKS {
         spin_loop();
@@ -134,7 +134,7 @@ fn wait<O: Object, R: Wait>(
 
 /// Wakes those with a ticket where one of them sleeps, or else one of those without.
 fn hand_on<O: Object>(table: &Words<O>, sleepers: &Sleepers)
-    requires { table.now.table_id.words ≡ 2 }
+    requires { table.now.table_id.words ≡ 16 }
 {
     if sleepers.has_heirs() {
         table.wake_all(SERVING);
