@@ -8,16 +8,27 @@ use turn_cell::Object;
 /// How long a step of `Hold` takes, in milliseconds.
 const HOLD_MS: u64 = 20;
 
+/// Some work: so many rounds of a few instructions, each of which waits for the one before. A round takes some 2.5 nanoseconds.
+pub fn rounds(value: u64, count: u32) -> u64 {
+    let mut value = value;
+    for _ in 0..count {
+        value ^= value << 13;
+        value ^= value >> 7;
+        value ^= value << 17;
+    }
+    value
+}
+
 /// What a counter does.
 #[derive(Drop)]
 pub enum Step {
-    /// It adds this amount.
-    Add(u64),
+    /// It adds the amount, and works for so many rounds.
+    Work { amount: u64, rounds: u32 },
     /// It sleeps.
     Hold(HostRuntime),
 }
 
-/// A counter whose step is a few instructions.
+/// A counter whose step takes as long as it is told.
 #[derive(Drop)]
 pub struct Counter {
     value: u64,
@@ -25,11 +36,11 @@ pub struct Counter {
 }
 
 impl Counter {
-    /// A counter at 0.
+    /// A counter at 1.
     pub fn new() -> Counter
         ensures { result.steps ≡ 0 }
     {
-        Counter { value: 0, steps: 0 }
+        Counter { value: 1, steps: 0 }
     }
 
     /// Makes the step, and returns the value.
@@ -37,7 +48,10 @@ impl Counter {
         ensures { self.old.steps < 2 ^ 62 → self.new.steps ≡ self.old.steps + 1 }
     {
         match step {
-            Step::Add(amount) => self.value = self.value.wrapping_add(*amount),
+            Step::Work {
+                amount,
+                rounds: count,
+            } => self.value = rounds(self.value.wrapping_add(*amount), *count),
             Step::Hold(clock) => sleep(clock, Duration::from_millis(HOLD_MS)),
         }
         self.steps = self.steps.wrapping_add(1);

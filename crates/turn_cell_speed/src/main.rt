@@ -1,14 +1,21 @@
-//! Measures how many calls a second a turn cell takes, beside a `Mutex` round the same object.
+//! Measures how many calls a second a turn cell takes, and how late the latest are, beside a `Mutex` round the same object.
 #![tactic(auto)]
 
 mod counter;
 mod measures;
 mod rounds;
 
+use crate::rounds::Pace;
 use std::{env, io};
 
-/// Calls of each thread, where the first argument is no other number.
-const CALLS: u32 = 1000;
+/// Calls of all threads of a row, where the first argument is no other number.
+const CALLS: u32 = 1600;
+
+/// Rounds of work between two calls: some 10 microseconds.
+const WORK: u32 = 4000;
+
+/// The rounds between two calls and in a turn: nothing, and then turns of some 0.2, 1 and 100 microseconds.
+const ROWS: [(u32, u32); 4] = [(0, 0), (WORK, 80), (WORK, 400), (WORK, 40000)];
 
 fn main(rt: HostRuntime) -> io::Result<()> {
     let alloc = rt.alloc();
@@ -18,11 +25,12 @@ fn main(rt: HostRuntime) -> io::Result<()> {
             calls = number;
         }
     }
-    for others in [0, 1, 3] {
-        measures::on_one(&rt, alloc, others, calls)?;
-    }
-    for threads in [2, 4] {
-        measures::apart(&rt, alloc, threads, calls)?;
+    for others in [0, 3, 15] {
+        for (work, turn) in ROWS {
+            let calls = calls / (others + 1);
+            let pace = Pace { calls, work, turn };
+            measures::beside(&rt, alloc, others, pace)?;
+        }
     }
     measures::held(&rt, alloc, rt)
 }

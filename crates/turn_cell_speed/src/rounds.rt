@@ -1,29 +1,47 @@
-//! Many calls by one thread, and the workers that make them side by side.
+//! Many calls by one thread, and the places that threads call from.
 ghost use Rattle.std.specs.Prelude.{◌≡◌, ◌<◌, ◌+◌, true};
 ghost use Rattle.turn_cell.specs.Sitting.{IsSeatOf};
 
-use crate::counter::{Counter, Step};
+use crate::counter::{Counter, Step, rounds};
 use std::alloc::{AllocError, Global};
+use std::io;
+use std::rt::Clock;
 use std::sync::{Mutex, Wait};
-use std::thread::{Threads, map_indices};
+use std::time::Instant;
 use turn_cell::{Seat, TurnCell};
 
-/// A cell, a seat of it, and what the seat is to call.
+/// What a thread does: so many calls, and the rounds of work before each and in each.
+#[derive(Clone, Copy)]
+pub struct Pace {
+    pub calls: u32,
+    pub work: u32,
+    pub turn: u32,
+}
+
+/// A cell, a seat of it, and with a clock that the seat is to hold its turns.
 #[derive(Drop)]
 pub struct Place<'a> {
     cell: &'a TurnCell<Counter>,
     seat: Seat<Counter>,
-    step: Step,
+    hold: Option<HostRuntime>,
     ghost of_cell: { IsSeatOf cell.now seat },
 }
 
-/// A place on the cell that is to make `first`, and so many others that are to add 1.
+/// A cell with its seat.
+#[derive(Drop)]
+pub struct Own {
+    cell: TurnCell<Counter>,
+    seat: Seat<Counter>,
+    ghost of_cell: { IsSeatOf cell seat },
+}
+
+/// So many places on the cell that work, and one more that holds its turns where it is given a clock.
 pub fn places<'a>(
     alloc: Global,
     cell: &'a TurnCell<Counter>,
     mut root: Seat<Counter>,
-    first: Step,
     others: u32,
+    hold: Option<HostRuntime>,
 ) -> Result<Vec<Place<'a>>, AllocError>
     requires seat { IsSeatOf cell.now root }
     requires root { root.is_root ≡ true }
@@ -34,65 +52,130 @@ pub fn places<'a>(
         places.push(Place {
             cell,
             seat: cell.split(&mut root),
-            step: Step::Add(1),
+            hold: None,
         })?;
     }
     places.push(Place {
         cell,
         seat: root,
-        step: first,
+        hold,
     })?;
     Ok(places)
 }
 
-/// Calls the cell `calls` times.
-pub fn call_often<R: Wait>(rt: &R, place: Place<'_>, calls: u32) {
-    let Place {
-        cell,
-        mut seat,
-        step,
-    } = place;
-    for _ in 0..calls {
+/// A new cell with its seat.
+fn fresh(alloc: Global) -> Result<Own, AllocError> {
+    let (cell, seat) = TurnCell::start(alloc, Counter::new())?;
+    Ok(Own { cell, seat })
+}
+
+/// So many new cells.
+pub fn owns(alloc: Global, count: u32) -> Result<Vec<Own>, AllocError> {
+    let mut owns = Vec::new(alloc);
+    for _ in 0..count {
+        owns.push(fresh(alloc)?)?;
+    }
+    Ok(owns)
+}
+
+/// So many new mutexes.
+pub fn locks(alloc: Global, count: u32) -> Result<Vec<Mutex<Counter>>, AllocError> {
+    let mut locks = Vec::new(alloc);
+    for _ in 0..count {
+        locks.push(Mutex::new(Counter::new()))?;
+    }
+    Ok(locks)
+}
+
+/// The moment, where there is work between calls: a call by itself would be small beside two looks at the clock.
+fn moment<R: Clock>(rt: &R, pace: Pace) -> io::Result<Option<Instant>> {
+    if pace.work == 0 {
+        return Ok(None);
+    }
+    Ok(Some(Instant::now(rt)?))
+}
+
+/// Notes how many nanoseconds have passed.
+fn note<R: Clock>(rt: &R, begin: Option<Instant>, took: &mut Vec<u64>) -> io::Result<()> {
+    if let Some(begin) = begin {
+        let nanos = begin.elapsed(rt)?.as_nanos();
+        took.push(u64::try_from(nanos).unwrap_or(u64::MAX))?;
+    }
+    Ok(())
+}
+
+/// Calls the cell as often as the pace says, and tells how many nanoseconds each call took.
+fn call_often<R: Wait + Clock>(
+    rt: &R,
+    alloc: Global,
+    cell: &TurnCell<Counter>,
+    mut seat: Seat<Counter>,
+    hold: Option<HostRuntime>,
+    pace: Pace,
+) -> io::Result<Vec<u64>>
+    requires { IsSeatOf cell.now seat }
+{
+    let mut took = Vec::new(alloc);
+    let mut amount = 1;
+    for _ in 0..pace.calls {
+        amount = rounds(amount, pace.work);
+        let step = step_of(hold, amount, pace);
+        let begin = moment(rt, pace)?;
         if cell.call(rt, &mut seat, &step).is_err() {
             break;
         }
+        note(rt, begin, &mut took)?;
+    }
+    Ok(took)
+}
+
+fn step_of(hold: Option<HostRuntime>, amount: u64, pace: Pace) -> Step {
+    match hold {
+        Some(clock) => Step::Hold(clock),
+        None => Step::Work {
+            amount,
+            rounds: pace.turn,
+        },
     }
 }
 
-/// Calls a new cell `calls` times.
-fn call_own<R: Wait>(rt: &R, alloc: Global, calls: u32) -> Result<(), AllocError> {
-    let (cell, seat) = TurnCell::start(alloc, Counter::new())?;
-    let place = Place {
-        cell: &cell,
-        seat,
-        step: Step::Add(1),
-    };
-    call_often(rt, place, calls);
-    Ok(())
-}
-
-/// Lets so many threads do that, each with a cell of its own.
-pub fn all_call_own<R: Threads + Wait + Sync>(
+/// Calls the cell from a place.
+pub fn call_from<R: Wait + Clock>(
     rt: &R,
     alloc: Global,
-    threads: u32,
-    calls: u32,
-) -> Result<(), AllocError> {
-    for made in map_indices(rt, alloc, threads as usize, &|_| call_own(rt, alloc, calls))? {
-        made?;
-    }
-    Ok(())
+    place: Place<'_>,
+    pace: Pace,
+) -> io::Result<Vec<u64>> {
+    let Place { cell, seat, hold } = place;
+    call_often(rt, alloc, cell, seat, hold, pace)
 }
 
-/// Locks the mutex and makes the step, `calls` times.
-pub fn lock_often<R: Wait>(rt: &R, lock: &Mutex<Counter>, calls: u32) {
-    for _ in 0..calls {
-        lock.lock(rt).make(&Step::Add(1));
-    }
+/// Calls a cell of its own.
+pub fn call_own<R: Wait + Clock>(
+    rt: &R,
+    alloc: Global,
+    own: Own,
+    pace: Pace,
+) -> io::Result<Vec<u64>> {
+    let Own { cell, seat } = own;
+    call_often(rt, alloc, &cell, seat, None, pace)
 }
 
-/// The same with a new mutex.
-pub fn lock_own<R: Wait>(rt: &R, calls: u32) {
-    let lock = Mutex::new(Counter::new());
-    lock_often(rt, &lock, calls);
+/// The same with a mutex.
+pub fn lock_often<R: Wait + Clock>(
+    rt: &R,
+    alloc: Global,
+    lock: &Mutex<Counter>,
+    pace: Pace,
+) -> io::Result<Vec<u64>> {
+    let mut took = Vec::new(alloc);
+    let mut amount = 1;
+    for _ in 0..pace.calls {
+        amount = rounds(amount, pace.work);
+        let step = step_of(None, amount, pace);
+        let begin = moment(rt, pace)?;
+        lock.lock(rt).make(&step);
+        note(rt, begin, &mut took)?;
+    }
+    Ok(took)
 }
