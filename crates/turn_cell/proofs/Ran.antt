@@ -1,5 +1,5 @@
 -- The step of a served seat, from the moment the object is in its hand until the seat leaves.
-use Rattle.std.proofs.Common.{◌≡◌, ℕ, List, [], ◌∷◌, ◌++◌, Option, Some, None, refl, sym, ap, ◌∙◌, subst}
+use Rattle.std.proofs.Common.{◌≡◌, ℕ, List, [], ◌∷◌, ◌++◌, Option, Some, refl, sym, ap, ◌∙◌, subst}
 use Rattle.atomic_table.specs.Table.{Me, rest}
 use Rattle.atomic_table.specs.declared.shared.Seat.{Seat}
 use Rattle.turn_cell.specs.declared.entry.Entry.{Entry}
@@ -11,16 +11,7 @@ use Rattle.turn_cell.specs.Sitting.{entry_by}
 use Rattle.turn_cell.specs.Play.{sitting, IsSoundView, IsServed, StepMade}
 use Rattle.turn_cell.proofs.Histories.{legal_more}
 
-in_hand : {O : Type 0} → List (ℕ × Option O) → Option O
-in_hand [] = None
-in_hand (x ∷ xs) = x.1
-
 module _ {O C R : Type 0} (object : Ghosts O C R) (first : O) (n : ℕ) (t : Seat (Option O) (View O C R)) (served : IsServed object first n t) where
-  -- the object that was taken is the one that stands for the history
-  pub taken : (x : Option O) (o : O) → t.me.1 ≡ (0, x) ∷ rest t.me.1 → x ≡ Some o → served.now ≡ o
-  unfolding in_hand
-  taken x o there is = let both : Some served.now ≡ Some o = ap in_hand (sym served.holds ∙ there) ∙ is in cc
-
   module _ (cmd : C) (reply : R) (o : O) where
     abbrev pub Made : Entry C R
     Made = entry_by (sitting t) cmd reply (object.mark o)
@@ -30,15 +21,14 @@ module _ {O C R : Type 0} (object : Ghosts O C R) (first : O) (n : ℕ) (t : Sea
     legal_next m l e takes steps = subst (λ (z : Me (Option O) (View O C R)). IsLegal object first (z.0.seen ++ record { seat = z.0.number; cmd = cmd; reply = reply; mark = object.mark o } ∷ [])) (sym e)
         (legal_more object first t.me.0.seen Made (served.sound t.table_id).legal takes steps)
 
-    -- the views after the object is taken, after the decision, and after it is put back
-    module _ (a b d : Me (Option O) (View O C R)) (out : a ≡ (t.me.0, (0, None) ∷ rest t.me.1))
-        (decided : b ≡ (record a.0 { stage = Decided n (record { seat = a.0.number; cmd = cmd; reply = reply; mark = object.mark o }) }, a.1)) (back : d ≡ (b.0, (0, Some o) ∷ rest b.1)) where
+    -- the views after the step of the object, and after the decision
+    module _ (a d : Me (Option O) (View O C R)) (made : a ≡ (t.me.0, (0, Some o) ∷ []))
+        (decided : d ≡ (record a.0 { stage = Decided n (record { seat = a.0.number; cmd = cmd; reply = reply; mark = object.mark o }) }, a.1)) where
       abbrev Home : Me (Option O) (View O C R)
       Home = (record t.me.0 { stage = Decided n Made }, (0, Some o) ∷ [])
 
       pub at_home : d ≡ Home
-      at_home = back ∙ ap (λ (z : Me (Option O) (View O C R)). (z.0, (0, Some o) ∷ rest z.1))
-          (decided ∙ ap (λ (z : Me (Option O) (View O C R)). (record z.0 { stage = Decided n (record { seat = z.0.number; cmd = cmd; reply = reply; mark = object.mark o }) }, z.1)) (out ∙ ap (λ l. (t.me.0, (0, None) ∷ rest l)) served.holds))
+      at_home = decided ∙ ap (λ (z : Me (Option O) (View O C R)). (record z.0 { stage = Decided n (record { seat = z.0.number; cmd = cmd; reply = reply; mark = object.mark o }) }, z.1)) made
 
       pub home_stage : d.0.stage ≡ Decided n Made
       home_stage = ap (λ (z : Me (Option O) (View O C R)). z.0.stage) at_home

@@ -13,6 +13,7 @@ use crate::table::{
 };
 use std::hint::spin_loop;
 use std::marker::Brand;
+use std::snapshot::Snapshot;
 use std::sync::Wait;
 use std::thread::yield_now;
 
@@ -143,21 +144,44 @@ fn hand_on<O: Object>(table: &Words<O>, sleepers: &Sleepers)
     }
 }
 
+/// Makes the object's step in its slot, and remembers what the object is then.
+fn make_step<O: Object>(
+    table: &Words<O>,
+    token: &mut Token<O>,
+    number: u64,
+    cmd: &O::Cmd,
+) -> (O::Reply, Snapshot<O>)
+    requires table { IsTokenOf table.now.table_id table.now.key.value token.old }
+    requires served { IsServed O.Object table.now.key.value number token.old }
+    requires room { number < 2 ^ 62 }
+    requires takes { O.takes table.now.key.value cmd.now }
+    ensures table { token.new.table_id ≡ token.old.table_id }
+    ensures held { token.new.me ≡ (token.old.me.0, (0, Some result.1.value) ∷ []) }
+    ensures steps { O.steps table.now.key.value token.old.me.0.seen (entry_by (sitting token.old) cmd.now result.0 (O.mark result.1.value)) }
+    ensures stands { O.stands table.now.key.value (token.old.me.0.seen ++ entry_by (sitting token.old) cmd.now result.0 (O.mark result.1.value) ∷ []) result.1.value }
+{
+    let _ = number;
+    let object = token.slot_mut(table, OBJECT).as_mut().unwrap();
+    let reply = object.apply(cmd);
+    let after = Snapshot::of(object);
+    (reply, after)
+}
+
 /// Decides the entry. It is in the history once the seat leaves.
 fn decide<O: Object, W: Decision<O::Cmd, O::Reply>>(
     table: &Words<O>,
     token: &mut Token<O>,
     number: u64,
-    object: &O,
+    object: &Snapshot<O>,
     cmd: &O::Cmd,
     reply: &O::Reply,
 )
     requires table { IsTokenOf table.now.table_id table.now.key.value token.old }
     requires turn { (token.old.me.0.stage ≡ InTurn number) × (number < 2 ^ 62) }
-    requires legal { IsLegal O.Object table.now.key.value (token.old.me.0.seen ++ entry_by (sitting token.old) cmd.now reply.now (O.mark object.now) ∷ []) }
-    requires entry { W.entry ≡ Some (entry_by (sitting token.old) cmd.now reply.now (O.mark object.now)) }
+    requires legal { IsLegal O.Object table.now.key.value (token.old.me.0.seen ++ entry_by (sitting token.old) cmd.now reply.now (O.mark object.now.value) ∷ []) }
+    requires entry { W.entry ≡ Some (entry_by (sitting token.old) cmd.now reply.now (O.mark object.now.value)) }
     ensures table { token.new.table_id ≡ token.old.table_id }
-    ensures decided { token.new.me ≡ (record token.old.me.0 { stage = Decided number (entry_by (sitting token.old) cmd.now reply.now (O.mark object.now)) }, token.old.me.1) }
+    ensures decided { token.new.me ≡ (record token.old.me.0 { stage = Decided number (entry_by (sitting token.old) cmd.now reply.now (O.mark object.now.value)) }, token.old.me.1) }
 {
     let _ = number;
     let _ = object;
@@ -175,10 +199,8 @@ fn run<O: Object>(table: &Words<O>, token: &mut Token<O>, number: u64, cmd: &O::
     ensures table { token.new.table_id ≡ token.old.table_id }
     ensures step { StepMade O.Object table.now.key.value token.old.me.0 cmd.now result token.new.me }
 {
-    let mut object = table.exchange(token, OBJECT, None).unwrap();
-    let reply = object.apply(cmd);
-    decide::<O, Brand>(table, token, number, &object, cmd, &reply);
-    table.exchange(token, OBJECT, Some(object));
+    let (reply, after) = make_step(table, token, number, cmd);
+    decide::<O, Brand>(table, token, number, &after, cmd, &reply);
     table.fetch_add::<Leave>(token, SERVING, 1);
     reply
 }

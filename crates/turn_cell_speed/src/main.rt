@@ -14,8 +14,8 @@ const CALLS: u32 = 1600;
 /// Rounds of work between two calls: some 10 microseconds.
 const WORK: u32 = 4000;
 
-/// The rounds between two calls and in a turn: nothing, and then turns of some 0.2, 1 and 100 microseconds.
-const ROWS: [(u32, u32); 4] = [(0, 0), (WORK, 80), (WORK, 400), (WORK, 40000)];
+/// How often as many calls, the rounds between two, and those in a turn: nothing, and then turns of some 0.2, 1 and 100 microseconds.
+const ROWS: [(u32, u32, u32); 4] = [(50, 0, 0), (1, WORK, 80), (1, WORK, 400), (1, WORK, 40000)];
 
 fn main(rt: HostRuntime) -> io::Result<()> {
     let alloc = rt.alloc();
@@ -26,8 +26,8 @@ fn main(rt: HostRuntime) -> io::Result<()> {
         }
     }
     for others in [0, 3, 15] {
-        for (work, turn) in ROWS {
-            let calls = calls / (others + 1);
+        for (times, work, turn) in ROWS {
+            let calls = (calls / (others + 1)).saturating_mul(times);
             let pace = Pace { calls, work, turn };
             measures::beside(&rt, alloc, others, pace)?;
         }
