@@ -39,10 +39,10 @@ use Rattle.cloud_events.proofs.Scanned.{none_some, some_same}
 
 -- ---- members that are fine
 
-abbrev IsFineMember : Attribute → Type 0
+abbrev pub IsFineMember : Attribute → Type 0
 IsFineMember member = Fine member.value × IsUtf8 member.name
 
-abbrev AreFine : List Attribute → Type 0
+abbrev pub AreFine : List Attribute → Type 0
 AreFine [] = Unit {0}
 AreFine (member ∷ members) = IsFineMember member × AreFine members
 
@@ -84,7 +84,7 @@ ascii : (bytes : List ℕ) → all_ascii bytes ≡ true → IsAscii bytes
 ascii [] h = IsAscii-nil
 ascii (byte ∷ bytes) h = let p = both_true (nat_lt byte 128) (all_ascii bytes) h in IsAscii-cons byte bytes (below byte p.0) (ascii bytes p.1)
 
-literal : (bytes : List ℕ) → all_ascii bytes ≡ true → IsUtf8 bytes
+pub literal : (bytes : List ℕ) → all_ascii bytes ≡ true → IsUtf8 bytes
 literal bytes h = IsUtf8-from_ascii bytes (ascii bytes h)
 
 own : (name text : List ℕ) → all_ascii name ≡ true → IsUtf8 text → IsFineMember (text_member name text)
@@ -120,7 +120,7 @@ filled_fine sent id time texts utf8 =
       ),
     )
 
-type_utf8 : (o : Option (List ℕ)) → IfSome o IsUtf8 → IsUtf8 (type_of o)
+pub type_utf8 : (o : Option (List ℕ)) → IfSome o IsUtf8 → IsUtf8 (type_of o)
 type_utf8 None h = literal (codes "text/plain") refl
 type_utf8 (Some value) h = h
 
@@ -132,7 +132,7 @@ encoded_fine body = own (codes "data_base64") (encode_of standard body) refl (Is
 
 -- ---- what is given
 
-holder_map : (kind : Kind) → is_map kind ≡ true → is_holder kind ≡ true
+pub holder_map : (kind : Kind) → is_map kind ≡ true → is_holder kind ≡ true
 holder_map kinds.Map h = refl
 holder_map kinds.List h = refl
 holder_map kinds.Null h = h
@@ -153,7 +153,7 @@ level_low true n d h = omega (arith, h)
 level_low false n d h = omega arith
 
 -- where no list and no map stands inside so many others
-shallow_by : (depth : ℕ) (values : Forest) → first_holder depth values ≡ None → nesting values ≤ depth
+pub shallow_by : (depth : ℕ) (values : Forest) → first_holder depth values ≡ None → nesting values ≤ depth
 unfolding first_holder nesting
 shallow_by depth empty h = omega arith
 shallow_by zero (grows s c l) h =
@@ -163,7 +163,7 @@ shallow_by (suc depth) (grows s c l) h =
     let p = none_or (first_holder depth c) (first_holder (suc depth) l) h in
     omega (arith, level_low (is_holder s.kind) (nesting c) depth (shallow_by depth c p.0), shallow_by (suc depth) l p.1)
 
-first_low : (s : Spot) (c l : Forest) → nesting (grows s c l) ≤ 63 → levels (is_holder s.kind) (nesting c) ≤ 63
+pub first_low : (s : Spot) (c l : Forest) → nesting (grows s c l) ≤ 63 → levels (is_holder s.kind) (nesting c) ≤ 63
 unfolding nesting
 first_low s c l h = omega (arith, h)
 
@@ -226,7 +226,7 @@ fine_some name v (Some w) h e = (subst Fine (some_same w v e) h.0, h.1)
 
 -- ---- as they are written
 
-abbrev writtens : (members : List Attribute) → AreFine members → List Written
+abbrev pub writtens : (members : List Attribute) → AreFine members → List Written
 writtens [] h = []
 writtens (m ∷ members) h = record { name = m.name; bytes = m.value; kind = h.0.0.kind; children = h.0.0.children } ∷ writtens members h.1
 
@@ -234,15 +234,15 @@ same_members : (members : List Attribute) (h : AreFine members) → map attribut
 same_members [] h = refl
 same_members (m ∷ members) h = ap (λ ms. m ∷ ms) (same_members members h.1)
 
-are_written : (members : List Attribute) (h : AreFine members) → AllByRecursion IsWritten (writtens members h)
+pub are_written : (members : List Attribute) (h : AreFine members) → AllByRecursion IsWritten (writtens members h)
 are_written [] h = tt
 are_written (m ∷ members) h = (record { utf8 = h.0.1; text = h.0.0.text; clean = h.0.0.clean }, are_written members h.1)
 
-are_low : (members : List Attribute) (h : AreFine members) → AllByRecursion (IsDeep 63) (writtens members h)
+pub are_low : (members : List Attribute) (h : AreFine members) → AllByRecursion (IsDeep 63) (writtens members h)
 are_low [] h = tt
 are_low (m ∷ members) h = (h.0.0.low, are_low members h.1)
 
-same_bytes : (members : List Attribute) (h : AreFine members) → joined_bytes (writtens members h) ≡ joined (map member_bytes members)
+pub same_bytes : (members : List Attribute) (h : AreFine members) → joined_bytes (writtens members h) ≡ joined (map member_bytes members)
 same_bytes [] h = refl
 same_bytes (m ∷ []) h = refl
 same_bytes (m ∷ n ∷ members) h = ap (λ (z : List ℕ). member_bytes m ++ 44 ∷ z) (same_bytes (n ∷ members) h.1)

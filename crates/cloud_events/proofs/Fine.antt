@@ -42,14 +42,21 @@ pub record Fine (value : List ℕ) : Type 0 where
   pub clean : IsClean value (length value + 1)
   pub low : levels (is_holder kind) (nesting children) ≤ 63
 
-pub text_fine : (text : List ℕ) → IsUtf8 text → Fine (string_of text)
-text_fine text utf8 =
+-- of this kind
+abbrev pub FineAs : Kind → List ℕ → Type 0
+FineAs kind value = (fine : Fine value) × (fine.kind ≡ kind)
+
+pub text_fine_as : (text : List ℕ) → IsUtf8 text → FineAs kinds.Text (string_of text)
+text_fine_as text utf8 =
     let back_is = reads_back text utf8 in
-    record { kind = kinds.Text; children = empty; text = back_is.spells; clean = back_is.clean; low = omega arith }
+    (record { kind = kinds.Text; children = empty; text = back_is.spells; clean = back_is.clean; low = omega arith }, refl)
+
+pub text_fine : (text : List ℕ) → IsUtf8 text → Fine (string_of text)
+text_fine text utf8 = (text_fine_as text utf8).0
 
 -- ---- values of a text
 
-pub alone_fine : (bytes : List ℕ) (spot : Spot) (held : Forest) → IsClearAlone bytes spot held → spot.span.start < spot.span.end → spot.span.end ≤ length bytes → levels (is_holder spot.kind) (nesting held) ≤ 63 → Fine (value_bytes bytes spot)
+pub alone_fine : (bytes : List ℕ) (spot : Spot) (held : Forest) → IsClearAlone bytes spot held → spot.span.start < spot.span.end → spot.span.end ≤ length bytes → levels (is_holder spot.kind) (nesting held) ≤ 63 → FineAs spot.kind (value_bytes bytes spot)
 alone_fine bytes spot held clear some within low =
     let from = spot.span.start in
     let to = spot.span.end in
@@ -57,15 +64,17 @@ alone_fine bytes spot held clear some within low =
     let inside : to - from ≤ length (drop from bytes) = omega (arith, length-drop from bytes, some, within) in
     let nothing : from - from ≡ 0 = omega arith in
     let all : to - from ≡ length value = sym (length-take-le (to - from) (drop from bytes) inside) in
-    let text : IsText value (alone spot held) = clear_completes None first_part 0 (length value) value [] (alone spot held) clear in
-    record {
-      kind = spot.kind;
-      children = moved (back from) held;
-      text = subst (λ (m : ℕ). IsText value (one (record { kind = spot.kind; span = record { start = 0; end = m }; name = None }) (moved (back from) held))) all
-          (subst (λ (z : ℕ). IsText value (one (record { kind = spot.kind; span = record { start = z; end = to - from }; name = None }) (moved (back from) held))) nothing text);
-      clean = clear_clean value (alone spot held) clear (alone_low spot held (omega (arith, low)));
-      low = omega (arith, low, ap (levels (is_holder spot.kind)) (nesting_moved (back from) held));
-    }
+    let text : IsText value (alone spot held) = clear_completes None first_part 0 (length value) value [] (alone spot held) clear in (
+      record {
+        kind = spot.kind;
+        children = moved (back from) held;
+        text = subst (λ (m : ℕ). IsText value (one (record { kind = spot.kind; span = record { start = 0; end = m }; name = None }) (moved (back from) held))) all
+            (subst (λ (z : ℕ). IsText value (one (record { kind = spot.kind; span = record { start = z; end = to - from }; name = None }) (moved (back from) held))) nothing text);
+        clean = clear_clean value (alone spot held) clear (alone_low spot held (omega (arith, low)));
+        low = omega (arith, low, ap (levels (is_holder spot.kind)) (nesting_moved (back from) held));
+      },
+      refl,
+    )
 
 -- a fact of each value of a row
 abbrev pub EachOf : (Spot → Type 0) → Forest → Type 0
@@ -73,8 +82,10 @@ EachOf P empty = Unit {0}
 EachOf P (grows spot children later) = P spot × EachOf P later
 
 -- its bytes are fine, and its text and its name are UTF-8
-abbrev pub IsFineAt : List ℕ → Spot → Type 0
-IsFineAt bytes spot = Fine (value_bytes bytes spot) × IsReadable bytes spot
+pub record IsFineAt (bytes : List ℕ) (spot : Spot) : Type 0 where
+  pub fine : FineAs spot.kind (value_bytes bytes spot)
+  pub long : spot.span.end - spot.span.start ≡ length (value_bytes bytes spot)
+  pub readable : IsReadable bytes spot
 
 abbrev AllKept : (Spot → Type 0) → List Entry → Type 0
 AllKept P [] = Unit {0}
@@ -101,11 +112,20 @@ held_kept : (P : Spot → Type 0) (depth : ℕ) (s : Spot) (c l : Forest) → Al
 unfolding entries
 held_kept P depth s c l h = row_kept P (suc depth) c (kept_front P (entries (suc depth) c) (entries depth l) h.1)
 
+span_long : (bytes : List ℕ) (s : Spot) → s.span.end ≤ length bytes → s.span.end - s.span.start ≡ length (value_bytes bytes s)
+span_long bytes s within =
+    let inside : s.span.end - s.span.start ≤ length (drop s.span.start bytes) = omega (arith, length-drop s.span.start bytes, within) in
+    sym (length-take-le (s.span.end - s.span.start) (drop s.span.start bytes) inside)
+
 fine_row : (bytes : List ℕ) (names : Bool) (from to : ℕ) (values : Forest) → to ≤ length bytes → nesting values ≤ 63 → AreInRow names from to values → EachValue (IsClearAlone bytes) values → EachOf (IsReadable bytes) values → EachOf (IsFineAt bytes) values
 unfolding nesting
 fine_row bytes names from to empty le low row clear readable = tt
 fine_row bytes names from to (grows s c l) le low row clear readable = (
-  (alone_fine bytes s c clear.0 row.0.some (omega (arith, le, row.0.high)) (omega (arith, low)), readable.0),
+  record {
+    fine = alone_fine bytes s c clear.0 row.0.some (omega (arith, le, row.0.high)) (omega (arith, low));
+    long = span_long bytes s (omega (arith, le, row.0.high));
+    readable = readable.0;
+  },
   fine_row bytes names s.span.end to l le (omega (arith, low)) row.2 clear.2 readable.1,
 )
 
@@ -128,7 +148,7 @@ pub root_fine : (bytes : List ℕ) (s : Spot) (c l : Forest) → IsRead bytes (g
 root_fine bytes s c l read low =
     let row = text_in_row bytes (grows s c l) read.text in
     let clear = all_alone bytes (grows s c l) (text_clear bytes (grows s c l) read.text read.clean) in
-    alone_fine bytes s c clear.0 row.0.some row.0.high low
+    (alone_fine bytes s c clear.0 row.0.some row.0.high low).0
 
 -- ---- members by their names
 
@@ -138,11 +158,11 @@ found_by P bytes name s spot l (Some x) b e p f h later = later (f ∙ h)
 found_by P bytes name s spot l None true e p f h later = let same : s ≡ spot = some_same s spot h in (subst P same p, ap (λ (t : Spot). has_name bytes t.name name) (sym same) ∙ e)
 found_by P bytes name s spot l None false e p f h later = none_some spot _ h
 
-found : (P : Spot → Type 0) (bytes name : List ℕ) (children : Forest) (spot : Spot) → EachOf P children → last_of bytes name children ≡ Some spot → P spot × (has_name bytes spot.name name ≡ true)
+pub found : (P : Spot → Type 0) (bytes name : List ℕ) (children : Forest) (spot : Spot) → EachOf P children → last_of bytes name children ≡ Some spot → P spot × (has_name bytes spot.name name ≡ true)
 found P bytes name empty spot h e = none_some spot _ e
 found P bytes name (grows s c l) spot h e = found_by P bytes name s spot l (last_of bytes name l) (has_name bytes s.name name) refl h.0 refl e (λ f. found P bytes name l spot h.1 f)
 
-name_utf8 : (bytes name : List ℕ) (spot : Spot) (o : Option Span) → spot.name ≡ o → has_name bytes o name ≡ true → is_utf8 (name_shown bytes spot) ≡ true → IsUtf8 name
+pub name_utf8 : (bytes name : List ℕ) (spot : Spot) (o : Option Span) → spot.name ≡ o → has_name bytes o name ≡ true → is_utf8 (name_shown bytes spot) ≡ true → IsUtf8 name
 name_utf8 bytes name spot None e h utf8 = let bad : ⊥ = cc in absurd bad
 name_utf8 bytes name spot (Some span) e h utf8 =
     let text : unescaped (content bytes span) ≡ name = (bytes_eq-Decides (unescaped (content bytes span)) name).0 h in
@@ -173,8 +193,8 @@ item_fine : (body name : List ℕ) (children : Forest) (found_spot : Option Spot
 item_fine body name children None v each e h = none_some v _ h
 item_fine body name children (Some spot) v each e h =
     let p = found (IsFineAt body) body name children spot each e in
-    by_null body name spot v (is_null spot.kind) h (value_fine body spot (bytes_eq name (codes "data")) p.0.0 (IsUtf8-from_is_utf8 (text_shown body spot) p.0.1.0))
-    (name_utf8 body name spot spot.name refl p.1 p.0.1.1)
+    by_null body name spot v (is_null spot.kind) h (value_fine body spot (bytes_eq name (codes "data")) p.0.fine.0 (IsUtf8-from_is_utf8 (text_shown body spot) p.0.readable.0))
+    (name_utf8 body name spot spot.name refl p.1 p.0.readable.1)
 
 pub said_fine : (body name : List ℕ) (children : Forest) (v : List ℕ) → EachOf (IsFineAt body) children → option_map (spelled body) (said body children name) ≡ Some v → Fine v × IsUtf8 name
 said_fine body name children v each h = item_fine body name children (last_of body name children) v each refl h

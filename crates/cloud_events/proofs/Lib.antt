@@ -5,10 +5,14 @@ pub mod Gathered
 pub mod Joined
 pub mod Judged
 pub mod Lasts
+pub mod Moments
 pub mod Nodes
+pub mod Nulls
 pub mod OneEvent
 pub mod Placed
 pub mod Putting
+pub mod Rereading
+pub mod Resent
 pub mod Results
 pub mod Scanned
 pub mod Wraps

@@ -28,7 +28,7 @@ use Rattle.cloud_events.proofs.Scanned.{none_some, some_same}
 
 -- ---- members by their values
 
-true_false : (B : Type 0) → true ≡ false → B
+pub true_false : (B : Type 0) → true ≡ false → B
 true_false B h = let bad : ⊥ = cc in absurd bad
 
 itself : (name : List ℕ) → bytes_eq name name ≡ true
@@ -41,7 +41,7 @@ none_by : (o : Option (List ℕ)) → ((v : List ℕ) → o ≡ Some v → ⊥) 
 none_by None h = refl
 none_by (Some v) h = absurd (h v refl)
 
-none_behind : (m : Attribute) (members : List Attribute) (name : List ℕ) → NamesRise (m ∷ members) → bytes_eq m.name name ≡ true → value_in name members ≡ None
+pub none_behind : (m : Attribute) (members : List Attribute) (name : List ℕ) → NamesRise (m ∷ members) → bytes_eq m.name name ≡ true → value_in name members ≡ None
 none_behind m members name rise e = none_by (value_in name members) (λ v h. true_false ⊥ (sym e ∙ apart m members name v rise h))
 
 -- a lesser name stands in none of them
@@ -66,7 +66,7 @@ same_by Equal x y one other e p q h later =
     let rest : one ≡ other = later (λ name. same_rest (bytes_eq x.name name) x y one other name refl n p q (h name ∙ ap (λ z. cond (bytes_eq z name) (Some y.value) (value_in name other)) (sym n))) in
     λ i. same_head x y n v i ∷ rest i
 
-same_members : (one other : List Attribute) → NamesRise one → NamesRise other → ((name : List ℕ) → value_in name one ≡ value_in name other) → one ≡ other
+pub same_members : (one other : List Attribute) → NamesRise one → NamesRise other → ((name : List ℕ) → value_in name one ≡ value_in name other) → one ≡ other
 same_members [] [] p q h = refl
 same_members [] (y ∷ other) p q h = none_some y.value _ (h y.name ∙ head_in y other)
 same_members (x ∷ one) [] p q h = none_some x.value _ (sym (h x.name) ∙ head_in x one)
@@ -78,7 +78,7 @@ same_members (x ∷ one) (y ∷ other) p q h =
 abbrev json_data : List ℕ → Spot → Attribute
 json_data body s = record { name = codes "data"; value = value_bytes body s }
 
-same_given : (form : Form) (sent : Sent) (g f : List ℕ → Option (List ℕ)) → IsGiven form sent g → IsGiven form sent f → (name : List ℕ) → g name ≡ f name
+pub same_given : (form : Form) (sent : Sent) (g f : List ℕ → Option (List ℕ)) → IsGiven form sent g → IsGiven form sent f → (name : List ℕ) → g name ≡ f name
 same_given Event sent g f a b name =
     a.are name ∙ ap (λ (c : Forest). option_map (spelled sent.body) (said sent.body c name)) (same_held sent.body a.spot b.spot a.children b.children a.later b.later a.read b.read) ∙ sym (b.are name)
 same_given Json sent g f a b name =

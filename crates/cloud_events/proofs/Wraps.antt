@@ -178,7 +178,7 @@ or_both : (b : Bool) (x : List ℕ) (all one other : Option (List ℕ)) → all 
 or_both true x all one other e = refl
 or_both false x all one other e = e
 
-in_both : (name : List ℕ) (one other : List EventAttribute) → value_in name (one ++ other) ≡ or_else (value_in name one) (value_in name other)
+pub in_both : (name : List ℕ) (one other : List EventAttribute) → value_in name (one ++ other) ≡ or_else (value_in name one) (value_in name other)
 in_both name [] other = refl
 in_both name (x ∷ one) other = or_both (bytes_eq x.name name) x.value (value_in name (one ++ other)) (value_in name one) (value_in name other) (in_both name one other)
 

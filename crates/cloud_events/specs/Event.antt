@@ -72,6 +72,10 @@ optional_member name (Some text) = text_member name text ∷ []
 abbrev pub set_members : Sent → List Attribute
 set_members sent = text_member (codes "pubsubname") sent.pubsub ∷ text_member (codes "topic") sent.topic ∷ []
 
+-- the trace fields
+abbrev pub trace_members : Sent → List Attribute
+trace_members sent = optional_member (codes "traceid") sent.traceparent ++ optional_member (codes "traceparent") sent.traceparent ++ optional_member (codes "tracestate") sent.tracestate
+
 -- what is filled in where it is absent
 abbrev pub filled_members : Sent → List ℕ → List ℕ → List Attribute
 filled_members sent id time =
@@ -80,7 +84,7 @@ filled_members sent id time =
     ∷ text_member (codes "specversion") (codes "1.0")
     ∷ text_member (codes "time") time
     ∷ text_member (codes "type") (codes "com.dapr.event.sent")
-    ∷ (optional_member (codes "traceid") sent.traceparent ++ optional_member (codes "traceparent") sent.traceparent ++ optional_member (codes "tracestate") sent.tracestate)
+    ∷ trace_members sent
 
 -- the value that an event has under a name: what is set, or else what was given, or else what is filled in
 abbrev pub table : (List ℕ → Option (List ℕ)) → Sent → List ℕ → List ℕ → List ℕ → Option (List ℕ)

@@ -3,7 +3,7 @@ ghost use Rattle.std.specs.Prelude.{◌≡◌, ℕ, List};
 ghost use Rattle.cloud_events.specs.declared.sent.Sent.{Sent};
 ghost use Rattle.cloud_events.specs.declared.sent.EventErr.{EventErr};
 ghost use Rattle.cloud_events.specs.declared.sent.EventErr.TheVariants.{NoMemory as no_memory};
-ghost use Rattle.cloud_events.specs.Laws.{AreTexts, IsReadAs};
+ghost use Rattle.cloud_events.specs.Laws.{AreNotNull, AreTexts, IsReadAs, IsSentAgain, IsSentAlike, KeepsMembers};
 ghost use Rattle.cloud_events.specs.Wrapped.{IsRefused, IsWrapped};
 
 /// A body that becomes an event has no cause of refusal, so that `wrap` refuses exactly what it has to.
@@ -20,4 +20,18 @@ pub fn an_event_is_read_again()
 /// A body with an id and a moment becomes one event at most.
 pub fn a_body_becomes_one_event()
     ensures { (sent : Sent) (id one other : List ℕ) (now : ℕ) → IsWrapped sent id now one → IsWrapped sent id now other → one ≡ other }
+{}
+
+/// An event that is sent again, as an event, has no cause of refusal: `wrap` takes it unless memory runs out. What it becomes has
+/// each member that it had, to the byte, but for the topic and the pub/sub component, which are set anew, and for null, which counts
+/// as absent; beside those it has only the trace fields that it lacked.
+pub fn an_event_is_accepted_again()
+    ensures accepted { (sent again : Sent) (id event : List ℕ) (now : ℕ) (error : EventErr) → IsSentAgain sent again id now event → IsRefused again error → error ≡ no_memory }
+    ensures kept { (sent again : Sent) (id next event other : List ℕ) (now later : ℕ) (one : IsSentAgain sent again id now event) (two : IsWrapped again next later other) → KeepsMembers again one.wrapped.event_is.members two.event_is.members }
+{}
+
+/// An event that is sent again to the same topic, with no trace field that was not there, becomes the same bytes, unless a member
+/// is null.
+pub fn an_event_sent_again_stays()
+    ensures { (sent again : Sent) (id next event other : List ℕ) (now later : ℕ) (one : IsSentAgain sent again id now event) → IsWrapped again next later other → IsSentAlike again sent → AreNotNull one.wrapped.event_is.members → other ≡ event }
 {}
