@@ -1,5 +1,5 @@
 -- The value that a text is stands at the root of its document.
-use Rattle.std.proofs.Common.{◌≡◌, ℕ, List, subst}
+use Rattle.std.proofs.Common.{ℕ, List, subst}
 use Rattle.json_text.specs.declared.spot.Spot.{Spot}
 use Rattle.json_text.specs.declared.doc.Doc.{Doc}
 use Rattle.json_text.specs.declared.doc.Node.{Node}
