@@ -1,4 +1,4 @@
-//! One call, step by step: a glance at the tickets, a ticket, the wait, the step of the object, and the next in turn.
+//! One call, step by step: the wait without a ticket, a glance at the tickets, a ticket, the wait with it, the step of the object, and who waits is woken.
 ghost use Rattle.std.specs.Prelude.{◌≡◌, ℕ, ◌+◌, ◌^◌, ◌<◌, ◌≤◌, ◌↔◌, [], ◌∷◌, ◌++◌, length, Some, IfOk, IfErr, IsErr};
 ghost use Rattle.turn_cell.specs.declared.view.Stage.TheVariants.{Idle, Waiting, InTurn, Decided};
 ghost use Rattle.turn_cell.specs.History.{IsLegal};
@@ -30,7 +30,7 @@ const LOOKS: u32 = 200;
 
 const YIELDS: u32 = 208;
 
-/// Whether nobody has a ticket that isn't served yet. It tells the seat nothing.
+/// Whether nobody has a ticket. It tells the seat nothing.
 fn is_quiet<O: Object>(table: &Words<O>) -> bool
     requires { table.now.table_id.words ≡ 16 }
 {
