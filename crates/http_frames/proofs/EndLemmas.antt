@@ -8,13 +8,14 @@ use Rattle.http_frames.specs.declared.step.Step.{Step}
 use Rattle.http_frames.specs.declared.step.Step.TheVariants as step
 use Rattle.http_frames.specs.declared.refusal.FrameErr.{FrameErr}
 use Rattle.http_frames.specs.HeadRules.{head_refusal}
-use Rattle.http_frames.specs.Chunked.{Overflows, NeverChunked}
-use Rattle.http_frames.specs.ChunkSteps.{MayEnd}
+use Rattle.http_chunks.specs.Chunked.{Overflows, NeverChunked}
+use Rattle.http_chunks.specs.ChunkSteps.{MayEnd}
 use Rattle.http_frames.specs.Requests.{ReadsHead, Meets, IsRefused, IsAccepted}
 use Rattle.http_frames.specs.Framing.{State, waiting, IsNeedStep}
 use Rattle.http_frames.specs.Streams.{Whole, IsStream, steps_of, IsAsking, RestGives, RestEnds, Gives, Run}
-use Rattle.http_frames.proofs.ContentLemmas.{may_content, line_may_end}
-use Rattle.http_frames.proofs.RowLemmas.{Row, row_of, long_head, bad_head, refused_head, long_chunks, bad_chunks, may_front, whole_front, some_same, none_is_some}
+use Rattle.http_chunks.proofs.ContentLemmas.{may_content, line_may_end}
+use Rattle.http_chunks.proofs.FrontLemmas.{none_is_some}
+use Rattle.http_frames.proofs.RowLemmas.{Row, row_of, long_head, bad_head, refused_head, long_chunks, bad_chunks, may_front, whole_front, some_same}
 use Rattle.http_frames.proofs.WholeLemmas.{head_some}
 use Rattle.http_frames.proofs.StreamLemmas.{stream_exists, stream_unique}
 use Rattle.http_frames.proofs.RunLemmas.{open_of, run_stands}

@@ -10,6 +10,7 @@ use Rattle.httparse.specs.Pieces.{IsRunAt}
 use Rattle.httparse.specs.Spans.{header_bytes, name_and_value, span_bytes, RequestExceeds}
 use Rattle.httparse.proofs.ReadLemmas.{IsRunAt_text}
 use Rattle.side_base.specs.declared.message.Field.{Field}
+use Rattle.http_chunks.proofs.LengthLemmas.{lines_len}
 use Rattle.http_frames.specs.HeadRules.{HEAD_LIMIT, field_of}
 use Rattle.http_frames.specs.HeadReading.{header_field}
 
@@ -52,18 +53,6 @@ fields_are text (h ∷ hs) (f ∷ fs) e =
     cc
 
 -- each field takes three bytes at least
-end_some : (end : LineEnd) → 0 < length (print_end end)
-end_some crlf = lit< tt
-end_some lf = lit< tt
-
-field_len : (f : grammar.Field) → IsField f → 3 ≤ length (print_field f)
-field_len f is = simp length-append (omega (arith, is.name.0, end_some f.end))
-
-pub lines_len : (fields : List grammar.Field) → All IsField fields → 3 * length fields ≤ length (flat_map print_field fields)
-lines_len [] each = omega arith
-lines_len (f ∷ fields) each =
-    omega (arith, length-append (print_field f) (flat_map print_field fields), field_len f (All-head IsField f fields each), lines_len fields (All-tail IsField f fields each))
-
 head_len : (h : RequestHead) → IsRequestHead h → 3 * length h.fields ≤ length (print_request h)
 unfolding print_request
 head_len h is = simp length-append (omega (arith, lines_len h.fields is.fields))

@@ -4,13 +4,14 @@ use Rattle.std.proofs.lemmas.Bool.{cases_lt}
 use Rattle.std.proofs.lemmas.List.{take_all, nil_from_length}
 use Rattle.httparse.proofs.GrammarLemmas.{request_unique}
 use Rattle.http_frames.specs.HeadReading.{HasNoHead}
-use Rattle.http_frames.proofs.SplitLemmas.{split_append}
+use Rattle.http_chunks.proofs.SplitLemmas.{split_append}
 use Rattle.httparse.specs.Grammar.{RequestHead, print_request, ReadsRequest, HasNoRequest, NeverHasRequest, EndsInTarget, MayBecomeRequest}
 use Rattle.http_frames.specs.declared.refusal.FrameErr.{FrameErr}
 use Rattle.http_frames.specs.declared.refusal.FrameErr.TheVariants.{HeadTooLong, BadHead}
 use Rattle.http_frames.specs.HeadRules.{HEAD_LIMIT, head_refusal}
 use Rattle.http_frames.specs.Requests.{ReadsHead, IsRefused, IsAccepted}
-use Rattle.http_frames.proofs.RowLemmas.{refusal_meets, refused_head_alone, long_head_alone, bad_head_alone, partial_head_accepted, head_before, none_is_some}
+use Rattle.http_chunks.proofs.FrontLemmas.{none_is_some}
+use Rattle.http_frames.proofs.RowLemmas.{refusal_meets, refused_head_alone, long_head_alone, bad_head_alone, partial_head_accepted, head_before}
 
 front_short : (text : List ℕ) → length (take HEAD_LIMIT text) ≤ HEAD_LIMIT
 front_short text = omega (arith, length-take HEAD_LIMIT text)

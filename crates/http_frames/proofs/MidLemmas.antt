@@ -7,7 +7,7 @@ use Rattle.http_frames.specs.declared.refusal.FrameErr.{FrameErr}
 use Rattle.http_frames.specs.declared.refusal.FrameErr.TheVariants.{HeadTooLong, BadHead, TooManyHeaders, BadHost, BothLengths, TransferCoding, BadLength, Coding, TooLong, BadChunk, NoMemory}
 use Rattle.http_frames.specs.Framing.{State, waiting, ended, grown, fed, IsNext, IsRefusal, IsQuiet}
 use Rattle.http_frames.specs.Streams.{Whole, IsAsking, Midway, HasGiven, IsMarked, IsWholeStream, GoesOn, Run}
-use Rattle.http_frames.proofs.RowLemmas.{none_is_some}
+use Rattle.http_chunks.proofs.FrontLemmas.{none_is_some}
 use Rattle.http_frames.proofs.WholeLemmas.{refused_none}
 use Rattle.http_frames.proofs.StreamLemmas.{begins_more, begins_on}
 use Rattle.http_frames.proofs.EndLemmas.{untold}

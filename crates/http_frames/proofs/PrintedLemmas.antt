@@ -14,7 +14,8 @@ use Rattle.httparse.proofs.TrimLemmas.{trim_ows_space, AllPass-reverse}
 use Rattle.side_base.specs.declared.message.Field.{Field}
 use Rattle.side_base.specs.declared.message.Request.{Request}
 use Rattle.side_base.specs.Field.{is_same_word}
-use Rattle.http_frames.specs.HeadRules.{BODY_LIMIT, field_of, fields_refusal, is_chunked, is_length, is_bad_host, is_bad_coding, is_bad_length, is_encoded, content_length, count_named, any_value, asks_to_continue, method_of}
+use Rattle.http_chunks.specs.Chunked.{BODY_LIMIT}
+use Rattle.http_frames.specs.HeadRules.{field_of, fields_refusal, is_chunked, is_length, is_bad_host, is_bad_coding, is_bad_length, is_encoded, content_length, count_named, any_value, asks_to_continue, method_of}
 use Rattle.http_frames.specs.Requests.{ReadsWhole}
 use Rattle.http_frames.specs.Written.{line_end, field_line}
 use Rattle.http_frames.specs.Printed.{host_field, length_field, printed_fields, body_of, printed_head, printed, printed_request, MayBePrinted, IsOneWhole, AreWhole}

@@ -2,20 +2,20 @@
 use Rattle.std.proofs.Common.{◌≡◌, ℕ, ◌<◌, ◌≤◌, Bool, true, false, cond, List, ◌++◌, length, drop, slice_range, Option, Some, None, refl, sym, ap, ◌∙◌, subst, arith, nat_lt, append_assoc, length-append}
 use Rattle.std.proofs.lemmas.Bool.Decides.{nat_tests}
 use Rattle.side_base.specs.declared.message.Field.{Field}
+use Rattle.http_chunks.specs.Chunked.{BODY_LIMIT, ReadsChunks, NeverChunked}
 use Rattle.http_frames.specs.declared.refusal.FrameErr.{FrameErr}
 use Rattle.http_frames.specs.declared.refusal.FrameErr.TheVariants.{TooManyHeaders, BadHost, BothLengths, TransferCoding, BadLength, Coding, TooLong, BadChunk}
 use Rattle.http_frames.specs.declared.head.Head.{Head}
-use Rattle.http_frames.specs.declared.content.Body.{Body}
+use Rattle.http_chunks.specs.declared.content.Body.{Body}
 use Rattle.http_frames.specs.declared.progress.Content.{Content}
-use Rattle.http_frames.specs.HeadRules.{BODY_LIMIT, fields_of, fields_refusal, is_chunked, is_bad_length, content_length}
-use Rattle.http_frames.specs.Chunked.{NeverChunked}
-use Rattle.http_frames.specs.ChunkSteps.{MayEnd}
-use Rattle.http_frames.specs.ContentSteps.{IsInChunks, IsTaken, IsCalm, IsFlooded}
-use Rattle.http_frames.specs.Requests.{ReadsChunks, HasNoWhole, IsRefused, IsAccepted}
+use Rattle.http_frames.specs.HeadRules.{fields_of, fields_refusal, is_chunked, is_bad_length, content_length}
+use Rattle.http_chunks.specs.ChunkSteps.{MayEnd}
+use Rattle.http_chunks.specs.ContentSteps.{IsInChunks, IsTaken, IsCalm, IsFlooded}
+use Rattle.http_frames.specs.Requests.{HasNoWhole, IsRefused, IsAccepted}
 use Rattle.http_frames.specs.Progress.{IsInLength, IsBody, HoldsContent, IsWholeAt}
 use Rattle.http_frames.proofs.RequestLemmas.{whole_chunks, whole_length, need_chunks, need_length, bad_content, long_content}
-use Rattle.http_frames.proofs.RowLemmas.{none_is_some}
-use Rattle.http_frames.proofs.InChunksLemmas.{split_range, range_len}
+use Rattle.http_chunks.proofs.FrontLemmas.{none_is_some}
+use Rattle.http_chunks.proofs.InChunksLemmas.{split_range, range_len}
 
 -- the rules that an accepted head does not break
 past : {Q : Type 0} (b : Bool) (x : FrameErr) (others : Option FrameErr) → (others ≡ None → Q) → cond b (Some x) others ≡ None → Q
@@ -51,14 +51,14 @@ chunks_of pending rest content is chunked =
 
 -- the head stays, and more of the content was read
 pub kept_content : (pending rest rest' : List ℕ) (content : Content) (body' : Body) (is : HoldsContent pending rest content) → is_chunked content.head.fields ≡ true
-    → IsInChunks is.after rest' body'.bytes body'.left → HoldsContent pending rest' (record { head = content.head; body = body' })
+    → IsInChunks is.after rest' body'.bytes body'.left → HoldsContent pending rest' (record { head = content.head; said = content.said; body = body' })
 kept_content pending rest rest' content body' is chunked chunks =
     let P : Bool → Type 0 = λ b. IsBody b (content_length content.head.fields) is.after rest' body'.bytes body'.left in
     record { head = is.head; after = is.after; heads = is.heads; parts = is.parts; body = subst P (sym chunked) chunks }
 
 pub chunks_whole : (pending rest rest' : List ℕ) (content : Content) (body' : Body) (len : ℕ) (is : HoldsContent pending rest content)
     → is_chunked content.head.fields ≡ true → ReadsChunks is.after body'.bytes (drop len rest')
-    → IsWholeAt pending rest' (record { head = content.head; body = body' }) len
+    → IsWholeAt pending rest' (record { head = content.head; said = content.said; body = body' }) len
 chunks_whole pending rest rest' content body' len is chunked reads = record {
   head = is.head;
   parts = is.parts;
@@ -108,7 +108,7 @@ taken_of all text len at at' body body' left due is was =
 
 pub length_taken : (pending text : List ℕ) (at at' : ℕ) (content : Content) (body' : Body) (left due : ℕ) → HoldsContent pending (drop at text) content
     → is_chunked content.head.fields ≡ false → content.body.left ≡ Some left → IsTaken text at at' content.body body' left due
-    → HoldsContent pending (drop at' text) (record { head = content.head; body = body' })
+    → HoldsContent pending (drop at' text) (record { head = content.head; said = content.said; body = body' })
 length_taken pending text at at' content body' left due is plain so taken =
     let P : Bool → Option ℕ → Type 0 = λ b l. IsBody b (content_length content.head.fields) is.after (drop at' text) body'.bytes l in
     let Q : Bool → Type 0 = λ b. P b body'.left in

@@ -4,15 +4,16 @@ use Rattle.std.specs.Prelude.{IsTrue}
 use Rattle.std.proofs.lemmas.Bool.{false≢true}
 use Rattle.httparse.specs.Grammar.{RequestHead, print_request, ReadsRequest}
 use Rattle.httparse.proofs.GrammarLemmas.{request_unique}
+use Rattle.http_chunks.specs.Chunked.{ReadsChunks, ReadsChunked, NeverChunked, Overflows}
 use Rattle.http_frames.specs.declared.refusal.FrameErr.{FrameErr}
 use Rattle.http_frames.specs.declared.refusal.FrameErr.TheVariants.{TooLong, BadChunk}
 use Rattle.http_frames.specs.HeadRules.{fields_of, head_refusal, is_chunked, content_length}
-use Rattle.http_frames.specs.Chunked.{ReadsChunked, NeverChunked, Overflows}
-use Rattle.http_frames.specs.ChunkSteps.{MayEnd}
-use Rattle.http_frames.specs.ContentSteps.{IsCalm, IsFlooded}
-use Rattle.http_frames.specs.Requests.{ReadsHead, ReadsChunks, ReadsLength, ReadsBody, ReadsWhole, HasNoWhole, Meets, IsRefused, IsAccepted}
-use Rattle.http_frames.proofs.SplitLemmas.{split_append}
-use Rattle.http_frames.proofs.RowLemmas.{row_of, long_head, bad_head, refused_head, long_chunks, bad_chunks, head_before, whole_front, none_is_some}
+use Rattle.http_chunks.specs.ChunkSteps.{MayEnd}
+use Rattle.http_chunks.specs.ContentSteps.{IsCalm, IsFlooded}
+use Rattle.http_frames.specs.Requests.{ReadsHead, ReadsLength, ReadsBody, ReadsWhole, HasNoWhole, Meets, IsRefused, IsAccepted}
+use Rattle.http_chunks.proofs.SplitLemmas.{split_append}
+use Rattle.http_chunks.proofs.FrontLemmas.{none_is_some}
+use Rattle.http_frames.proofs.RowLemmas.{row_of, long_head, bad_head, refused_head, long_chunks, bad_chunks, head_before, whole_front}
 
 -- the rows that a front of a request with an accepted head can meet
 pub record ChunkRow (h : RequestHead) (e : FrameErr) (after back : List ℕ) : Type 0 where

@@ -4,7 +4,8 @@ use Rattle.std.specs.Prelude.{IsTrue}
 use Rattle.std.proofs.lemmas.List.{nil_from_length}
 use Rattle.httparse.specs.Grammar.{RequestHead, IsRequestHead, print_request, ReadsRequest, HasNoRequest, NeverHasRequest, EndsInTarget, MayBecomeRequest, LineEnd, print_blank, print_end, print_version, print_section, IsField, crlf, IsToken, AllPass, is_uri_byte}
 use Rattle.httparse.proofs.GrammarLemmas.{request_prefix_free, ReadsRequest-append, print_request-append}
-use Rattle.http_frames.proofs.SplitLemmas.{split_append}
+use Rattle.http_chunks.proofs.FrontLemmas.{none_is_some}
+use Rattle.http_chunks.proofs.SplitLemmas.{split_append, All-front}
 use Rattle.std.proofs.lemmas.List.Elements.{All-nil, All-cons, All-head, All-tail}
 use Rattle.std.proofs.lemmas.Str.{IsUtf8-from_ascii}
 use Rattle.std.proofs.lemmas.Str.Ascii.{IsAscii-nil, IsAscii-cons}
@@ -12,7 +13,7 @@ use Rattle.std.specs.List.{All}
 use Rattle.http_frames.specs.declared.refusal.FrameErr.{FrameErr}
 use Rattle.http_frames.specs.declared.refusal.FrameErr.TheVariants.{HeadTooLong, BadHead, TooManyHeaders, BadHost, BothLengths, TransferCoding, BadLength, Coding, TooLong, BadChunk, NoMemory}
 use Rattle.http_frames.specs.HeadRules.{HEAD_LIMIT, fields_of, head_refusal, fields_refusal, is_chunked}
-use Rattle.http_frames.specs.Chunked.{Overflows, NeverChunked}
+use Rattle.http_chunks.specs.Chunked.{Overflows, NeverChunked}
 use Rattle.http_frames.specs.Requests.{ReadsHead, Meets, IsAccepted}
 
 -- a row that a text meets, by its kind
@@ -46,9 +47,6 @@ chosen P false x e others here more is = more is
 pub some_same : {A : Type 0} {x y : A} → Some x ≡ Some y → x ≡ y
 some_same e = cc
 
-pub none_is_some : {A : Type 0} (x : A) → None ≡ Some x → ⊥
-none_is_some x e = cc
-
 pub refusal_meets : (h : RequestHead) (text : List ℕ) (e : FrameErr) → ReadsRequest text h [] → head_refusal h ≡ Some e → Meets e text
 unfolding fields_refusal
 refusal_meets h text e reads is =
@@ -73,12 +71,6 @@ pub whole_front : (text front back : List ℕ) → text ≡ front ++ back → le
 whole_front text front back whole long =
     let none = nil_from_length back (omega (arith, ap length whole, length-append front back)) in
     sym (append-nil front) ∙ ap (λ (t : List ℕ). front ++ t) (sym none) ∙ sym whole
-
--- what each element of a list has, each of its front has
-pub All-front : {X : Type 0} (P : X → Type 0) (xs ys : List X) → All P (xs ++ ys) → All P xs
-All-front P [] ys all = All-nil P
-All-front P (x ∷ xs) ys all =
-    All-cons P x xs (All-head P x (xs ++ ys) all) (All-front P xs ys (All-tail P x (xs ++ ys) all))
 
 -- a head with a method
 abbrev plain_head : List LineEnd → List ℕ → RequestHead

@@ -1,5 +1,5 @@
 -- What the bytes from the start of a request on hold next.
-use Rattle.std.proofs.Common.{◌≡◌, ℕ, ◌+◌, ◌≤◌, Bool, true, false, cond, not, ◌&&◌, List, [], ◌++◌, length, drop, Option, Some, None, refl, sym, ap, ◌∙◌, subst, arith, append_assoc, length-append}
+use Rattle.std.proofs.Common.{◌≡◌, ℕ, ◌+◌, ◌≤◌, Bool, true, false, cond, not, ◌&&◌, List, [], ◌++◌, length, drop, Option, Some, None, refl, sym, ap, ◌∙◌, subst, arith, nat_lt, append_assoc, length-append}
 use Rattle.std.specs.Prelude.{unwrap_or}
 use Rattle.std.specs.List.{flat_map}
 use Rattle.std.proofs.lemmas.Bool.{false≢true}
@@ -7,18 +7,21 @@ use Rattle.std.proofs.lemmas.List.{drop_at}
 use Rattle.std.proofs.lemmas.List.Elements.{All-nil}
 use Rattle.httparse.specs.Grammar.{RequestHead, print_request, print_chunk_line}
 use Rattle.httparse.proofs.GrammarLemmas.{request_unique, ReadsRequest-append}
-use Rattle.http_frames.specs.HeadRules.{BODY_LIMIT, fields_of, is_chunked, is_bad_length, content_length, asks_to_continue, request_of}
+use Rattle.http_chunks.specs.Chunked.{BODY_LIMIT, IsChunk, print_chunk}
+use Rattle.http_frames.specs.HeadRules.{fields_of, is_chunked, is_bad_length, content_length, asks_to_continue, request_of}
 use Rattle.http_frames.specs.HeadReading.{head_of, HasNoHead}
-use Rattle.http_frames.specs.Chunked.{IsChunk, print_chunk}
 use Rattle.http_frames.specs.Requests.{ReadsHead}
 use Rattle.http_frames.specs.Framing.{IsQuiet}
-use Rattle.http_frames.specs.ContentSteps.{AreChunks}
-use Rattle.http_frames.specs.Progress.{IsBody, HoldsContent, IsWholeAt}
+use Rattle.http_chunks.specs.ContentSteps.{AreChunks}
+use Rattle.http_frames.specs.Progress.{IsBody, HoldsContent, IsSound, IsWholeAt}
 use Rattle.http_frames.specs.Turns.{IsAsking, IsRequestTo}
 use Rattle.side_base.specs.declared.message.Request.{Request}
 use Rattle.http_frames.specs.declared.head.Head.{Head}
 use Rattle.http_frames.specs.declared.progress.Content.{Content}
+use Rattle.http_frames.specs.declared.rules.Said.{Said}
+use Rattle.http_frames.specs.Said.{IsSaid, asks}
 use Rattle.http_frames.proofs.ProgressLemmas.{accepted_length, accepted_short}
+use Rattle.http_frames.proofs.SaidLemmas.{chunked_same, length_same, asks_same}
 
 -- where the head that was taken was answered, or does not ask, no other is left unanswered
 pub quiet_of : (pending rest : List ℕ) (content : Content) (continued : Bool) → HoldsContent pending rest content
@@ -36,10 +39,10 @@ told_of true asks e asking = refl
 told_of false asks e asking = absurd (false≢true (sym e ∙ asking))
 
 -- a head that was just taken, with nothing of its content
-pub first_content : (pending : List ℕ) (h : RequestHead) (after : List ℕ) (head : Head) (bytes : List ℕ) (left : Option ℕ) → ReadsHead pending h after
+pub first_content : (pending : List ℕ) (h : RequestHead) (after : List ℕ) (head : Head) (said : Said) (bytes : List ℕ) (left : Option ℕ) → ReadsHead pending h after
     → head ≡ head_of h → bytes ≡ [] → left ≡ cond (is_chunked head.fields) None (Some (content_length head.fields))
-    → HoldsContent pending (drop head.len pending) (record { head = head; body = record { bytes = bytes; left = left } })
-first_content pending h after head bytes left heads parts empty due =
+    → HoldsContent pending (drop head.len pending) (record { head = head; said = said; body = record { bytes = bytes; left = left } })
+first_content pending h after head said bytes left heads parts empty due =
     let behind : after ≡ drop head.len pending =
     sym (ap (drop head.len) heads.reads.1 ∙ drop_at (print_request h) after head.len (sym (ap (λ (x : Head). x.len) parts))) in
     record {
@@ -68,6 +71,12 @@ pub head_sound : (pending : List ℕ) (h : RequestHead) (after : List ℕ) (head
 head_sound pending h after head heads parts =
     let P : Head → Type 0 = λ x. (is_bad_length x.fields ≡ false) × (content_length x.fields ≤ BODY_LIMIT) in
     subst P (sym parts) (accepted_length h.minor (fields_of h) heads.accepted, accepted_short h.minor (fields_of h) heads.accepted)
+
+-- what is due at first, by what the fields say
+pub due_same : (head : Head) (said : Said) (left : Option ℕ) → IsSaid head.fields said → is_bad_length head.fields ≡ false
+    → left ≡ cond (nat_lt 0 said.codings) None (Some said.length) → left ≡ cond (is_chunked head.fields) None (Some (content_length head.fields))
+due_same head said left is good due =
+    due ∙ (λ i. cond (chunked_same head.fields said is i) None (Some (length_same head.fields said is good i)))
 
 pub first_bounded : (b : Bool) (len : ℕ) (bytes : List ℕ) (left : Option ℕ) → bytes ≡ [] → len ≤ BODY_LIMIT → left ≡ cond b None (Some len)
     → length bytes + unwrap_or left 0 ≤ BODY_LIMIT
@@ -121,6 +130,12 @@ grown_content pending rest more content is = record {
   parts = is.parts;
   body = grown_body (is_chunked content.head.fields) (content_length content.head.fields) is.after rest more content.body.bytes content.body.left is.body;
 }
+
+-- what is asked for, by what the fields say
+pub due_is : (continued b : Bool) (content : Content) → IsSound content → (not continued && asks content.head.minor content.said) ≡ b
+    → (not continued && asks_to_continue content.head.minor content.head.fields) ≡ b
+due_is continued b content sound e =
+    sym (ap (λ a. not continued && a) (asks_same content.head.minor content.head.fields content.said sound.said sound.length_is)) ∙ e
 
 both_true : (a b : Bool) → (not a && b) ≡ true → (a ≡ false) × (b ≡ true)
 both_true true b e = absurd (false≢true e)

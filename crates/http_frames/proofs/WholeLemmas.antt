@@ -7,13 +7,13 @@ use Rattle.std.proofs.lemmas.List.{append_cancel_right}
 use Rattle.std.proofs.lemmas.List.Elements.{All-head, All-tail}
 use Rattle.httparse.specs.Grammar.{RequestHead, print_request, chunk_size, print_chunk_line, ChunkLine}
 use Rattle.httparse.proofs.GrammarLemmas.{request_unique, ReadsRequest-append, section_unique}
+use Rattle.http_chunks.specs.Chunked.{BODY_LIMIT, ReadsChunks, Chunk, IsChunk, IsLine, Ending, print_ending, IsEnding, joined, NeverChunked, Overflows}
 use Rattle.http_frames.specs.declared.refusal.FrameErr.{FrameErr}
-use Rattle.http_frames.specs.HeadRules.{BODY_LIMIT, fields_of, is_chunked, content_length}
-use Rattle.http_frames.specs.Chunked.{Chunk, IsChunk, IsLine, Ending, print_ending, IsEnding, joined, NeverChunked, Overflows}
-use Rattle.http_frames.specs.Requests.{ReadsHead, ReadsChunks, ReadsLength, ReadsBody, ReadsWhole, HasNoWhole, IsRefused, IsAccepted}
-use Rattle.http_frames.proofs.SplitLemmas.{split_append, append_same}
-use Rattle.http_frames.proofs.ChunkStepLemmas.{line_same, chunk_parts, ending_parts}
-use Rattle.http_frames.proofs.ContentLemmas.{chunk_same, chunk_no_end, cells, uncons}
+use Rattle.http_frames.specs.HeadRules.{fields_of, is_chunked, content_length}
+use Rattle.http_frames.specs.Requests.{ReadsHead, ReadsLength, ReadsBody, ReadsWhole, HasNoWhole, IsRefused, IsAccepted}
+use Rattle.http_chunks.proofs.SplitLemmas.{split_append, append_same}
+use Rattle.http_chunks.proofs.ChunkStepLemmas.{line_same, chunk_parts, ending_parts}
+use Rattle.http_chunks.proofs.ContentLemmas.{chunk_same, chunk_no_end, cells, uncons}
 use Rattle.http_frames.proofs.RequestLemmas.{only_chunk_rows}
 
 -- content in chunks is read in one way

@@ -6,6 +6,7 @@ use Rattle.httparse.specs.Spans.{span_bytes, RequestExceeds}
 use Rattle.side_base.specs.declared.message.Field.{Field}
 use Rattle.http_frames.specs.HeadRules.{HEAD_LIMIT, method_of, fields_of}
 use Rattle.http_frames.specs.Lines.{IsPlace}
+use Rattle.http_frames.specs.Said.{IsSaid}
 use Rattle.http_frames.specs.declared.head.Head.{Head}
 use Rattle.http_frames.specs.Requests.{ReadsHead, IsRefused, IsAccepted}
 use Rattle.http_frames.specs.declared.head.HeadStep.{HeadStep}
@@ -44,6 +45,6 @@ HasNoHead text = (h : RequestHead) (after : List ℕ) → ¬ (ReadsHead text h a
 
 -- what a head at the front of the bytes that came leads to
 abbrev pub IsHeadStep : List ℕ → HeadStep → Type 0
-IsHeadStep text (Taken head) = (h : RequestHead) × (after : List ℕ) × ReadsHead text h after × (head ≡ head_of h)
+IsHeadStep text (Taken head said) = (h : RequestHead) × (after : List ℕ) × ReadsHead text h after × (head ≡ head_of h) × IsSaid head.fields said
 IsHeadStep text (Refused error) = IsRefused text error × HasNoHead text
 IsHeadStep text (Need place) = HasNoRequest text × IsAccepted text × HasNoHead text × IsPlace text place × (length text < HEAD_LIMIT)

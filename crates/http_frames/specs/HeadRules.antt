@@ -13,16 +13,14 @@ use Rattle.side_base.specs.declared.method.Method.TheVariants.{Get, Head, Post, 
 use Rattle.http_frames.specs.declared.refusal.FrameErr.{FrameErr}
 use Rattle.http_frames.specs.declared.refusal.FrameErr.TheVariants.{TooManyHeaders, BadHost, BothLengths, TransferCoding, BadLength, Coding, TooLong}
 use Rattle.side_base.specs.Field.{is_same_word}
+use Rattle.http_chunks.specs.Chunked.{BODY_LIMIT}
 
--- the most bytes of a head, of a chunk line and of trailers; the most fields of a head; the most bytes of a body
+-- the most bytes of a head; the most fields of a head
 abbrev pub HEAD_LIMIT : ℕ
 HEAD_LIMIT = 16384
 
 abbrev pub FIELD_LIMIT : ℕ
 FIELD_LIMIT = 64
-
-abbrev pub BODY_LIMIT : ℕ
-BODY_LIMIT = 4194304
 
 -- a field line of a head, as a field of the request: its name, and its value without white space around
 abbrev pub field_of : grammar.Field → Field

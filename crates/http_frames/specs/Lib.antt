@@ -1,11 +1,6 @@
-pub mod ChunkReading
-pub mod ChunkSteps
-pub mod Chunked
 pub mod Closes
-pub mod ContentSteps
 pub mod Framer
 pub mod Framing
-pub mod Front
 pub mod HeadReading
 pub mod HeadRules
 pub mod InTarget
@@ -17,5 +12,5 @@ pub mod Requests
 pub mod Sent
 pub mod Streams
 pub mod Turns
-pub mod ValueTest
+pub mod Said
 pub mod Written

@@ -5,7 +5,8 @@ use Rattle.std.specs.List.{flat_map}
 use Rattle.httparse.specs.Grammar.{IsToken, AllPass, is_uri_byte}
 use Rattle.side_base.specs.declared.message.Field.{Field}
 use Rattle.side_base.specs.declared.message.Request.{Request}
-use Rattle.http_frames.specs.HeadRules.{HEAD_LIMIT, BODY_LIMIT, method_of, request_of}
+use Rattle.http_chunks.specs.Chunked.{BODY_LIMIT}
+use Rattle.http_frames.specs.HeadRules.{HEAD_LIMIT, method_of, request_of}
 use Rattle.http_frames.specs.Requests.{ReadsWhole}
 use Rattle.http_frames.specs.Streams.{Whole, IsStream, asks}
 use Rattle.http_frames.specs.Written.{line_end, field_line}

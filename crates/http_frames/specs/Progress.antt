@@ -3,8 +3,9 @@ use Rattle.std.specs.Prelude.{◌≡◌, ℕ, ◌+◌, ◌<◌, ◌≤◌, List,
 use Rattle.httparse.specs.Grammar.{RequestHead}
 use Rattle.http_frames.specs.HeadRules.{HEAD_LIMIT, is_chunked, is_bad_length, content_length}
 use Rattle.http_frames.specs.Requests.{ReadsHead, ReadsWhole, HasNoWhole, IsRefused, IsAccepted}
-use Rattle.http_frames.specs.ContentSteps.{IsInChunks, IsBounded}
+use Rattle.http_chunks.specs.ContentSteps.{IsInChunks, IsBounded}
 use Rattle.http_frames.specs.HeadReading.{head_of}
+use Rattle.http_frames.specs.Said.{IsSaid}
 use Rattle.http_frames.specs.declared.progress.Content.{Content}
 use Rattle.http_frames.specs.declared.progress.Progress.{Progress}
 use Rattle.http_frames.specs.declared.progress.Progress.TheVariants.{Whole, Need, Refused}
@@ -28,8 +29,9 @@ pub record HoldsContent (pending rest : List ℕ) (content : Content) : Type 0 w
   pub parts : content.head ≡ head_of head
   pub body : IsBody (is_chunked content.head.fields) (content_length content.head.fields) after rest content.body.bytes content.body.left
 
--- the length of its content can be told, and what was read of it and is at hand is within the limit
+-- what its fields say is known, the length of its content can be told, and what was read of it and is at hand is within the limit
 pub record IsSound (content : Content) : Type 0 where
+  pub said : IsSaid content.head.fields content.said
   pub length_is : is_bad_length content.head.fields ≡ false
   pub bounded : IsBounded content.body
 

@@ -1,24 +1,16 @@
 -- Whole requests, and bytes that are refused (RFC 9112, sections 2.2, 3, 5, 6 and 7).
 use Rattle.std.specs.Prelude.{◌≡◌, ℕ, ◌≤◌, ◌⊎◌, List, [], ◌++◌, length, IsTrue, MatchBool, Some, None}
 use Rattle.httparse.specs.Grammar.{RequestHead, print_request, ReadsRequest, HasNoRequest, NeverHasRequest, EndsInTarget, MayBecomeRequest}
+use Rattle.http_chunks.specs.Chunked.{ReadsChunks, NeverChunked, Overflows}
 use Rattle.http_frames.specs.declared.refusal.FrameErr.{FrameErr}
 use Rattle.http_frames.specs.declared.refusal.FrameErr.TheVariants.{HeadTooLong, BadHead, TooManyHeaders, BadHost, BothLengths, TransferCoding, BadLength, Coding, TooLong, BadChunk, NoMemory}
-use Rattle.http_frames.specs.HeadRules.{HEAD_LIMIT, BODY_LIMIT, fields_of, head_refusal, is_chunked, content_length}
-use Rattle.http_frames.specs.Chunked.{Chunk, Ending, joined, ReadsChunked, NeverChunked, Overflows}
+use Rattle.http_frames.specs.HeadRules.{HEAD_LIMIT, fields_of, head_refusal, is_chunked, content_length}
 
 -- the text begins with a head that breaks no rule
 pub record ReadsHead (text : List ℕ) (head : RequestHead) (after : List ℕ) : Type 0 where
   pub reads : ReadsRequest text head after
   pub short : length (print_request head) ≤ HEAD_LIMIT
   pub accepted : head_refusal head ≡ None
-
--- content in chunks, of a size within the limit
-pub record ReadsChunks (text body rest : List ℕ) : Type 0 where
-  pub chunks : List Chunk
-  pub ending : Ending
-  pub reads : ReadsChunked text chunks ending rest
-  pub joins : body ≡ joined chunks
-  pub short : length body ≤ BODY_LIMIT
 
 -- content of a known length
 pub record ReadsLength (text : List ℕ) (len : ℕ) (body rest : List ℕ) : Type 0 where

@@ -7,7 +7,7 @@ ghost use Rattle.http_frames.specs.HeadReading.{IsHeadRead, IsHeadStep, IsReadOf
 
 use crate::FrameErr;
 use crate::lines::{Place, place_after, read_behind};
-use crate::rules::fields_refusal;
+use crate::rules::{Said, fields_refusal, said_by};
 use crate::target::ends_in_target;
 use httparse::spans::{EMPTY_HEADER_SPAN, HeaderSpan, RequestSpans, parse_request};
 use httparse::{Error, Status};
@@ -199,8 +199,8 @@ fn read_long_head(alloc: Global, text: &[u8]) -> Result<HeadRead, NoMemory>
 /// What the bytes of a request that came so far lead to, as long as its head is not taken.
 #[derive(Debug, Drop)]
 pub(crate) enum HeadStep {
-    /// A whole head that breaks no rule.
-    Taken(Head),
+    /// A whole head that breaks no rule, and what its fields say.
+    Taken { head: Head, said: Said },
     /// A refusal.
     Refused(FrameErr),
     /// More bytes are needed; the head was read so far.
@@ -241,9 +241,10 @@ fn judged_head(pending: &[u8], head: Head) -> HeadStep
     requires { IsHeadRead (take HEAD_LIMIT pending.now) (HeadRead.Whole head) }
     ensures { IsHeadStep pending.now result }
 {
-    let refusal = fields_refusal(head.minor, &head.fields);
+    let said = said_by(&head.fields);
+    let refusal = fields_refusal(head.minor, &head.fields, &said);
     match refusal {
         Some(error) => HeadStep::Refused(error),
-        None => HeadStep::Taken(head),
+        None => HeadStep::Taken { head, said },
     }
 }

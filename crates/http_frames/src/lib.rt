@@ -4,20 +4,15 @@
 //!   - `turn` takes the next step of a stream: a head, its `100 Continue`, its content.
 //!   - `head` reads the head at the front of the bytes, `lines` only what follows its whole lines, `rules` refuses what it may not say, and `target` tells where the
 //!     bytes end inside a request target.
-//!   - `progress` reads the content that came, by its length or in chunks. `content` joins chunks, of which `chunks` reads
-//!     the next line or the end, `chunk_line` the line, and `trailers` what follows the last.
+//!   - `progress` reads the content that came, by its length or in chunks, as `http_chunks` reads them.
 //! - `connection` tells whether the connection ends after a request.
 //! - `response` writes a response.
 //! - `laws` has what holds of all bytes: that they are one stream in one way, that the answers of a framer are that stream however the bytes were cut, that what
 //!   it has given begins the bytes at each moment, and that a request that is written is one whole request.
 #![tactic(auto)]
 
-mod chunk_line;
-mod chunks;
 mod connection;
-mod content;
 mod framer;
-mod front;
 mod head;
 pub mod laws;
 mod lines;
@@ -27,7 +22,6 @@ mod response;
 mod rules;
 mod step;
 mod target;
-mod trailers;
 mod turn;
 
 pub use connection::closes;

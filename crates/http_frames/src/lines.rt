@@ -7,7 +7,7 @@ ghost use Rattle.http_frames.specs.HeadRules.{HEAD_LIMIT};
 ghost use Rattle.http_frames.specs.Lines.{AreLines, IsInValue, IsPlace, beginning};
 
 use crate::head::{HeadRead, read_head, unless_in_target};
-use crate::trailers::{TrailersRead, section_within};
+use http_chunks::{TrailersRead, section_within};
 use httparse::spans::EMPTY_HEADER_SPAN;
 use httparse::{is_header_value, is_token};
 use side_base::NoMemory;

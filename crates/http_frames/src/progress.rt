@@ -3,16 +3,17 @@ ghost use Rattle.http_frames.specs.HeadRules.{is_chunked};
 ghost use Rattle.http_frames.specs.Progress.{HoldsContent, IsSound, IsProgress, EndsWithin};
 
 use crate::FrameErr;
-use crate::content::{Body, ContentStep, read_content, take_due};
 use crate::head::Head;
-use crate::rules::is_chunked;
+use crate::rules::Said;
+use http_chunks::{Body, ContentStep, read_content, take_due};
 use side_base::NoMemory;
 use std::alloc::Global;
 
-/// A request whose head was taken, and what came of its content.
+/// A request whose head was taken, what its fields say, and what came of its content.
 #[derive(Debug, Drop)]
 pub(crate) struct Content {
     pub(crate) head: Head,
+    pub(crate) said: Said,
     pub(crate) body: Body,
 }
 
@@ -41,11 +42,19 @@ pub(crate) fn take_content(
     ensures ends { IfOk result (λ progress. EndsWithin (drop at.new text.now) progress) }
     ensures progress { (pending : List ℕ) → HoldsContent pending (drop at.old text.now) content.old → MatchResult result (IsProgress pending (drop at.new text.now) content.new) (λ _. HoldsContent pending (drop at.new text.now) content.new) }
 {
-    if is_chunked(&content.head.fields) {
+    if is_chunked(content) {
         take_chunks(alloc, text, at, content)
     } else {
         take_length(text, at, content)
     }
+}
+
+/// Whether the content comes in chunks.
+fn is_chunked(content: &Content) -> bool
+    requires { IsSound content.now }
+    ensures { result ≡ is_chunked content.now.head.fields }
+{
+    content.said.codings > 0
 }
 
 /// The same of content in chunks.

@@ -1,20 +1,21 @@
-ghost use Rattle.std.specs.Prelude.{◌≡◌, ◌≤◌, ℕ, List, [], Some, None, IfOk, false, if◌then◌else◌, not, ◌&&◌, length, drop};
+ghost use Rattle.std.specs.Prelude.{◌≡◌, ◌≤◌, ℕ, List, [], Some, None, IfOk, false, nat_lt, if◌then◌else◌, not, ◌&&◌, length, drop};
 ghost use Rattle.http_frames.specs.Framer.{IsStage};
 ghost use Rattle.http_frames.specs.Lines.{IsPlace};
 ghost use Rattle.httparse.specs.Grammar.{RequestHead};
 ghost use Rattle.http_frames.specs.HeadReading.{head_of, IsHeadStep};
-ghost use Rattle.http_frames.specs.HeadRules.{BODY_LIMIT, request_of, is_bad_length, is_chunked, content_length, asks_to_continue};
+ghost use Rattle.http_frames.specs.HeadRules.{request_of};
 ghost use Rattle.http_frames.specs.Progress.{HoldsContent, IsSound};
+ghost use Rattle.http_frames.specs.Said.{asks};
 ghost use Rattle.http_frames.specs.Turns.{IsTurn, TakesTurn, Leaves};
 
 use crate::FrameErr;
-use crate::content::Body;
 use crate::framer::Stage;
 use crate::head::{Head, HeadStep, take_head};
 use crate::lines::{Place, start};
 use crate::progress::{Content, Progress, take_content};
-use crate::rules::{asks_to_continue, content_length, is_chunked};
-use side_base::{Blob, Fields, NoMemory, Request};
+use crate::rules::{Said, asks_to_continue};
+use http_chunks::Body;
+use side_base::{Blob, NoMemory, Request};
 use std::alloc::Global;
 
 /// What the bytes of a stream hold next.
@@ -84,10 +85,10 @@ fn turn_of(
     ensures turn { IsTurn (drop at.old bytes.now) (drop at.new bytes.now) false result }
 {
     match step {
-        HeadStep::Taken(head) => match first_body(alloc, &head.fields) {
+        HeadStep::Taken { head, said } => match first_body(alloc, &said) {
             Ok(body) => {
                 *at += head.len;
-                content_turn(alloc, bytes, at, false, Content { head, body })
+                content_turn(alloc, bytes, at, false, Content { head, said, body })
             }
             Err(error) => (Stage::Head(start()), Err(error)),
         },
@@ -97,16 +98,14 @@ fn turn_of(
 }
 
 /// The body behind a head, of which nothing came; it has room for content of a known length, which is due.
-fn first_body(alloc: Global, fields: &Fields) -> Result<Body, NoMemory>
-    requires good { is_bad_length fields.now ≡ false }
-    requires short { content_length fields.now ≤ BODY_LIMIT }
-    ensures { IfOk result (λ body. (body.bytes ≡ []) × (body.left ≡ (if is_chunked fields.now then None else Some (content_length fields.now)))) }
+fn first_body(alloc: Global, said: &Said) -> Result<Body, NoMemory>
+    ensures { IfOk result (λ body. (body.bytes ≡ []) × (body.left ≡ (if nat_lt 0 said.now.codings then None else Some said.now.length))) }
 {
     let mut bytes = Blob::new(alloc);
-    if is_chunked(fields) {
+    if said.codings > 0 {
         return Ok(Body { bytes, left: None });
     }
-    let len = content_length(fields) as usize;
+    let len = said.length as usize;
     bytes.reserve(len)?;
     Ok(Body {
         bytes,
@@ -147,17 +146,20 @@ fn content_turn(
 
 /// Whether the head asks for `100 Continue` and was not answered yet.
 fn is_due(continued: bool, content: &Content) -> bool
-    requires { is_bad_length content.now.head.fields ≡ false }
-    ensures { result ≡ (not continued && asks_to_continue content.now.head.minor content.now.head.fields) }
+    ensures { result ≡ (not continued && asks content.now.head.minor content.now.said) }
 {
-    !continued && asks_to_continue(content.head.minor, &content.head.fields)
+    !continued && asks_to_continue(content.head.minor, &content.said)
 }
 
 /// The request of a head and its content.
 fn request_of(content: Content) -> Request
     ensures { (head : RequestHead) → content.head ≡ head_of head → result ≡ request_of head content.body.bytes }
 {
-    let Content { head, body } = content;
+    let Content {
+        head,
+        said: _,
+        body,
+    } = content;
     let Head {
         method,
         target,

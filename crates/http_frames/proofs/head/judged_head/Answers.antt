@@ -18,4 +18,5 @@ returns-in-None c =
       judged_taken c.args.pending.now read.0 read.1 read.2
           (ap (λ (x : Head). fields_refusal x.minor x.fields) (sym read.3) ∙ sym c.in-None.ensures),
       read.3,
+      c.said_by-said.ensures,
     )

@@ -2,27 +2,20 @@ use Rattle.std.proofs.Common.{List, ℕ, refl, false, drop, subst, arith, drop-d
 use Rattle.http_frames.specs.HeadRules.{is_chunked, content_length}
 use Rattle.http_frames.specs.Progress.{HoldsContent}
 use Rattle.http_frames.specs.declared.progress.Content.{Content}
-use Rattle.http_frames.proofs.TurnLemmas.{quiet_none, first_content, first_bounded, head_sound, head_inside}
+use Rattle.http_frames.proofs.TurnLemmas.{quiet_none, first_content, first_bounded, due_same, head_sound, head_inside}
 use Rattle.http_frames.proofs.turn.turn_of.Goals as goal
-
-pub first_body-requires-clause-good : goal.first_body-requires-clause-good
-first_body-requires-clause-good c =
-    let step = rw c.in-Taken.is at c.requires.step in
-    let sound = head_sound (drop c.args.at.now c.args.bytes.now) step.0 step.1 c.in-Taken.head step.2 step.3 in
-    sound.0
-
-pub first_body-requires-clause-short : goal.first_body-requires-clause-short
-first_body-requires-clause-short c =
-    let step = rw c.in-Taken.is at c.requires.step in
-    let sound = head_sound (drop c.args.at.now c.args.bytes.now) step.0 step.1 c.in-Taken.head step.2 step.3 in
-    sound.1
 
 pub content_turn-requires-clause-sound : goal.content_turn-requires-clause-sound
 content_turn-requires-clause-sound c =
     let step = rw c.in-Taken.is at c.requires.step in
-    let sound = head_sound (drop c.args.at.now c.args.bytes.now) step.0 step.1 c.in-Taken.head step.2 step.3 in
-    let fields = c.in-Taken.head.fields in
-    record { length_is = sound.0; bounded = first_bounded (is_chunked fields) (content_length fields) _ _ c.in-Ok.ensures.0 sound.1 c.in-Ok.ensures.1 }
+    let head = c.in-Taken.head in
+    let sound = head_sound (drop c.args.at.now c.args.bytes.now) step.0 step.1 head step.2 step.3 in
+    let due = due_same head c.in-Taken.said c.in-Ok.body.left step.4 sound.0 c.in-Ok.ensures.1 in
+    record {
+      said = step.4;
+      length_is = sound.0;
+      bounded = first_bounded (is_chunked head.fields) (content_length head.fields) _ _ c.in-Ok.ensures.0 sound.1 due;
+    }
 
 pub content_turn-requires-clause-within : goal.content_turn-requires-clause-within
 content_turn-requires-clause-within c =
@@ -34,10 +27,13 @@ returns-in-Ok-clause-turn c =
     let bytes = c.args.bytes.now in
     let at = c.args.at.now in
     let step = rw c.in-Taken.is at c.requires.step in
-    let content : Content = record { head = c.in-Taken.head; body = c.in-Ok.body } in
+    let head = c.in-Taken.head in
+    let sound = head_sound (drop at bytes) step.0 step.1 head step.2 step.3 in
+    let due = due_same head c.in-Taken.said c.in-Ok.body.left step.4 sound.0 c.in-Ok.ensures.1 in
+    let content : Content = record { head = head; said = c.in-Taken.said; body = c.in-Ok.body } in
     let P : List ℕ → Type 0 = λ t. HoldsContent (drop at bytes) t content in
-    c.content_turn.ensures.turn (drop at bytes) (subst P (drop-drop c.in-Taken.head.len at bytes)
-    (first_content (drop at bytes) step.0 step.1 c.in-Taken.head c.in-Ok.body.bytes c.in-Ok.body.left step.2 step.3 c.in-Ok.ensures.0 c.in-Ok.ensures.1))
+    c.content_turn.ensures.turn (drop at bytes) (subst P (drop-drop head.len at bytes)
+    (first_content (drop at bytes) step.0 step.1 head c.in-Taken.said c.in-Ok.body.bytes c.in-Ok.body.left step.2 step.3 c.in-Ok.ensures.0 due))
 
 pub returns-in-Need-clause-turn : goal.returns-in-Need-clause-turn
 returns-in-Need-clause-turn c =

@@ -1,0 +1,9 @@
+pub mod ChunkStepLemmas
+pub mod ContentLemmas
+pub mod DataLemmas
+pub mod FrontLemmas
+pub mod InChunksLemmas
+pub mod LengthLemmas
+pub mod LineLemmas
+pub mod SplitLemmas
+pub mod TrailerLemmas

@@ -1,0 +1,5 @@
+pub mod ChunkReading
+pub mod ChunkSteps
+pub mod Chunked
+pub mod ContentSteps
+pub mod Front

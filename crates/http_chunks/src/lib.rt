@@ -1,0 +1,22 @@
+//! Content in chunks (RFC 9112, section 7.1), of a request or a reply.
+//!
+//! - `content` joins chunks as their bytes come.
+//!   - `chunks` reads the line of the next chunk, or the end of the chunks.
+//!   - `chunk_line` reads a chunk's line, and `trailers` what follows the last one.
+//!   - `front` tells what follows a front.
+#![tactic(auto)]
+
+mod chunk_line;
+mod chunks;
+mod content;
+mod front;
+mod trailers;
+
+pub use content::{Body, ContentStep, read_content, take_due};
+pub use trailers::{TrailersRead, section_within};
+
+/// The most bytes of a chunk line, and of trailers.
+pub const LINE_LIMIT: usize = 16_384;
+
+/// The most bytes of a content.
+pub const BODY_LIMIT: u64 = 4_194_304;
