@@ -1,8 +1,8 @@
 -- Heads, from what the parser says of them.
-use Rattle.std.proofs.Common.{◌≡◌, ℕ, ◌*◌, ◌<◌, ◌≤◌, List, [], ◌∷◌, length, map, slice_range, IsUtf8, lit<, refl, sym, ap, subst, arith, length-append}
+use Rattle.std.proofs.Common.{◌≡◌, ℕ, ◌*◌, ◌≤◌, List, [], ◌∷◌, length, map, slice_range, IsUtf8, refl, sym, ap, subst, arith, length-append}
 use Rattle.std.proofs.lemmas.List.{take_all}
 use Rattle.std.proofs.lemmas.List.Elements.{All-nil, All-cons, All-head, All-tail}
-use Rattle.std.specs.List.{All, flat_map}
+use Rattle.std.specs.List.{All}
 use Rattle.httparse.specs.declared.spans.HeaderSpan.{HeaderSpan}
 use Rattle.httparse.specs.Grammar as grammar
 use Rattle.httparse.specs.Grammar.{AllPass, IsToken, IsField, is_token_byte, LineEnd, crlf, lf, print_end, print_field, print_section, RequestHead, IsRequestHead, print_request}

@@ -1,15 +1,14 @@
 -- The rows of the table of refusals, and which of them a head meets.
-use Rattle.std.proofs.Common.{◌≡◌, ℕ, ◌<◌, ◌≤◌, Bool, true, false, cond, List, [], ◌∷◌, ◌++◌, length, Option, Some, None, inl, inr, lit<, lit≤, refl, sym, ap, ◌∙◌, subst, arith, append_assoc, append-nil, length-append}
+use Rattle.std.proofs.Common.{◌≡◌, ℕ, ◌<◌, ◌≤◌, Bool, true, false, cond, List, [], ◌∷◌, ◌++◌, length, Option, Some, inl, inr, lit<, lit≤, refl, sym, ap, ◌∙◌, subst, arith, append_assoc, append-nil, length-append}
 use Rattle.std.specs.Prelude.{IsTrue}
 use Rattle.std.proofs.lemmas.List.{nil_from_length}
 use Rattle.httparse.specs.Grammar.{RequestHead, IsRequestHead, print_request, ReadsRequest, HasNoRequest, NeverHasRequest, EndsInTarget, MayBecomeRequest, LineEnd, print_blank, print_end, print_version, print_section, IsField, crlf, IsToken, AllPass, is_uri_byte}
 use Rattle.httparse.proofs.GrammarLemmas.{request_prefix_free, ReadsRequest-append, print_request-append}
 use Rattle.http_chunks.proofs.FrontLemmas.{none_is_some}
 use Rattle.http_chunks.proofs.SplitLemmas.{split_append, All-front}
-use Rattle.std.proofs.lemmas.List.Elements.{All-nil, All-cons, All-head, All-tail}
+use Rattle.std.proofs.lemmas.List.Elements.{All-nil, All-cons}
 use Rattle.std.proofs.lemmas.Str.{IsUtf8-from_ascii}
 use Rattle.std.proofs.lemmas.Str.Ascii.{IsAscii-nil, IsAscii-cons}
-use Rattle.std.specs.List.{All}
 use Rattle.http_frames.specs.declared.refusal.FrameErr.{FrameErr}
 use Rattle.http_frames.specs.declared.refusal.FrameErr.TheVariants.{HeadTooLong, BadHead, TooManyHeaders, BadHost, BothLengths, TransferCoding, BadLength, Coding, TooLong, BadChunk, NoMemory}
 use Rattle.http_frames.specs.HeadRules.{HEAD_LIMIT, fields_of, head_refusal, fields_refusal, is_chunked}

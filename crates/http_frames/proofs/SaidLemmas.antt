@@ -1,7 +1,6 @@
 -- What the fields of a head say, found field by field from the last one on.
 use Rattle.std.proofs.Common.{◌≡◌, ℕ, ◌+◌, ◌-◌, ◌<◌, ◌≤◌, Bool, true, false, not, cond, ◌&&◌, ◌||◌, List, [], ◌∷◌, length, drop, get_or, Option, Some, None, refl, sym, ap, ◌∙◌, subst, arith, nat_lt, length-drop}
 use Rattle.std.specs.Prelude.{codes, ◌==◌}
-use Rattle.std.specs.List.{count_by, list_any}
 use Rattle.std.specs.Str.Parse.{digits_value}
 use Rattle.std.proofs.lemmas.Bool.{or_parts}
 use Rattle.std.proofs.lemmas.List.{drop_more}
@@ -12,7 +11,7 @@ use Rattle.http_chunks.specs.Chunked.{BODY_LIMIT}
 use Rattle.http_frames.specs.declared.refusal.FrameErr.{FrameErr}
 use Rattle.http_frames.specs.declared.refusal.FrameErr.TheVariants.{TooManyHeaders, BadHost, BothLengths, TransferCoding, BadLength, Coding, TooLong}
 use Rattle.http_frames.specs.declared.rules.Said.{Said}
-use Rattle.http_frames.specs.HeadRules.{FIELD_LIMIT, is_named, count_named, any_value, is_length, is_chunked, has_length, is_bad_host, is_bad_coding, is_bad_length, is_encoded, content_length, fields_refusal, asks_to_continue}
+use Rattle.http_frames.specs.HeadRules.{FIELD_LIMIT, is_named, count_named, any_value, is_length, is_chunked, is_bad_host, is_bad_coding, is_bad_length, is_encoded, content_length, fields_refusal, asks_to_continue}
 use Rattle.http_frames.specs.Said.{IsSaid, IsMore, broken, asks}
 
 -- one field more
