@@ -1,7 +1,9 @@
 mod Answering
+mod Building
 mod Computing
+mod Fronts
 mod Heights
-mod Membership
+pub mod Membership
 mod Numbers
 mod Producing
 mod Quotations

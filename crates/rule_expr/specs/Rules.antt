@@ -1,5 +1,5 @@
 -- Which texts are rules.
-use Rattle.std.specs.Prelude.{◌≡◌, ◌≤◌, ℕ, List, [], ◌∷◌, Ok}
+use Rattle.std.specs.Prelude.{◌≡◌, ◌≤◌, ℕ, List, [], ◌∷◌, ◌++◌, Ok}
 use Rattle.rule_expr.specs.declared.part.Part.TheVariants as parts
 use Rattle.rule_expr.specs.declared.part.Word.{Word}
 use Rattle.rule_expr.specs.Parts.{part_at, name_at, behind, after_blanks, quoted}
@@ -23,3 +23,11 @@ pub record IsRule (text : List ℕ) (tree : Tree Trees.or) : Type 0 where
   pub leads : Leads (after_blanks text) (spelled tree) rest
   pub ends : part_at rest ≡ parts.End
   pub within : levels tree ≤ 32
+
+-- the parts up to a place are the first ones of a tree, in which any number of brackets may stand within one another
+pub record IsFront (text rest : List ℕ) : Type 0 where
+  pub tree : Tree Trees.or
+  pub read : List Token
+  pub later : List Token
+  pub leads : Leads (after_blanks text) read rest
+  pub same : spelled tree ≡ read ++ later

@@ -1,9 +1,11 @@
 //! What holds of the definitions that the contracts cite, as functions whose contract is the law.
 ghost use Rattle.std.specs.Prelude.{◌≡◌, Bool, true, false, Option, Some, None, codes, List, ℕ};
-ghost use Rattle.rule_expr.specs.Rules.{IsRule};
+ghost use Rattle.rule_expr.specs.Rules.{IsFront, IsRule};
 ghost use Rattle.rule_expr.specs.Trees.{Tree, or, unary, choice, no_items};
 ghost use Rattle.rule_expr.specs.Values.{Event, Value, both, either, value, flag, number, text, null, equal, compared};
-ghost use Rattle.rule_expr.specs.Walks.{IsRefused};
+ghost use Rattle.rule_expr.specs.Parts.{after_blanks};
+ghost use Rattle.rule_expr.specs.Places.{ended as at_end};
+ghost use Rattle.rule_expr.specs.Walks.{Comes, IsRefused, start};
 ghost use Rattle.rule_expr.specs.Wholes.{whole, whole_of};
 ghost use Rattle.rule_expr.specs.declared.error.RuleErr.{RuleErr};
 ghost use Rattle.rule_expr.specs.declared.part.Relation.TheVariants.{Equal, Unlike};
@@ -12,6 +14,13 @@ ghost use Rattle.rule_expr.specs.declared.part.Relation.TheVariants.{Equal, Unli
 pub fn rules_and_refusals()
     ensures apart { (text : List ℕ) (tree : Tree or) (why : RuleErr) → IsRule text tree → IsRefused text why → ⊥ }
     ensures once { (text : List ℕ) (one other : RuleErr) → IsRefused text one → IsRefused text other → one ≡ other }
+{}
+
+/// Each text that the table takes to its end is a rule; and the parts that stand before a refusal are the first ones of a tree of the
+/// grammar, so that the text leaves the grammar no sooner. The depth of that tree is not counted.
+pub fn ends_and_fronts()
+    ensures ends { (text : List ℕ) → Comes start (after_blanks text) at_end → (tree : Tree or) × IsRule text tree }
+    ensures fronts { (text : List ℕ) (why : RuleErr) (refused : IsRefused text why) → IsFront text refused.comes.rest }
 {}
 
 /// False on either side of `&&` makes it false, true on either side of `||` makes it true, whatever stands on the other, an
