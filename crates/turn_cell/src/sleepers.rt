@@ -38,6 +38,11 @@ impl Sleepers {
         }
     }
 
+    /// Whether a seat without a ticket may sleep.
+    pub(crate) fn has_comers(&self) -> bool {
+        self.comers.load(Ordering::SeqCst) != 0
+    }
+
     /// Says that a seat with a ticket is about to sleep.
     pub(crate) fn enter(&self) {
         self.heirs.fetch_add(1, Ordering::SeqCst);

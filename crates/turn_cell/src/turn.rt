@@ -21,7 +21,7 @@ use std::thread::yield_now;
 const MOST_ENTRIES: u64 = 1 << 62;
 
 // How often a seat without a ticket looks before it sleeps, and how often it sleeps before it draws a ticket while others have one.
-const GLIMPSES: u32 = 100;
+const GLIMPSES: u32 = 6;
 
 const PATIENCE: u32 = 8;
 
@@ -37,15 +37,28 @@ fn is_quiet<O: Object>(table: &Words<O>) -> bool
     table.peek(TICKET) == table.peek(SERVING)
 }
 
-/// Whether nobody has a ticket at one of some looks.
-fn falls_quiet<O: Object>(table: &Words<O>) -> bool
+/// Spins for so many looks.
+fn pause(spins: u32) {
+    for _ in 0..spins {
+        spin_loop();
+    }
+}
+
+/// Whether nobody has a ticket at one of some looks, which come ever later. Where others sleep already it gives up at once: they are better woken
+/// one by one than looked past.
+fn falls_quiet<O: Object>(table: &Words<O>, sleepers: &Sleepers) -> bool
     requires { table.now.table_id.words ≡ 16 }
 {
+    let mut spins: u32 = 1;
     for _ in 0..GLIMPSES {
         if is_quiet(table) {
             return true;
         }
-        spin_loop();
+        if sleepers.has_comers() {
+            return false;
+        }
+        pause(spins);
+        spins = spins.saturating_mul(2);
     }
     false
 }
@@ -58,7 +71,7 @@ fn approach<O: Object, R: Wait>(rt: &R, table: &Words<O>, sleepers: &Sleepers)
         return;
     }
     for slept in 0..PATIENCE {
-        if falls_quiet(table) {
+        if falls_quiet(table, sleepers) {
             if slept != 0 {
                 sleepers.announce();
             }
