@@ -9,6 +9,7 @@ mod message;
 mod method;
 mod moment;
 mod sequence;
+mod shared;
 mod text;
 
 pub use blob::{Blob, NotText};

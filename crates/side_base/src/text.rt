@@ -2,6 +2,7 @@ ghost use Rattle.std.specs.Prelude.{◌≡◌, ℕ, List, [], ◌++◌, ◌↔�
 ghost use Rattle.std.specs.String.{string_bytes};
 ghost use Rattle.side_base.specs.Text.{IsNotUtf8At};
 
+use crate::shared::SharedBytes;
 use crate::{Blob, NoMemory};
 use std::alloc::Global;
 use std::error::Error;
@@ -28,11 +29,27 @@ impl fmt::Display for TextErr {
 
 impl Error for TextErr {}
 
-/// What a text holds: a text of the program itself, with the allocator that a change takes, or one of its own.
+/// Bytes that several values may hold, and that are a text.
+#[derive(Debug, Drop)]
+struct SharedText {
+    bytes: SharedBytes,
+    ghost utf8: { ∥ IsUtf8 bytes ∥₁ },
+}
+
+impl SharedText {
+    fn as_str(&self) -> &str
+        ensures { result.now ≡ self.now.bytes }
+    {
+        unsafe { str::from_utf8_unchecked(self.bytes.bytes()) }
+    }
+}
+
+/// What a text holds: a text of the program itself, with the allocator that a change takes, one of its own, or one that others hold too.
 #[derive(Debug, Drop)]
 enum Held {
     Fixed(Global, &'static str),
     Owned(String),
+    Shared(SharedText),
 }
 
 /// A text in UTF-8. Contracts see it as the list of its bytes.
@@ -76,6 +93,16 @@ impl Text {
         }
     }
 
+    /// The text of bytes that others may hold too; takes no memory. A change of it takes a copy first.
+    pub(crate) fn from_shared(bytes: SharedBytes) -> Text
+        requires { IsUtf8 bytes }
+        ensures { result ≡ bytes }
+    {
+        Text {
+            held: Held::Shared(SharedText { bytes }),
+        }
+    }
+
     /// A copy of `bytes` as a text.
     pub fn from_bytes(alloc: Global, bytes: &[u8]) -> Result<Text, TextErr>
         ensures text { IfOk result (λ text. (text ≡ bytes.now) × IsUtf8 bytes.now) }
@@ -109,6 +136,12 @@ impl Text {
                 self.held = Held::Owned(string);
                 Ok(())
             }
+            Held::Shared(shared) => {
+                let mut string = String::from_str(shared.bytes.alloc(), shared.as_str())?;
+                string.push_str(piece)?;
+                self.held = Held::Owned(string);
+                Ok(())
+            }
         }
     }
 
@@ -128,6 +161,7 @@ impl Text {
         match &self.held {
             Held::Fixed(_, text) => *text,
             Held::Owned(string) => string.as_str(),
+            Held::Shared(shared) => shared.as_str(),
         }
     }
 
@@ -152,6 +186,7 @@ impl Text {
         match &self.held {
             Held::Fixed(alloc, text) => Ok(Text::from_static(*alloc, *text)),
             Held::Owned(string) => Ok(Text::from_string(string.clone()?)),
+            Held::Shared(shared) => Ok(Text::from_shared(shared.bytes.copy()?)),
         }
     }
 
@@ -163,6 +198,7 @@ impl Text {
         match self.held {
             Held::Fixed(alloc, text) => Blob::from_bytes(alloc, text.as_bytes()),
             Held::Owned(string) => Ok(Blob::from_vec(string.into_bytes())),
+            Held::Shared(shared) => Ok(Blob::from_shared(shared.bytes)),
         }
     }
 }
