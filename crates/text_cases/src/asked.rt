@@ -2,6 +2,7 @@
 
 use crate::blobs::{add_blob, add_literal};
 use crate::built::add_built;
+use crate::copies::add_copies;
 use crate::fields::{add_first_item, add_has_item, add_value};
 use crate::json::add_tree;
 use crate::lanes::{add_above, add_each_byte, add_escaped, add_lanes, add_special};
@@ -34,6 +35,7 @@ fn of_base(alloc: Global, word: &str, given: &[u8], lines: &mut Lines) -> bool {
         "utf8" => add_utf8(alloc, given, lines),
         "into-text" => add_into_text(alloc, given, lines),
         "blob" => add_blob(alloc, given, lines),
+        "copies" => add_copies(alloc, given, lines),
         "literal" => add_literal(alloc, given, lines),
         "sequence" => add_sequence(alloc, given, lines),
         _ => return false,

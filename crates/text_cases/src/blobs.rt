@@ -24,7 +24,7 @@ fn ask(blob: &Blob, what: u8, lines: &mut Lines) {
     }
 }
 
-fn step(blob: &mut Blob, word: &[u8], lines: &mut Lines) -> Result<(), NoMemory> {
+pub(crate) fn step(blob: &mut Blob, word: &[u8], lines: &mut Lines) -> Result<(), NoMemory> {
     match word {
         [b'+', piece @ ..] => blob.push(piece),
         [b'\'', byte] => blob.push_byte(*byte),

@@ -5,6 +5,7 @@
 mod asked;
 mod blobs;
 mod built;
+mod copies;
 mod fields;
 mod json;
 mod lanes;
