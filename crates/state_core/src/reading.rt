@@ -37,7 +37,7 @@ pub(crate) fn get<K: Keeper>(alloc: Global, keeper: &K, key: &Text, moment: u64)
 {
     match live_row(keeper, key.as_str(), moment) {
         None => Reply::Absent,
-        Some(row) => match Blob::from_bytes(alloc, row.value) {
+        Some(row) => match copy_of(alloc, row.value) {
             Ok(value) => Reply::Value {
                 value,
                 version: row.version,
@@ -106,7 +106,14 @@ fn copied(alloc: Global, row: &RowView<'_>) -> Result<Found, NoMemory>
     ensures { IfOk result (λ found. option_map found_of (seen (Some row.now)) ≡ Some found) }
 {
     Ok(Found {
-        value: Blob::from_bytes(alloc, row.value)?,
+        value: copy_of(alloc, row.value)?,
         version: row.version,
     })
+}
+
+/// The bytes of a value for a reply, which are written out and not copied again.
+fn copy_of(alloc: Global, value: &[u8]) -> Result<Blob, NoMemory>
+    ensures { IfOk result (λ blob. blob ≡ value.now) }
+{
+    Ok(Blob::from_vec(value.to_vec(alloc)?))
 }
