@@ -32,7 +32,7 @@ fn all_items(alloc: Global, doc: &Doc<'_>, mut members: Members) -> Result<Vec<I
     requires { AllNodes doc.now members }
     ensures { IfOk result (λ items. AreItems doc.now members items.items) }
 {
-    let mut items = Vec::new(alloc);
+    let mut items = Vec::with_capacity(alloc, members.len())?;
     while let Some(member) = members.take_first() {
         match add(alloc, doc, &mut items, member) {
             Ok(()) => {}

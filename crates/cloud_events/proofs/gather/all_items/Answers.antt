@@ -7,7 +7,7 @@ use Rattle.cloud_events.proofs.gather.all_items.Goals as goal
 pub loop-member-init : goal.loop-member-init
 loop-member-init c = record {
   nodes = c.requires;
-  going = λ more h. subst (λ (xs : List Item). AreItems c.args.doc.now c.args.members (xs ++ more)) (sym c.new-items.ensures.items) h;
+  going = λ more h. subst (λ (xs : List Item). AreItems c.args.doc.now c.args.members (xs ++ more)) (sym c.in_ok-items.ensures.items) h;
 }
 
 pub add-requires : goal.add-requires
