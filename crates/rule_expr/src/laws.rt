@@ -1,6 +1,9 @@
 //! What holds of the definitions that the contracts cite, as functions whose contract is the law.
 ghost use Rattle.std.specs.Prelude.{◌≡◌, Bool, true, false, Option, Some, None, codes, List, ℕ};
+ghost use Rattle.json_text.specs.declared.doc.Doc.{Doc};
+ghost use Rattle.json_text.specs.Doc.{Shows};
 ghost use Rattle.rule_expr.specs.Rules.{IsFront, IsRule};
+ghost use Rattle.rule_expr.specs.Standing.{IsEvent};
 ghost use Rattle.rule_expr.specs.Trees.{Tree, or, unary, choice, no_items};
 ghost use Rattle.rule_expr.specs.Values.{Event, Value, both, either, value, flag, number, text, null, equal, compared};
 ghost use Rattle.rule_expr.specs.Parts.{after_blanks};
@@ -9,6 +12,15 @@ ghost use Rattle.rule_expr.specs.Walks.{Comes, IsRefused, start};
 ghost use Rattle.rule_expr.specs.Wholes.{whole, whole_of};
 ghost use Rattle.rule_expr.specs.declared.error.RuleErr.{RuleErr};
 ghost use Rattle.rule_expr.specs.declared.part.Relation.TheVariants.{Equal, Unlike};
+
+use json_text::laws::the_root_is_the_value_of_the_text;
+
+/// A document that was read shows an event, over which each rule has its value: that of the text and its values.
+pub fn a_document_shows_an_event()
+    ensures { (doc : Doc) (event : Event) (shows : Shows doc event.bytes) → event.values ≡ shows.values → IsEvent doc event }
+{
+    the_root_is_the_value_of_the_text();
+}
 
 /// A text that is a rule is refused nowhere, and one that is refused is so at one place and for one cause.
 pub fn rules_and_refusals()

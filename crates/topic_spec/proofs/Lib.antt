@@ -3,4 +3,5 @@ mod Gathering
 mod Members
 mod Pathing
 mod Readings
+mod Sound
 mod Steps

@@ -6,3 +6,4 @@ pub mod Reading
 pub mod Loading
 pub mod Joining
 pub mod Aiming
+pub mod Laws

@@ -6,6 +6,7 @@ mod aiming;
 mod choosing;
 mod documents;
 mod draft;
+pub mod laws;
 mod listed;
 mod loading;
 mod reading;
