@@ -13,6 +13,7 @@ fn short() -> DoorLimits {
     DoorLimits {
         places: 200,
         idle_ms: 60_000,
+        crowded_ms: 20,
         patience_ms: 60,
         pressed_ms: 20,
     }
