@@ -13,6 +13,7 @@ fn short() -> DoorLimits {
     DoorLimits {
         places: 200,
         idle_ms: 60_000,
+        crowded_ms: 20,
         patience_ms: 60,
         pressed_ms: 20,
     }
@@ -114,36 +115,73 @@ fn serve_to_the_end<R: Wait + AllocGlobal>(worker: &mut TcpAcceptor<R>) {
     }
 }
 
-/// How many bytes a client is answered while four others have sent half a request each.
-fn answered_beside_halves<R: Net<Listener = TcpListener, Stream = TcpStream> + Clock + AllocGlobal>(
+/// Connects so many clients, each of which sends half a request.
+fn send_halves<R: Net<Listener = TcpListener, Stream = TcpStream> + AllocGlobal>(
     rt: &R,
     port: u16,
-) -> io::Result<usize> {
+    count: u32,
+) -> io::Result<Vec<TcpStream>> {
     let mut halves = Vec::new(rt.alloc());
-    for _ in 0..4u32 {
+    for _ in 0..count {
         let mut half = connect(rt, port)?;
         half.write_all(b"half")?;
         halves.push(half)?;
     }
-    sleep(rt, Duration::from_millis(300));
-    let mut whole = connect(rt, port)?;
-    whole.write_all(b"whole.")?;
-    piece_of(&mut whole)
+    Ok(halves)
 }
 
-/// The same with a door that is shut afterwards.
-fn answered_at<R: Net<Listener = TcpListener, Stream = TcpStream> + Clock + AllocGlobal>(
+/// How many bytes one client more is answered within three seconds while so many others have sent half a request each.
+fn answered_beside_halves<R: Net<Listener = TcpListener, Stream = TcpStream> + Clock + AllocGlobal>(
     rt: &R,
-    door: &TcpDoor,
+    port: u16,
+    count: u32,
 ) -> io::Result<usize> {
-    let answered = answered_beside_halves(rt, door.port()?);
-    door.shut();
+    let halves = send_halves(rt, port, count)?;
+    sleep(rt, Duration::from_millis(300));
+    let mut whole = connect(rt, port)?;
+    whole.set_read_timeout(Some(Duration::from_millis(3_000)))?;
+    whole.write_all(b"whole.")?;
+    let answered = piece_of(&mut whole);
+    drop(halves);
     answered
 }
 
-#[test]
-fn four_half_requests_leave_a_worker_to_a_fifth_client(rt: HostRuntime) -> Result<(), Fail> {
+/// The same while four others go on sending, a few bytes a millisecond, for three seconds.
+fn answered_beside_drips<R: Net<Listener = TcpListener, Stream = TcpStream> + Clock + AllocGlobal>(
+    rt: &R,
+    port: u16,
+) -> io::Result<usize> {
+    let mut drips = send_halves(rt, port, 4)?;
+    let mut whole = connect(rt, port)?;
+    for round in 0..3_000u32 {
+        for drip in drips.iter_mut() {
+            // Where its connection was closed, it sends no more.
+            let _ = drip.write_all(b"half");
+        }
+        if round == 300 {
+            whole.write_all(b"whole.")?;
+        }
+        sleep(rt, Duration::from_millis(1));
+    }
+    whole.set_nonblocking(true)?;
+    piece_of(&mut whole)
+}
+
+/// What comes of clients of a door with four workers, which is shut afterwards.
+fn beside_workers<R, F>(rt: R, clients: F) -> io::Result<usize>
+where
+    R: Net<Listener = TcpListener, Stream = TcpStream>
+        + Threads
+        + Wait
+        + AllocGlobal
+        + Copy
+        + Drop
+        + Send
+        + Sync,
+    F: FnOnce(u16) -> io::Result<usize> + Send,
+{
     let door = TcpDoor::open(&rt, 0)?;
+    let port = door.port()?;
     let mut workers = Vec::new(rt.alloc());
     for _ in 0..4u32 {
         workers.push(door.acceptor(rt)?)?;
@@ -151,8 +189,32 @@ fn four_half_requests_leave_a_worker_to_a_fifth_client(rt: HostRuntime) -> Resul
     let (_, answered) = join(
         &rt,
         || for_each_mut(&rt, &mut workers, 4, &|_, worker| serve_to_the_end(worker)),
-        || answered_at(&rt, &door),
+        || {
+            let answered = clients(port);
+            door.shut();
+            answered
+        },
     );
-    assert_eq!(rt; answered?, 6);
+    answered
+}
+
+#[test]
+fn four_half_requests_leave_a_worker_to_a_fifth_client(rt: HostRuntime) -> Result<(), Fail> {
+    let answered = beside_workers(rt, |port| answered_beside_halves(&rt, port, 4))?;
+    assert_eq!(rt; answered, 6);
+    Ok(())
+}
+
+#[test]
+fn sixty_half_requests_leave_a_worker_to_another_client(rt: HostRuntime) -> Result<(), Fail> {
+    let answered = beside_workers(rt, |port| answered_beside_halves(&rt, port, 60))?;
+    assert_eq!(rt; answered, 6);
+    Ok(())
+}
+
+#[test]
+fn four_slow_requests_leave_a_worker_to_a_fifth_client(rt: HostRuntime) -> Result<(), Fail> {
+    let answered = beside_workers(rt, |port| answered_beside_drips(&rt, port))?;
+    assert_eq!(rt; answered, 6);
     Ok(())
 }

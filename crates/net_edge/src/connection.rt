@@ -1,6 +1,7 @@
 ghost use Rattle.std.specs.Prelude.{◌≡◌, ◌≤◌, length, IfOk, IfSome};
 
 use crate::door::Door;
+use crate::pace::Pace;
 use crate::waiting::{now_ms, wait_for_bytes, wait_for_room};
 use std::io::{self, ErrorKind, Read, Write};
 use std::net::{Shutdown, TcpStream};
@@ -24,11 +25,11 @@ pub(crate) fn read_now(stream: &TcpStream, into: &mut [u8]) -> io::Result<Option
     }
 }
 
-/// Reads what comes in time from a peer that was to send something from this moment on; nothing where it doesn't.
+/// Reads what comes in time from a peer that keeps this pace; nothing where it doesn't.
 pub(crate) fn read_in_time(
     door: &Door,
     stream: &TcpStream,
-    since: u64,
+    pace: &mut Pace,
     into: &mut [u8],
 ) -> io::Result<usize>
     ensures { IfOk result (λ n. n ≤ length into.new) }
@@ -37,20 +38,27 @@ pub(crate) fn read_in_time(
         return Ok(n);
     }
     door.begin_wait();
-    let outcome = await_bytes(door, stream, since, into);
+    let outcome = await_bytes(door, stream, pace, into);
     door.end_wait();
     outcome
 }
 
-fn await_bytes(door: &Door, stream: &TcpStream, since: u64, into: &mut [u8]) -> io::Result<usize>
+fn await_bytes(
+    door: &Door,
+    stream: &TcpStream,
+    pace: &mut Pace,
+    into: &mut [u8],
+) -> io::Result<usize>
     ensures { IfOk result (λ n. n ≤ length into.new) }
 {
     for _ in 0..LOOKS {
-        let ms = door.patience(since);
+        let ms = door.patience(pace);
         if ms == 0 {
             return Ok(0);
         }
+        let begin = now_ms();
         wait_for_bytes(stream.as_raw_fd(), ms);
+        pace.wait(now_ms().saturating_sub(begin));
         if let Some(n) = read_now(stream, into)? {
             return Ok(n);
         }
@@ -70,29 +78,35 @@ fn write_now(stream: &TcpStream, piece: &[u8]) -> io::Result<Option<usize>>
     }
 }
 
-/// Writes what the peer takes in time; nothing where it doesn't take any.
-pub(crate) fn write_in_time(door: &Door, stream: &TcpStream, piece: &[u8]) -> io::Result<usize>
+/// Writes what the peer takes in time, which keeps this pace; nothing where it doesn't take any.
+pub(crate) fn write_in_time(
+    door: &Door,
+    stream: &TcpStream,
+    pace: &mut Pace,
+    piece: &[u8],
+) -> io::Result<usize>
     ensures { IfOk result (λ n. n ≤ length piece.now) }
 {
     if let Some(n) = write_now(stream, piece)? {
         return Ok(n);
     }
     door.begin_wait();
-    let outcome = await_room(door, stream, piece);
+    let outcome = await_room(door, stream, pace, piece);
     door.end_wait();
     outcome
 }
 
-fn await_room(door: &Door, stream: &TcpStream, piece: &[u8]) -> io::Result<usize>
+fn await_room(door: &Door, stream: &TcpStream, pace: &mut Pace, piece: &[u8]) -> io::Result<usize>
     ensures { IfOk result (λ n. n ≤ length piece.now) }
 {
-    let since = now_ms();
     for _ in 0..LOOKS {
-        let ms = door.patience(since);
+        let ms = door.patience(pace);
         if ms == 0 {
             return Ok(0);
         }
+        let begin = now_ms();
         wait_for_room(stream.as_raw_fd(), ms);
+        pace.wait(now_ms().saturating_sub(begin));
         if let Some(n) = write_now(stream, piece)? {
             return Ok(n);
         }

@@ -1,4 +1,5 @@
 use crate::door_limits::DoorLimits;
+use crate::pace::Pace;
 use crate::places::{Coming, Places};
 use crate::ready_set::{Bell, ReadySet};
 use crate::waiting::now_ms;
@@ -219,7 +220,7 @@ impl Door {
     /// Accepts none for a while, and closes what has idled for long.
     fn pause(&self) {
         let now = now_ms();
-        let before = now.saturating_sub(self.limits.pressed_ms);
+        let before = now.saturating_sub(self.limits.crowded_ms);
         self.places.sweep(before);
         self.resumes_at
             .store(now.saturating_add(PAUSE_MS), Ordering::SeqCst);
@@ -257,16 +258,21 @@ impl Door {
         self.waiting.fetch_sub(1, Ordering::SeqCst);
     }
 
-    /// For how many milliseconds a peer that was to do something from this moment on may be waited for before another look; 0
-    /// where its time is over.
-    pub(crate) fn patience(&self, since: u64) -> i32 {
-        let is_pressed = self.waiting.load(Ordering::SeqCst) >= self.workers.load(Ordering::SeqCst);
-        let limit = if is_pressed {
-            self.limits.pressed_ms
+    /// For how many milliseconds a peer may be waited for before another look; 0 where its time is over.
+    pub(crate) fn patience(&self, pace: &Pace) -> i32 {
+        let left = if self.is_pressed() {
+            self.limits
+                .pressed_ms
+                .saturating_sub(pace.owed_while_pressed())
         } else {
-            self.limits.patience_ms
+            self.limits.patience_ms.saturating_sub(pace.owed())
         };
-        let gone = now_ms().saturating_sub(since);
-        limit.saturating_sub(gone).min(LOOK_MS as u64) as i32
+        left.min(LOOK_MS as u64) as i32
+    }
+
+    /// Whether all workers wait for slow peers, and something else wants one of them.
+    fn is_pressed(&self) -> bool {
+        self.waiting.load(Ordering::SeqCst) >= self.workers.load(Ordering::SeqCst)
+            && self.set.has_ready()
     }
 }

@@ -14,9 +14,11 @@ pub struct DoorLimits {
     pub places: usize,
     /// A connection on which nothing comes for so long between two requests is closed.
     pub idle_ms: u64,
-    /// A peer may take so long for a whole request, and so long to read any of a response.
+    /// The same where there is no room for a new one.
+    pub crowded_ms: u64,
+    /// A worker waits so long for the rest of a request, and so long for a peer that doesn't read.
     pub patience_ms: u64,
-    /// The same where all workers wait for slow peers, and for an idle connection where there is no room for a new one.
+    /// The same where all workers wait so, and another connection, or other work, wants one of them.
     pub pressed_ms: u64,
 }
 
@@ -26,8 +28,9 @@ impl DoorLimits {
         DoorLimits {
             places: places(),
             idle_ms: 60_000,
+            crowded_ms: 1_000,
             patience_ms: 30_000,
-            pressed_ms: 1_000,
+            pressed_ms: 100,
         }
     }
 }

@@ -10,6 +10,7 @@ mod host_disk;
 mod host_files;
 mod host_outside;
 mod no_link;
+mod pace;
 mod places;
 mod ready_set;
 mod start_numbers;

@@ -1,3 +1,4 @@
+use crate::waiting::has_bytes;
 use libc::EINTR;
 use libc::net::{
     EFD_CLOEXEC, EFD_NONBLOCK, EPOLL_CLOEXEC, EPOLL_CTL_ADD, EPOLL_CTL_MOD, EPOLLIN, EPOLLONESHOT,
@@ -38,6 +39,11 @@ impl ReadySet {
             return Err(last_error());
         }
         Ok(())
+    }
+
+    /// Whether one is ready that was not reported yet.
+    pub(crate) fn has_ready(&self) -> bool {
+        has_bytes(self.set.as_raw_fd())
     }
 
     /// The number of one that is ready; `None` where none was within the milliseconds.

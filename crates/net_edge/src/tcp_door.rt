@@ -10,8 +10,9 @@ use std::sync::{Arc, Wait};
 ///
 /// A connection, as its acceptors give it, is a stretch of a TCP connection: from a moment at which something is there to read
 /// until one at which, between two requests, nothing more is. Then it waits at the door again, and takes no worker's time. One
-/// that says nothing for 60 seconds is closed, and so is one that takes more than 30 seconds, and a millisecond for each byte,
-/// for a request: more than 1 second where all workers wait for such peers.
+/// that says nothing for 60 seconds is closed, and so is one for which a worker waits more than 30 seconds, and a millisecond for
+/// each byte, within a request: more than 100 milliseconds, and one for each 1,024 bytes, where all workers wait for such peers and
+/// something else is ready for one of them.
 #[derive(Drop)]
 pub struct TcpDoor {
     door: Arc<Door>,

@@ -3,6 +3,7 @@ ghost use Rattle.std.specs.Prelude.{◌≡◌, None};
 use crate::connection::write_in_time;
 use crate::door::Door;
 use crate::fault_count::FaultCount;
+use crate::pace::Pace;
 use side_world::{Failed, Sink};
 use std::net::TcpStream;
 use std::sync::Arc;
@@ -14,6 +15,8 @@ use std::sync::Arc;
 pub struct TcpSink {
     door: Arc<Door>,
     stream: Arc<TcpStream>,
+    /// How the peer takes what it is sent.
+    pace: Pace,
     pub(crate) faults: FaultCount,
 }
 
@@ -27,6 +30,7 @@ impl TcpSink {
         TcpSink {
             door,
             stream,
+            pace: Pace::new(),
             faults: FaultCount::none(),
         }
     }
@@ -38,6 +42,7 @@ impl TcpSink {
         let TcpSink {
             door: _,
             stream: _,
+            pace: _,
             faults,
         } = self;
         !faults.is_none()
@@ -50,8 +55,11 @@ impl Sink for TcpSink {
     ghost faults = { λ s. s.faults };
 
     fn write(&mut self, piece: &[u8]) -> Result<usize, Failed> {
-        match write_in_time(&self.door, &self.stream, piece) {
-            Ok(n) if n > 0 => Ok(n),
+        match write_in_time(&self.door, &self.stream, &mut self.pace, piece) {
+            Ok(n) if n > 0 => {
+                self.pace.note(n);
+                Ok(n)
+            }
             _ => Err(self.faults.fail()),
         }
     }

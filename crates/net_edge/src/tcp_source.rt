@@ -3,7 +3,7 @@ ghost use Rattle.std.specs.Prelude.{◌≡◌, None, true};
 use crate::connection::{read_in_time, read_now};
 use crate::door::Door;
 use crate::fault_count::FaultCount;
-use crate::waiting::now_ms;
+use crate::pace::Pace;
 use side_world::{Failed, Source};
 use std::io;
 use std::net::TcpStream;
@@ -12,41 +12,11 @@ use std::sync::Arc;
 /// How many requests of one connection are served before others have their turn.
 const REQUESTS_AT_ONCE: u32 = 64;
 
-/// How the requests of a stretch come.
-#[derive(Drop)]
-struct Pace {
-    /// How many reads between two requests gave some of one.
-    requests: u32,
-    /// The moment from which the time of the present request is counted, in milliseconds.
-    since: u64,
-}
-
-impl Pace {
-    /// None has come.
-    fn new() -> Self {
-        Pace {
-            requests: 0,
-            since: 0,
-        }
-    }
-
-    /// So many bytes came. They begin a request, or give the present one as many milliseconds more.
-    fn note(&mut self, begins: bool, n: usize) {
-        let now = now_ms();
-        if begins {
-            self.requests = self.requests.saturating_add(1);
-            self.since = now;
-        } else {
-            self.since = self.since.saturating_add(n as u64).min(now);
-        }
-    }
-}
-
 /// What the peer of a connection sends in one stretch: from a moment at which something is there until one at which, between
 /// two requests, nothing more is. It tells no content.
 ///
 /// Between two requests, of which `between` tells it, a read looks once, and answers 0 where nothing is there. Within a request
-/// it waits, and answers 0 where the time for the request is over. Each error of the connection is a fault.
+/// it waits, and answers 0 where it has waited too long in this stretch. Each error of the connection is a fault.
 pub struct TcpSource {
     door: Arc<Door>,
     stream: Arc<TcpStream>,
@@ -55,6 +25,9 @@ pub struct TcpSource {
     /// The last read answered that the stretch ended between two requests.
     pub(crate) rests: bool,
     ended: bool,
+    /// How many reads there were between two requests.
+    requests: u32,
+    /// How what it sends within requests comes.
     pace: Pace,
     pub(crate) faults: FaultCount,
     ghost rest_ends: { rests ≡ true → ended ≡ true },
@@ -76,6 +49,7 @@ impl TcpSource {
             is_between: true,
             rests: false,
             ended: false,
+            requests: 0,
             pace: Pace::new(),
             faults: FaultCount::none(),
         }
@@ -91,6 +65,7 @@ impl TcpSource {
             is_between: _,
             rests,
             ended: _,
+            requests: _,
             pace: _,
             faults,
         } = self;
@@ -98,17 +73,23 @@ impl TcpSource {
     }
 
     /// What comes next; `None` where the stretch ends between two requests.
-    fn next_bytes(&self, into: &mut [u8]) -> io::Result<Option<usize>>
+    fn next_bytes(&mut self, into: &mut [u8]) -> io::Result<Option<usize>>
         ensures within { IfOk result (λ found. IfSome found (λ n. n ≤ length into.new)) }
-        ensures rests { IfOk result (λ found. found ≡ None → self.now.is_between ≡ true) }
+        ensures rests { IfOk result (λ found. found ≡ None → self.old.is_between ≡ true) }
+        ensures is_between { self.new.is_between ≡ self.old.is_between }
+        ensures does_not_rest { self.new.rests ≡ self.old.rests }
+        ensures ended { self.new.ended ≡ self.old.ended }
+        ensures faults { self.new.faults ≡ self.old.faults }
     {
         if !self.is_between {
-            let n = read_in_time(&self.door, &self.stream, self.pace.since, into)?;
+            let n = read_in_time(&self.door, &self.stream, &mut self.pace, into)?;
+            self.pace.note(n);
             return Ok(Some(n));
         }
-        if self.pace.requests >= REQUESTS_AT_ONCE {
+        if self.requests >= REQUESTS_AT_ONCE {
             return Ok(None);
         }
+        self.requests = self.requests.saturating_add(1);
         read_now(&self.stream, into)
     }
 }
@@ -127,7 +108,6 @@ impl Source for TcpSource {
         let found = self.next_bytes(into);
         match self.faults.counted(found)? {
             Some(n) => {
-                self.pace.note(self.is_between, n);
                 self.ended = self.ended || n == 0;
                 Ok(n)
             }

@@ -27,11 +27,16 @@ pub(crate) fn wait_for_room(fd: RawFd, ms: i32) {
     wait_for(fd, POLLOUT, ms);
 }
 
-fn wait_for(fd: RawFd, events: i16, ms: i32) {
+/// Whether something can be read now.
+pub(crate) fn has_bytes(fd: RawFd) -> bool {
+    wait_for(fd, POLLIN, 0) > 0
+}
+
+fn wait_for(fd: RawFd, events: i16, ms: i32) -> i32 {
     let mut asked = [pollfd {
         fd,
         events,
         revents: 0,
     }];
-    net::poll(&mut asked, ms);
+    net::poll(&mut asked, ms)
 }

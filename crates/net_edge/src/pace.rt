@@ -1,0 +1,46 @@
+//! How long a peer lets a worker wait.
+
+/// How many bytes are worth a millisecond where others want the worker.
+const BYTES_WHILE_PRESSED: u64 = 1_024;
+
+/// How much of a worker's time a peer owes: for how long it was waited for, less what its bytes are worth.
+#[derive(Clone, Copy)]
+pub(crate) struct Pace {
+    /// In milliseconds, of which each byte is worth one.
+    owed: u64,
+    /// The same where others want the worker, in 1,024ths of a millisecond, of which each byte is worth one.
+    owed_while_pressed: u64,
+}
+
+impl Pace {
+    /// Nothing is owed.
+    pub(crate) fn new() -> Self {
+        Pace {
+            owed: 0,
+            owed_while_pressed: 0,
+        }
+    }
+
+    /// So many bytes came, or were taken.
+    pub(crate) fn note(&mut self, n: usize) {
+        self.owed = self.owed.saturating_sub(n as u64);
+        self.owed_while_pressed = self.owed_while_pressed.saturating_sub(n as u64);
+    }
+
+    /// It was waited for so many milliseconds.
+    pub(crate) fn wait(&mut self, ms: u64) {
+        let parts = ms.saturating_mul(BYTES_WHILE_PRESSED);
+        self.owed = self.owed.saturating_add(ms);
+        self.owed_while_pressed = self.owed_while_pressed.saturating_add(parts);
+    }
+
+    /// How many milliseconds are owed.
+    pub(crate) fn owed(&self) -> u64 {
+        self.owed
+    }
+
+    /// The same where others want the worker.
+    pub(crate) fn owed_while_pressed(&self) -> u64 {
+        self.owed_while_pressed / BYTES_WHILE_PRESSED
+    }
+}
