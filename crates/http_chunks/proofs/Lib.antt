@@ -1,3 +1,4 @@
+pub mod ByteLemmas
 pub mod ChunkStepLemmas
 pub mod ContentLemmas
 pub mod DataLemmas
@@ -5,5 +6,6 @@ pub mod FrontLemmas
 pub mod InChunksLemmas
 pub mod LengthLemmas
 pub mod LineLemmas
+pub mod LinePlaceLemmas
 pub mod SplitLemmas
 pub mod TrailerLemmas

@@ -14,10 +14,10 @@ use Rattle.http_chunks.proofs.SplitLemmas.{split_append}
 use Rattle.http_chunks.proofs.SplitLemmas.{All-front}
 
 -- a line without its end
-abbrev body : ChunkLine → List ℕ
+abbrev pub body : ChunkLine → List ℕ
 body l = l.digits ++ (l.pad ++ print_extension l.extension)
 
-print_body : (l : ChunkLine) → print_chunk_line l ≡ body l ++ 13 ∷ 10 ∷ []
+pub print_body : (l : ChunkLine) → print_chunk_line l ≡ body l ++ 13 ∷ 10 ∷ []
 unfolding print_chunk_line
 print_body l = simp append_assoc
 
@@ -41,7 +41,7 @@ cut_pad pad e p m is_pad is same = elim (split_append p m pad (print_extension e
 ]
 
 -- a front of a line that is not empty is a line without its end
-cut_body : (l : ChunkLine) (p m : List ℕ) → IsChunkLine l → 0 < length p → body l ≡ p ++ m
+pub cut_body : (l : ChunkLine) (p m : List ℕ) → IsChunkLine l → 0 < length p → body l ≡ p ++ m
     → (k : ChunkLine) × IsChunkLine k × (body k ≡ p)
 cut_body l p m is some same = elim (split_append p m l.digits (l.pad ++ print_extension l.extension) (sym same)) [
   | inl (n, whole, rest) ↦

@@ -3,3 +3,4 @@ pub mod ChunkSteps
 pub mod Chunked
 pub mod ContentSteps
 pub mod Front
+pub mod LinePlaces

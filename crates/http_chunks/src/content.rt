@@ -1,7 +1,9 @@
 ghost use Rattle.std.specs.Prelude.{◌≡◌, ◌<◌, ◌≤◌, ℕ, List, Some, None, IfOk, IfSome, IsNone, OnErr, length, drop};
 ghost use Rattle.http_chunks.specs.ContentSteps.{IsInChunks, IsBounded, IsTaken, IsContentStep, EndsIn};
+ghost use Rattle.http_chunks.specs.LinePlaces.{IsLooked};
 
 use crate::chunks::{ChunkStep, DataRead, read_chunk, read_line_end};
+use crate::line_place::{LinePlace, goes_on, place_of, start_of_line};
 use side_base::{Blob, NoMemory};
 use std::alloc::Global;
 
@@ -14,6 +16,8 @@ pub struct Body {
     pub bytes: Blob,
     /// The bytes that have not come of the chunk that was begun, or of content of a known length; `None` between chunks.
     pub left: Option<usize>,
+    /// Between chunks, how far the line was read that stands there.
+    pub looked: LinePlace,
 }
 
 /// What the chunks that came so far lead to.
@@ -30,7 +34,7 @@ pub enum ContentStep {
 }
 
 /// Reads chunks from the place `at` on and moves it behind what it has read, and appends their bytes to the body. Each
-/// byte is read once, however the text goes on, but for those of a line or an end that is not whole.
+/// byte is read once, however the text goes on, but for those of an end that is not whole; of a line that is not whole only bytes that are new are read.
 pub fn read_content(
     alloc: Global,
     text: &[u8],
@@ -41,9 +45,10 @@ pub fn read_content(
     requires bounded { IsBounded body.old }
     ensures within { at.new ≤ length text.now }
     ensures bounded { IsBounded body.new }
+    ensures looked { IsLooked (drop at.old text.now) body.old.left body.old.looked → IsLooked (drop at.new text.now) body.new.left body.new.looked }
     ensures kept { (all : List ℕ) → IsInChunks all (drop at.old text.now) body.old.bytes body.old.left → IsInChunks all (drop at.new text.now) body.new.bytes body.new.left }
     ensures ends { IfOk result (λ step. EndsIn (drop at.new text.now) step) }
-    ensures step { IfOk result (λ step. (all : List ℕ) → IsInChunks all (drop at.old text.now) body.old.bytes body.old.left → IsContentStep all (drop at.new text.now) body.new.bytes step) }
+    ensures step { IfOk result (λ step. (all : List ℕ) → IsInChunks all (drop at.old text.now) body.old.bytes body.old.left → IsLooked (drop at.old text.now) body.old.left body.old.looked → IsContentStep all (drop at.new text.now) body.new.bytes step) }
 {
     loop {
         let found = take_step(alloc, text, at, body)?;
@@ -65,9 +70,10 @@ fn take_step(
     ensures within { at.new ≤ length text.now }
     ensures bounded { IsBounded body.new }
     ensures on { IfOk result (λ found. IsNone found → at.old < at.new) }
+    ensures looked { IsLooked (drop at.old text.now) body.old.left body.old.looked → IsLooked (drop at.new text.now) body.new.left body.new.looked }
     ensures kept { (all : List ℕ) → IsInChunks all (drop at.old text.now) body.old.bytes body.old.left → IsInChunks all (drop at.new text.now) body.new.bytes body.new.left }
     ensures ends { IfOk result (λ found. IfSome found (λ step. EndsIn (drop at.new text.now) step)) }
-    ensures step { IfOk result (λ found. IfSome found (λ step. (all : List ℕ) → IsInChunks all (drop at.old text.now) body.old.bytes body.old.left → IsContentStep all (drop at.new text.now) body.new.bytes step)) }
+    ensures step { IfOk result (λ found. IfSome found (λ step. (all : List ℕ) → IsInChunks all (drop at.old text.now) body.old.bytes body.old.left → IsLooked (drop at.old text.now) body.old.left body.old.looked → IsContentStep all (drop at.new text.now) body.new.bytes step)) }
 {
     match body.left {
         Some(left) => take_data(text, at, body, left),
@@ -88,10 +94,15 @@ fn take_line(
     ensures within { at.new ≤ length text.now }
     ensures bounded { IsBounded body.new }
     ensures on { IfOk result (λ found. IsNone found → at.old < at.new) }
+    ensures looked { IsLooked (drop at.old text.now) body.old.left body.old.looked → IsLooked (drop at.new text.now) body.new.left body.new.looked }
     ensures kept { (all : List ℕ) → IsInChunks all (drop at.old text.now) body.old.bytes body.old.left → IsInChunks all (drop at.new text.now) body.new.bytes body.new.left }
     ensures ends { IfOk result (λ found. IfSome found (λ step. EndsIn (drop at.new text.now) step)) }
-    ensures step { IfOk result (λ found. IfSome found (λ step. (all : List ℕ) → IsInChunks all (drop at.old text.now) body.old.bytes body.old.left → IsContentStep all (drop at.new text.now) body.new.bytes step)) }
+    ensures step { IfOk result (λ found. IfSome found (λ step. (all : List ℕ) → IsInChunks all (drop at.old text.now) body.old.bytes body.old.left → IsLooked (drop at.old text.now) body.old.left body.old.looked → IsContentStep all (drop at.new text.now) body.new.bytes step)) }
 {
+    if goes_on(&text[*at..], body.looked) {
+        body.looked.end = text.len() - *at;
+        return Ok(Some(ContentStep::Need));
+    }
     let step = read_chunk(alloc, &text[*at..], body.bytes.len() as u64)?;
     match step {
         ChunkStep::Chunk { len, size } => {
@@ -100,7 +111,10 @@ fn take_line(
             Ok(None)
         }
         ChunkStep::End { len } => Ok(Some(ContentStep::Whole { len })),
-        ChunkStep::Need => Ok(Some(ContentStep::Need)),
+        ChunkStep::Need => {
+            body.looked = place_of(&text[*at..]);
+            Ok(Some(ContentStep::Need))
+        }
         ChunkStep::TooLong => Ok(Some(ContentStep::TooLong)),
         ChunkStep::Bad => Ok(Some(ContentStep::Bad)),
     }
@@ -119,9 +133,10 @@ fn take_data(
     ensures within { at.new ≤ length text.now }
     ensures bounded { IsBounded body.new }
     ensures on { IfOk result (λ found. IsNone found → at.old < at.new) }
+    ensures looked { IsLooked (drop at.old text.now) body.old.left body.old.looked → IsLooked (drop at.new text.now) body.new.left body.new.looked }
     ensures kept { (all : List ℕ) → IsInChunks all (drop at.old text.now) body.old.bytes body.old.left → IsInChunks all (drop at.new text.now) body.new.bytes body.new.left }
     ensures ends { IfOk result (λ found. IfSome found (λ step. EndsIn (drop at.new text.now) step)) }
-    ensures step { IfOk result (λ found. IfSome found (λ step. (all : List ℕ) → IsInChunks all (drop at.old text.now) body.old.bytes body.old.left → IsContentStep all (drop at.new text.now) body.new.bytes step)) }
+    ensures step { IfOk result (λ found. IfSome found (λ step. (all : List ℕ) → IsInChunks all (drop at.old text.now) body.old.bytes body.old.left → IsLooked (drop at.old text.now) body.old.left body.old.looked → IsContentStep all (drop at.new text.now) body.new.bytes step)) }
 {
     let due = take_due(text, at, body, left)?;
     if due > 0 {
@@ -131,6 +146,7 @@ fn take_data(
         DataRead::Whole => {
             *at += LINE_END_LEN;
             body.left = None;
+            body.looked = start_of_line();
             Ok(None)
         }
         DataRead::Partial => Ok(Some(ContentStep::Need)),

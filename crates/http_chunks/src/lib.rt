@@ -2,6 +2,7 @@
 //!
 //! - `content` joins chunks as their bytes come.
 //!   - `chunks` reads the line of the next chunk, or the end of the chunks.
+//!   - `line_place` tells how far a line was read that is not whole.
 //!   - `chunk_line` reads a chunk's line, and `trailers` what follows the last one.
 //!   - `front` tells what follows a front.
 #![tactic(auto)]
@@ -10,9 +11,11 @@ mod chunk_line;
 mod chunks;
 mod content;
 mod front;
+mod line_place;
 mod trailers;
 
 pub use content::{Body, ContentStep, read_content, take_due};
+pub use line_place::{LinePart, LinePlace, start_of_line};
 pub use trailers::{TrailersRead, section_within};
 
 /// The most bytes of a chunk line, and of trailers.

@@ -8,6 +8,7 @@ use Rattle.http_frames.specs.Progress.{HoldsContent}
 use Rattle.http_chunks.proofs.InChunksLemmas.{due_kept}
 use Rattle.http_frames.proofs.ProgressLemmas.{chunks_of, kept_content, length_taken}
 use Rattle.http_frames.proofs.TurnLemmas.{grown_content}
+use Rattle.http_chunks.proofs.LinePlaceLemmas.{looked_within}
 
 -- more of what is due of a content was taken
 taken_content : (pending text : List ℕ) (at at' : ℕ) (content : Content) (body' : Body) (left due : ℕ) → HoldsContent pending (drop at text) content
@@ -19,6 +20,7 @@ taken_content pending text at at' content body' left due is so taken = by_kind (
     by_kind true e =
         kept_content pending (drop at text) (drop at' text) content body' is e
         (due_kept is.after text at at' content.body body' left due so taken (chunks_of pending (drop at text) content is e))
+        (looked_within (drop at' text) body'.left body'.looked due taken.left_is)
     by_kind false e = length_taken pending text at at' content body' left due is e so taken
 
 -- a piece comes where all bytes before it were read: what is due of it was taken, and the rest is kept

@@ -16,6 +16,7 @@ mod RowLemmas
 mod RunLemmas
 mod SaidLemmas
 mod SentLemmas
+mod StartLemmas
 mod StreamLemmas
 mod TargetLemmas
 mod TurnLemmas

@@ -5,7 +5,7 @@ use Rattle.std.proofs.lemmas.Bool.{false≢true, eqb-true}
 use Rattle.std.proofs.lemmas.List.{append_cancel_right, take-append-le, take_more, drop_more, take_rest}
 use Rattle.std.proofs.lemmas.List.Elements.{All-nil, All-cons, All-head, All-tail, All-append}
 use Rattle.std.proofs.lemmas.List.Sums.{AllPass-from_list_all}
-use Rattle.httparse.specs.Grammar.{RequestHead, IsRequestHead, ReadsRequest, HasNoRequest, NeverHasRequest, MayBecomeRequest, Field, IsField, print_field, print_section, ReadsSection, HasNoSection, NeverHasSection, MayBecomeSection, LineEnd, crlf, lf, print_end, print_blank, print_version, is_token_byte, is_uri_byte, is_value_byte}
+use Rattle.httparse.specs.Grammar.{RequestHead, IsRequestHead, ReadsRequest, HasNoRequest, NeverHasRequest, MayBecomeRequest, Field, IsField, print_field, print_section, ReadsSection, HasNoSection, NeverHasSection, MayBecomeSection, LineEnd, crlf, lf, print_end, print_blank, print_version, IsToken, AllPass, is_token_byte, is_uri_byte, is_value_byte}
 use Rattle.httparse.specs.Pieces.{RequestStart, is_newline}
 use Rattle.httparse.proofs.GrammarLemmas.{request_tree, request_pieces, request_from_pieces, print_request-append, cons-append}
 use Rattle.httparse.proofs.PieceLemmas.{RequestStart_deterministic, Section_skip, Stops_token}
@@ -166,7 +166,7 @@ line_no_feed : (body : List ℕ) (end : LineEnd) → NoFeed body → NoFeed (bod
 line_no_feed body end none = no_feed_append body (before_feed end) none (before_no_feed end)
 
 -- the empty lines in front are line ends alone
-cut_blank : (ends : List LineEnd) (rest l m : List ℕ) → print_blank ends ++ rest ≡ l ++ 10 ∷ m → list_all is_newline l ≡ false
+pub cut_blank : (ends : List LineEnd) (rest l m : List ℕ) → print_blank ends ++ rest ≡ l ++ 10 ∷ m → list_all is_newline l ≡ false
     → (k : List ℕ) × (l ≡ print_blank ends ++ k) × (rest ≡ k ++ 10 ∷ m)
 cut_blank [] rest l m e some = (l, refl, e)
 cut_blank (lf ∷ ends) rest l m e some = elim (cut_line [] (print_blank ends ++ rest) l m (before_no_feed lf) e) [
@@ -250,7 +250,7 @@ cut_section (f ∷ fields) last rest l m all e =
         regroup a b e r = simp append_assoc
 
 -- the start line
-start_body : RequestHead → List ℕ
+unfoldable pub start_body : RequestHead → List ℕ
 start_body h = h.method ++ 32 ∷ (h.target ++ 32 ∷ print_version h.minor)
 
 version_no_feed : (minor : ℕ) → NoFeed (print_version minor)
@@ -267,7 +267,7 @@ start_no_feed h is =
     (no_feed_cons 32 (h.target ++ 32 ∷ print_version h.minor) (λ e. omega (arith, e)) (no_feed_append h.target (32 ∷ print_version h.minor) (no_feed_of is_uri_byte refl h.target is.target.1)
     (no_feed_cons 32 (print_version h.minor) (λ e. omega (arith, e)) (version_no_feed h.minor))))
 
-start_line : (h : RequestHead) (rest : List ℕ) → start_on h rest ≡ print_blank h.blank ++ ((start_body h ++ before_feed h.line_end) ++ 10 ∷ rest)
+pub start_line : (h : RequestHead) (rest : List ℕ) → start_on h rest ≡ print_blank h.blank ++ ((start_body h ++ before_feed h.line_end) ++ 10 ∷ rest)
 unfolding start_body
 start_line h rest =
     ap (λ (t : List ℕ). print_blank h.blank ++ t)
@@ -329,18 +329,24 @@ opens_becoming l m more h some none reads =
           (cut_section h.fields h.last [] k (m ++ more) reads.0.fields at)
     ]
 
+pub token_no_feed : (token : List ℕ) → IsToken token → NoFeed token
+token_no_feed token is = no_feed_of is_token_byte token_stops token is.1
+
+pub target_no_feed : (method target : List ℕ) → IsToken method → AllPass is_uri_byte target → NoFeed (method ++ 32 ∷ target)
+target_no_feed method target token uri =
+    no_feed_append method (32 ∷ target) (token_no_feed method token)
+    (no_feed_cons 32 target (λ x. omega (arith, x)) (no_feed_of is_uri_byte refl target uri))
+
 opens_target : (l m : List ℕ) (blank : List LineEnd) (method target : List ℕ) → list_all is_newline l ≡ false
-    → All (λ b. is_token_byte b ≡ true) method → All (λ b. is_uri_byte b ≡ true) target
+    → IsToken method → AllPass is_uri_byte target
     → l ++ 10 ∷ m ≡ print_blank blank ++ method ++ 32 ∷ target → ⊥
 opens_target l m blank method target some token uri e =
     let cut = cut_blank blank (method ++ 32 ∷ target) l m (sym (e ∙ append_assoc (print_blank blank) method (32 ∷ target))) some in
-    no_feed_none (method ++ 32 ∷ target) cut.0 m
-    (no_feed_append method (32 ∷ target) (no_feed_of is_token_byte token_stops method token)
-    (no_feed_cons 32 target (λ x. omega (arith, x)) (no_feed_of is_uri_byte refl target uri))) cut.2
+    no_feed_none (method ++ 32 ∷ target) cut.0 m (target_no_feed method target token uri) cut.2
 
 pub opens_at : (l m : List ℕ) → list_all is_newline l ≡ false → HasNoRequest (l ++ 10 ∷ m) → MayBecomeRequest (l ++ 10 ∷ m) → OpensHead (l ++ 10 ∷ [])
 opens_at l m some none (inl (more, h, reads)) = opens_becoming l m more h some none reads
-opens_at l m some none (inr (blank, method, target, token, uri, e)) = absurd (opens_target l m blank method target some token.1 uri e)
+opens_at l m some none (inr (blank, method, target, token, uri, e)) = absurd (opens_target l m blank method target some token uri e)
 
 -- ---- places
 

@@ -16,6 +16,8 @@ use Rattle.http_frames.specs.Progress.{IsInLength, IsBody, HoldsContent, IsWhole
 use Rattle.http_frames.proofs.RequestLemmas.{whole_chunks, whole_length, need_chunks, need_length, bad_content, long_content}
 use Rattle.http_chunks.proofs.FrontLemmas.{none_is_some}
 use Rattle.http_chunks.proofs.InChunksLemmas.{split_range, range_len}
+use Rattle.http_chunks.specs.LinePlaces.{IsLooked}
+use Rattle.http_chunks.proofs.LinePlaceLemmas.{looked_within}
 
 -- the rules that an accepted head does not break
 past : {Q : Type 0} (b : Bool) (x : FrameErr) (others : Option FrameErr) → (others ≡ None → Q) → cond b (Some x) others ≡ None → Q
@@ -51,10 +53,10 @@ chunks_of pending rest content is chunked =
 
 -- the head stays, and more of the content was read
 pub kept_content : (pending rest rest' : List ℕ) (content : Content) (body' : Body) (is : HoldsContent pending rest content) → is_chunked content.head.fields ≡ true
-    → IsInChunks is.after rest' body'.bytes body'.left → HoldsContent pending rest' (record { head = content.head; said = content.said; body = body' })
-kept_content pending rest rest' content body' is chunked chunks =
+    → IsInChunks is.after rest' body'.bytes body'.left → IsLooked rest' body'.left body'.looked → HoldsContent pending rest' (record { head = content.head; said = content.said; body = body' })
+kept_content pending rest rest' content body' is chunked chunks looked =
     let P : Bool → Type 0 = λ b. IsBody b (content_length content.head.fields) is.after rest' body'.bytes body'.left in
-    record { head = is.head; after = is.after; heads = is.heads; parts = is.parts; body = subst P (sym chunked) chunks }
+    record { head = is.head; after = is.after; heads = is.heads; parts = is.parts; body = subst P (sym chunked) chunks; looked = looked }
 
 pub chunks_whole : (pending rest rest' : List ℕ) (content : Content) (body' : Body) (len : ℕ) (is : HoldsContent pending rest content)
     → is_chunked content.head.fields ≡ true → ReadsChunks is.after body'.bytes (drop len rest')
@@ -119,6 +121,7 @@ length_taken pending text at at' content body' left due is plain so taken =
       heads = is.heads;
       parts = is.parts;
       body = subst Q (sym plain) (subst (P false) (sym taken.left_is) more);
+      looked = looked_within (drop at' text) body'.left body'.looked due taken.left_is;
     }
 
 pub length_need : (pending rest : List ℕ) (content : Content) (left : ℕ) → HoldsContent pending rest content → is_chunked content.head.fields ≡ false

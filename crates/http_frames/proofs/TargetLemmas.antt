@@ -66,6 +66,10 @@ after_blank-takes (b ∷ c ∷ bytes) =
       ] refl
     ] refl
 
+pub after_blank-splits : (text : List ℕ) → (ends : List LineEnd) × (text ≡ print_blank ends ++ after_blank text)
+unfolding Blanks
+after_blank-splits text = after_blank-takes text
+
 -- the test is true where the text ends in a target
 pub ends_in_target-again : (text : List ℕ) → EndsInTarget text → ends_in_target text ≡ true
 unfolding ends_in_target is_target_open

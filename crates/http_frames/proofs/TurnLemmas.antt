@@ -22,6 +22,9 @@ use Rattle.http_frames.specs.declared.rules.Said.{Said}
 use Rattle.http_frames.specs.Said.{IsSaid, asks}
 use Rattle.http_frames.proofs.ProgressLemmas.{accepted_length, accepted_short}
 use Rattle.http_frames.proofs.SaidLemmas.{chunked_same, length_same, asks_same}
+use Rattle.http_chunks.specs.LinePlaces.{IsLooked, beginning_of_line}
+use Rattle.http_chunks.specs.declared.line_place.LinePlace.{LinePlace}
+use Rattle.http_chunks.proofs.LinePlaceLemmas.{looked_first, looked_more}
 
 -- where the head that was taken was answered, or does not ask, no other is left unanswered
 pub quiet_of : (pending rest : List ℕ) (content : Content) (continued : Bool) → HoldsContent pending rest content
@@ -39,10 +42,10 @@ told_of true asks e asking = refl
 told_of false asks e asking = absurd (false≢true (sym e ∙ asking))
 
 -- a head that was just taken, with nothing of its content
-pub first_content : (pending : List ℕ) (h : RequestHead) (after : List ℕ) (head : Head) (said : Said) (bytes : List ℕ) (left : Option ℕ) → ReadsHead pending h after
-    → head ≡ head_of h → bytes ≡ [] → left ≡ cond (is_chunked head.fields) None (Some (content_length head.fields))
-    → HoldsContent pending (drop head.len pending) (record { head = head; said = said; body = record { bytes = bytes; left = left } })
-first_content pending h after head said bytes left heads parts empty due =
+pub first_content : (pending : List ℕ) (h : RequestHead) (after : List ℕ) (head : Head) (said : Said) (bytes : List ℕ) (left : Option ℕ) (looked : LinePlace)
+    → ReadsHead pending h after → head ≡ head_of h → bytes ≡ [] → left ≡ cond (is_chunked head.fields) None (Some (content_length head.fields)) → looked ≡ beginning_of_line
+    → HoldsContent pending (drop head.len pending) (record { head = head; said = said; body = record { bytes = bytes; left = left; looked = looked } })
+first_content pending h after head said bytes left looked heads parts empty due nothing =
     let behind : after ≡ drop head.len pending =
     sym (ap (drop head.len) heads.reads.1 ∙ drop_at (print_request h) after head.len (sym (ap (λ (x : Head). x.len) parts))) in
     record {
@@ -51,6 +54,7 @@ first_content pending h after head said bytes left heads parts empty due =
       heads = heads;
       parts = parts;
       body = first_body (is_chunked head.fields) (content_length head.fields) after (drop head.len pending) bytes left behind empty due;
+      looked = let P : LinePlace → Type 0 = λ place. IsLooked (drop head.len pending) left place in subst P (sym nothing) (looked_first left (drop head.len pending));
     }
   where
     first_body : (b : Bool) (len : ℕ) (after rest bytes : List ℕ) (left : Option ℕ) → after ≡ rest → bytes ≡ [] → left ≡ cond b None (Some len) → IsBody b len after rest bytes left
@@ -129,6 +133,7 @@ grown_content pending rest more content is = record {
   };
   parts = is.parts;
   body = grown_body (is_chunked content.head.fields) (content_length content.head.fields) is.after rest more content.body.bytes content.body.left is.body;
+  looked = looked_more content.body.left rest more content.body.looked is.looked;
 }
 
 -- what is asked for, by what the fields say

@@ -1,7 +1,9 @@
 -- The lines of a head that came whole, for the clauses of private functions.
-use Rattle.std.specs.Prelude.{◌≡◌, ℕ, ◌<◌, ◌≤◌, List, [], ◌∷◌, ◌++◌, length, take, drop}
-use Rattle.httparse.specs.Grammar.{RequestHead, lf, print_end, ReadsRequest, IsToken, AllPass, is_value_byte}
+use Rattle.std.specs.Prelude.{◌≡◌, ℕ, ◌<◌, ◌≤◌, List, [], ◌∷◌, ◌++◌, length, take, drop, Bool}
+use Rattle.httparse.specs.Grammar.{RequestHead, LineEnd, lf, print_end, print_blank, ReadsRequest, IsToken, EndsInTarget, AllPass, is_token_byte, is_uri_byte, is_value_byte}
 use Rattle.http_frames.specs.HeadRules.{HEAD_LIMIT}
+use Rattle.http_frames.specs.declared.lines.Part.{Part}
+use Rattle.http_frames.specs.declared.lines.Part.TheVariants.{Method, Target, Name, Value}
 use Rattle.http_frames.specs.declared.lines.Place.{Place}
 
 -- the text is the start line of a head and whole fields: with an empty line behind it it is a head
@@ -24,14 +26,34 @@ pub record IsInValue (text : List ℕ) : Type 0 where
   pub plain : AllPass is_value_byte raw
   pub is : text ≡ name ++ 58 ∷ raw
 
+-- the text is empty lines, and bytes of a method
+pub record IsInMethod (text : List ℕ) : Type 0 where
+  pub blank : List LineEnd
+  pub method : List ℕ
+  pub token : IsToken method
+  pub is : text ≡ print_blank blank ++ method
+
+-- the bytes of which any number may follow in a part
+abbrev pub is_part_byte : Part → ℕ → Bool
+is_part_byte Method byte = is_token_byte byte
+is_part_byte Target byte = is_uri_byte byte
+is_part_byte Name byte = is_token_byte byte
+is_part_byte Value byte = is_value_byte byte
+
+-- behind lines that end at this place the text is such a part
+abbrev pub IsOpen : Part → ℕ → List ℕ → Type 0
+IsOpen Method lines text = (lines ≡ 0) × IsInMethod text
+IsOpen Target lines text = (lines ≡ 0) × EndsInTarget text
+IsOpen Name lines text = (0 < lines) × IsToken text
+IsOpen Value lines text = (0 < lines) × IsInValue text
+
 -- nothing was read of a head
 abbrev pub beginning : Place
-beginning = record { lines = 0; value = 0 }
+beginning = record { lines = 0; end = 0; part = Method }
 
--- behind its whole lines the text is such a field up to a second place, if that is behind them
+-- behind its whole lines the text is such a part up to a second place, if that is behind them
 pub record IsPlace (text : List ℕ) (place : Place) : Type 0 where
   pub lines : AreLines text place.lines
-  pub within : place.value ≤ length text
-  pub short : place.value ≤ HEAD_LIMIT
-  pub some : place.lines < place.value → 0 < place.lines
-  pub value : place.lines < place.value → IsInValue (drop place.lines (take place.value text))
+  pub within : place.end ≤ length text
+  pub short : place.end ≤ HEAD_LIMIT
+  pub opens : place.lines < place.end → IsOpen place.part place.lines (drop place.lines (take place.end text))

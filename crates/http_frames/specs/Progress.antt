@@ -4,6 +4,7 @@ use Rattle.httparse.specs.Grammar.{RequestHead}
 use Rattle.http_frames.specs.HeadRules.{HEAD_LIMIT, is_chunked, is_bad_length, content_length}
 use Rattle.http_frames.specs.Requests.{ReadsHead, ReadsWhole, HasNoWhole, IsRefused, IsAccepted}
 use Rattle.http_chunks.specs.ContentSteps.{IsInChunks, IsBounded}
+use Rattle.http_chunks.specs.LinePlaces.{IsLooked}
 use Rattle.http_frames.specs.HeadReading.{head_of}
 use Rattle.http_frames.specs.Said.{IsSaid}
 use Rattle.http_frames.specs.declared.progress.Content.{Content}
@@ -21,13 +22,14 @@ IsBody true len text rest content left = IsInChunks text rest content left
 IsBody false len text rest content None = ⊥
 IsBody false len text rest content (Some left) = IsInLength text rest len content left
 
--- the bytes are the head that was taken, what was read of its content, and then rest
+-- the bytes are the head that was taken, what was read of its content, and then rest, of which so much was looked at
 pub record HoldsContent (pending rest : List ℕ) (content : Content) : Type 0 where
   pub head : RequestHead
   pub after : List ℕ
   pub heads : ReadsHead pending head after
   pub parts : content.head ≡ head_of head
   pub body : IsBody (is_chunked content.head.fields) (content_length content.head.fields) after rest content.body.bytes content.body.left
+  pub looked : IsLooked rest content.body.left content.body.looked
 
 -- what its fields say is known, the length of its content can be told, and what was read of it and is at hand is within the limit
 pub record IsSound (content : Content) : Type 0 where

@@ -1,15 +1,16 @@
-ghost use Rattle.std.specs.Prelude.{◌≡◌, ◌<◌, ◌≤◌, length, drop, IfOk, IfSome, IsTrue, slice_index};
+ghost use Rattle.std.specs.Prelude.{◌≡◌, ◌<◌, ◌≤◌, ℕ, length, drop, IfOk, IfSome, IsTrue, slice_index};
 ghost use Rattle.std.specs.List.{list_all};
-ghost use Rattle.httparse.specs.Grammar.{HasNoRequest, MayBecomeRequest};
+ghost use Rattle.httparse.specs.Grammar.{HasNoRequest, MayBecomeRequest, is_token_byte};
 ghost use Rattle.httparse.specs.Pieces.{is_newline};
 ghost use Rattle.http_frames.specs.HeadReading.{IsHeadRead};
 ghost use Rattle.http_frames.specs.HeadRules.{HEAD_LIMIT};
-ghost use Rattle.http_frames.specs.Lines.{AreLines, IsInValue, IsPlace, beginning};
+ghost use Rattle.http_frames.specs.Lines.{AreLines, IsInValue, IsOpen, IsPlace, beginning, is_part_byte};
 
 use crate::head::{HeadRead, read_head, unless_in_target};
+use crate::target::{after_blank, are_uri_bytes, ends_in_target};
 use http_chunks::{TrailersRead, section_within};
 use httparse::spans::EMPTY_HEADER_SPAN;
-use httparse::{is_header_value, is_token};
+use httparse::{is_header_value, is_method_token, is_token};
 use side_base::NoMemory;
 use std::alloc::Global;
 
@@ -22,34 +23,52 @@ const CR: u8 = b'\r';
 
 const LF: u8 = b'\n';
 
+/// What stands behind the whole lines of a head, which bytes of one kind may follow in any number.
+#[derive(Clone, Copy, Debug)]
+pub(crate) enum Part {
+    /// Empty lines, and bytes of a method.
+    Method,
+    /// Empty lines, a method, a space, and bytes of a target.
+    Target,
+    /// Bytes of a field's name.
+    Name,
+    /// A field's name, a colon, and bytes of its value.
+    Value,
+}
+
 /// How far a head was read that is not whole yet.
 #[derive(Clone, Copy, Debug)]
 pub(crate) struct Place {
     /// Up to here its lines are whole; 0 where none are.
     pub(crate) lines: usize,
-    /// Up to here what follows them is a field's name, a colon, and bytes of its value; 0 where it is something else.
-    pub(crate) value: usize,
+    /// Up to here what follows them is this part; 0 where it is something else.
+    pub(crate) end: usize,
+    pub(crate) part: Part,
 }
 
 /// Of a head of which nothing was read.
 pub(crate) fn start() -> Place
     ensures { result ≡ beginning }
 {
-    Place { lines: 0, value: 0 }
+    Place {
+        lines: 0,
+        end: 0,
+        part: Part::Method,
+    }
 }
 
 /// What stands at the front of a text of at most 16,384 bytes, of whose head so much was read. As long as the head is not
-/// whole, only what follows its lines is read, and of a value only what is new.
+/// whole, only what follows its lines is read, and where that is a part that goes on only what is new.
 pub(crate) fn read_behind(alloc: Global, text: &[u8], place: Place) -> Result<HeadRead, NoMemory>
     requires short { length text.now ≤ HEAD_LIMIT }
     requires place { IsPlace text.now place }
     ensures { IfOk result (λ read. IsHeadRead text.now read) }
 {
-    if place.lines == 0 {
-        return read_head(alloc, text);
-    }
     if goes_on(text, place) {
         return Ok(HeadRead::Partial);
+    }
+    if place.lines == 0 {
+        return read_head(alloc, text);
     }
     let mut headers = [EMPTY_HEADER_SPAN; LINE_ROOM];
     match section_within(&text[place.lines..], &mut headers) {
@@ -71,7 +90,8 @@ pub(crate) fn place_after(text: &[u8], place: Place) -> Place
     if goes_on(text, place) {
         return Place {
             lines: place.lines,
-            value: text.len(),
+            end: text.len(),
+            part: place.part,
         };
     }
     place_of(text, whole_lines(text, place.lines))
@@ -83,22 +103,82 @@ fn place_of(text: &[u8], lines: usize) -> Place
     requires lines { AreLines text.now lines }
     ensures { IsPlace text.now result }
 {
-    if lines > 0 && is_in_value(&text[lines..]) {
-        Place {
+    match part_of(text, lines) {
+        Some(part) => Place {
             lines,
-            value: text.len(),
-        }
-    } else {
-        Place { lines, value: 0 }
+            end: text.len(),
+            part,
+        },
+        None => Place {
+            lines,
+            end: 0,
+            part: Part::Method,
+        },
     }
 }
 
-/// Whether the value that the text ended in goes on to its end.
+/// The part that a text ends in, up to `lines` of which its lines are whole.
+fn part_of(text: &[u8], lines: usize) -> Option<Part>
+    requires { lines ≤ length text.now }
+    ensures { IfSome result (λ part. IsOpen part lines (drop lines text.now)) }
+{
+    if lines == 0 {
+        start_part(text)
+    } else {
+        field_part(&text[lines..])
+    }
+}
+
+/// The part of a start line that a text ends in.
+fn start_part(text: &[u8]) -> Option<Part>
+    ensures { IfSome result (λ part. IsOpen part 0 text.now) }
+{
+    if ends_in_target(text) {
+        Some(Part::Target)
+    } else if is_token(after_blank(text)) {
+        Some(Part::Method)
+    } else {
+        None
+    }
+}
+
+/// The part of a field that the bytes are.
+fn field_part(bytes: &[u8]) -> Option<Part>
+    ensures { IfSome result (λ part. (lines : ℕ) → 0 < lines → IsOpen part lines bytes.now) }
+{
+    if is_token(bytes) {
+        Some(Part::Name)
+    } else if is_in_value(bytes) {
+        Some(Part::Value)
+    } else {
+        None
+    }
+}
+
+/// Whether the part that the text ended in goes on to its end.
 fn goes_on(text: &[u8], place: Place) -> bool
     requires { IsPlace text.now place }
-    ensures { IsTrue result → (0 < place.lines) × IsInValue (drop place.lines text.now) }
+    ensures { IsTrue result → IsOpen place.part place.lines (drop place.lines text.now) }
 {
-    place.lines < place.value && is_header_value(&text[place.value..])
+    place.lines < place.end && are_of_part(place.part, &text[place.end..])
+}
+
+/// Whether the bytes may follow in the part.
+fn are_of_part(part: Part, bytes: &[u8]) -> bool
+    ensures { result ≡ list_all (is_part_byte part) bytes.now }
+{
+    match part {
+        Part::Method => are_token_bytes(bytes),
+        Part::Target => are_uri_bytes(bytes),
+        Part::Name => are_token_bytes(bytes),
+        Part::Value => is_header_value(bytes),
+    }
+}
+
+fn are_token_bytes(bytes: &[u8]) -> bool
+    ensures { result ≡ list_all is_token_byte bytes.now }
+{
+    bytes.iter().all(|byte| is_method_token(*byte))
 }
 
 /// Whether the bytes are a field's name, a colon, and bytes of its value.

@@ -23,7 +23,7 @@ pub(crate) fn ends_in_target(text: &[u8]) -> bool
 
 /// What follows the empty lines at the front.
 #[tactic(auto, unfolding(crate::specs::InTarget::after_blank))]
-fn after_blank(text: &[u8]) -> &[u8]
+pub(crate) fn after_blank(text: &[u8]) -> &[u8]
     ensures { result.now ≡ after_blank text.now }
 {
     let mut rest = text;
@@ -60,7 +60,7 @@ fn is_target_open(bytes: &[u8]) -> bool
     }
 }
 
-fn are_uri_bytes(bytes: &[u8]) -> bool
+pub(crate) fn are_uri_bytes(bytes: &[u8]) -> bool
     ensures { result ≡ list_all is_uri_byte bytes.now }
 {
     bytes.iter().all(|byte| is_uri_token(*byte))

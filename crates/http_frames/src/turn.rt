@@ -6,6 +6,7 @@ ghost use Rattle.http_frames.specs.HeadReading.{head_of, IsHeadStep};
 ghost use Rattle.http_frames.specs.HeadRules.{request_of};
 ghost use Rattle.http_frames.specs.Progress.{HoldsContent, IsSound};
 ghost use Rattle.http_frames.specs.Said.{asks};
+ghost use Rattle.http_chunks.specs.LinePlaces.{beginning_of_line};
 ghost use Rattle.http_frames.specs.Turns.{IsTurn, TakesTurn, Leaves};
 
 use crate::FrameErr;
@@ -14,7 +15,7 @@ use crate::head::{Head, HeadStep, take_head};
 use crate::lines::{Place, start};
 use crate::progress::{Content, Progress, take_content};
 use crate::rules::{Said, asks_to_continue};
-use http_chunks::Body;
+use http_chunks::{Body, start_of_line};
 use side_base::{Blob, NoMemory, Request};
 use std::alloc::Global;
 
@@ -99,17 +100,22 @@ fn turn_of(
 
 /// The body behind a head, of which nothing came; it has room for content of a known length, which is due.
 fn first_body(alloc: Global, said: &Said) -> Result<Body, NoMemory>
-    ensures { IfOk result (λ body. (body.bytes ≡ []) × (body.left ≡ (if nat_lt 0 said.now.codings then None else Some said.now.length))) }
+    ensures { IfOk result (λ body. (body.bytes ≡ []) × (body.left ≡ (if nat_lt 0 said.now.codings then None else Some said.now.length)) × (body.looked ≡ beginning_of_line)) }
 {
     let mut bytes = Blob::new(alloc);
     if said.codings > 0 {
-        return Ok(Body { bytes, left: None });
+        return Ok(Body {
+            bytes,
+            left: None,
+            looked: start_of_line(),
+        });
     }
     let len = said.length as usize;
     bytes.reserve(len)?;
     Ok(Body {
         bytes,
         left: Some(len),
+        looked: start_of_line(),
     })
 }
 

@@ -4,6 +4,7 @@ use Rattle.http_chunks.specs.ChunkSteps.{IsChunkStep}
 use Rattle.http_chunks.specs.ContentSteps.{IsInChunks}
 use Rattle.http_chunks.specs.declared.chunks.ChunkStep.{ChunkStep}
 use Rattle.http_chunks.proofs.InChunksLemmas.{line_inside, line_kept, content_calm, content_may, content_never, content_flooded}
+use Rattle.http_chunks.proofs.LinePlaceLemmas.{place_of_slice, part_looked, part_step, part_short}
 use Rattle.http_chunks.proofs.content.take_line.Goals as goal
 
 pub returns-in-Chunk-clause-on : goal.returns-in-Chunk-clause-on
@@ -26,7 +27,7 @@ returns-in-Chunk-clause-kept c = λ all was.
     line_kept all text at c.args.body.now.bytes c.args.body.now.left c.in-Chunk.len c.in-Chunk.size c.requires.between was (rw c.in-Chunk.is at step)
 
 pub returns-in-Need-clause-step : goal.returns-in-Need-clause-step
-returns-in-Need-clause-step c = λ all was.
+returns-in-Need-clause-step c = λ all was seen.
     let text = c.args.text.now in
     let at = c.args.at.now in
     let P : ChunkStep → List ℕ → Type 0 = λ s t. IsChunkStep t c.len.result s in
@@ -48,7 +49,7 @@ returns-in-Need-clause-ends c =
     found.2
 
 pub returns-in-TooLong-clause-step : goal.returns-in-TooLong-clause-step
-returns-in-TooLong-clause-step c = λ all was.
+returns-in-TooLong-clause-step c = λ all was seen.
     let text = c.args.text.now in
     let at = c.args.at.now in
     let P : ChunkStep → List ℕ → Type 0 = λ s t. IsChunkStep t c.len.result s in
@@ -59,7 +60,7 @@ returns-in-TooLong-clause-step c = λ all was.
     content_flooded all _ c.args.body.now.bytes chunks (rw c.in-TooLong.is at step)
 
 pub returns-in-Bad-clause-step : goal.returns-in-Bad-clause-step
-returns-in-Bad-clause-step c = λ all was.
+returns-in-Bad-clause-step c = λ all was seen.
     let text = c.args.text.now in
     let at = c.args.at.now in
     let P : ChunkStep → List ℕ → Type 0 = λ s t. IsChunkStep t c.len.result s in
@@ -69,3 +70,24 @@ returns-in-Bad-clause-step c = λ all was.
     let chunks = subst I c.requires.between was in
     let found = rw c.in-Bad.is at step in
     (content_calm all _ c.args.body.now.bytes chunks found.0, content_never all _ c.args.body.now.bytes chunks found.1)
+
+pub returns-then-goes_on-clause-looked : goal.returns-then-goes_on-clause-looked
+returns-then-goes_on-clause-looked c = λ seen.
+    part_looked c.args.text.now c.args.at.now c.args.body.now.left c.args.body.now.looked c.requires.between (c.goes_on.ensures.part c.if-goes_on.true) seen
+
+pub returns-then-goes_on-clause-step : goal.returns-then-goes_on-clause-step
+returns-then-goes_on-clause-step c = λ all was seen.
+    part_step all c.args.text.now c.args.at.now c.args.body.now.bytes c.args.body.now.left c.args.body.now.looked c.requires.between
+    (c.goes_on.ensures.part c.if-goes_on.true) (c.goes_on.ensures.short c.if-goes_on.true) was seen
+
+pub returns-then-goes_on-clause-ends : goal.returns-then-goes_on-clause-ends
+returns-then-goes_on-clause-ends c = part_short c.args.text.now c.args.at.now (c.goes_on.ensures.short c.if-goes_on.true)
+
+pub place_of-body-requires : goal.place_of-body-requires
+place_of-body-requires c =
+    let found = rw c.in-Need.is at c.in_ok-step.ensures in
+    found.1
+
+pub returns-in-Need-clause-looked : goal.returns-in-Need-clause-looked
+returns-in-Need-clause-looked c = λ seen.
+    place_of_slice c.args.text.now c.args.at.now c.args.body.now.left c.place_of-body.result c.requires.between c.place_of-body.ensures

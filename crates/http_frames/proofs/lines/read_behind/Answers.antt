@@ -1,5 +1,5 @@
 use Rattle.http_frames.proofs.OpenLemmas.{partial_behind, invalid_behind}
-use Rattle.http_frames.proofs.PlaceLemmas.{partial_value}
+use Rattle.http_frames.proofs.PlaceLemmas.{partial_open}
 use Rattle.http_frames.proofs.lines.read_behind.Goals as goal
 
 pub unless_in_target-requires : goal.unless_in_target-requires
@@ -14,5 +14,4 @@ returns-in-Some-Partial c =
 
 pub returns-then-goes_on : goal.returns-then-goes_on
 returns-then-goes_on c =
-    let value = c.goes_on.ensures c.if-goes_on.true in
-    partial_value c.args.text.now c.args.place.lines c.requires.place.lines value.0 value.1
+    partial_open c.args.place.part c.args.text.now c.args.place.lines c.requires.place.lines (c.goes_on.ensures c.if-goes_on.true)

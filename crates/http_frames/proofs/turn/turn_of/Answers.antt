@@ -33,7 +33,7 @@ returns-in-Ok-clause-turn c =
     let content : Content = record { head = head; said = c.in-Taken.said; body = c.in-Ok.body } in
     let P : List ℕ → Type 0 = λ t. HoldsContent (drop at bytes) t content in
     c.content_turn.ensures.turn (drop at bytes) (subst P (drop-drop head.len at bytes)
-    (first_content (drop at bytes) step.0 step.1 head c.in-Taken.said c.in-Ok.body.bytes c.in-Ok.body.left step.2 step.3 c.in-Ok.ensures.0 due))
+    (first_content (drop at bytes) step.0 step.1 head c.in-Taken.said c.in-Ok.body.bytes c.in-Ok.body.left c.in-Ok.body.looked step.2 step.3 c.in-Ok.ensures.0 due c.in-Ok.ensures.2))
 
 pub returns-in-Need-clause-turn : goal.returns-in-Need-clause-turn
 returns-in-Need-clause-turn c =
