@@ -5,6 +5,7 @@ use crate::door::{Door, LOOK_MS, Look};
 use crate::fault_count::FaultCount;
 use crate::tcp_sink::TcpSink;
 use crate::tcp_source::TcpSource;
+use crate::waiting::now_ms;
 use side_world::{Accepted, Acceptor, Failed, Sink, Source};
 use std::io;
 use std::net::TcpStream;
@@ -63,7 +64,7 @@ impl<R: Wait + AllocGlobal> TcpAcceptor<R> {
         &self.faults
     }
 
-    /// Waits for what comes next. Other work comes first, but not twice in a row.
+    /// Waits for what comes next, `LOOK_MS` at most. Other work comes first, but not twice in a row.
     fn await_next(&self) -> io::Result<Next> {
         if self.door.is_shut() {
             return Ok(Next::Closed);
@@ -72,16 +73,17 @@ impl<R: Wait + AllocGlobal> TcpAcceptor<R> {
             return Ok(Next::Idle);
         }
         self.door.sweep();
+        let until = now_ms().saturating_add(LOOK_MS as u64);
         let mut ms = LOOK_MS;
         for _ in 0..LOOKS {
             match self.door.look(&self.rt, ms)? {
                 Look::Conn(stream) => return self.shared(stream),
-                Look::Went => {}
+                Look::Went => ms = ms_until(until),
                 Look::Rung if self.door.is_shut() => return Ok(Next::Closed),
                 // A connection that is ready comes before other work that follows other work.
                 Look::Rung if self.was_idle => ms = 0,
                 Look::Rung if self.door.take_other_work() => return Ok(Next::Idle),
-                Look::Rung => {}
+                Look::Rung => ms = ms_until(until),
                 Look::Quiet => {
                     self.door.take_other_work();
                     return Ok(Next::Idle);
@@ -145,6 +147,11 @@ impl<R: Wait + AllocGlobal> Acceptor for TcpAcceptor<R> {
     fn wake(&mut self) {
         self.door.wake();
     }
+}
+
+/// How many milliseconds are left until then, `LOOK_MS` at most.
+fn ms_until(until: u64) -> i32 {
+    until.saturating_sub(now_ms()).min(LOOK_MS as u64) as i32
 }
 
 /// The connection: `Ok` exactly where it goes on, since its stretch ended between two requests and nothing failed.
