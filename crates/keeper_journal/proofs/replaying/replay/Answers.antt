@@ -16,3 +16,9 @@ loop-body-preserved-in-Ok c =
     let follows : Follows c.in-Some.body c.loop-body.replay c.follow.new.self = subst (λ (b : List ℕ). Follows b c.loop-body.replay c.follow.new.self) c.bytes.ensures c.in-Ok.ensures.followed in
     let more = replayed_more c.args.bodies c.loop-body.bodies c.take_first.new.self c.in-Some.body c.loop-body.replay c.follow.new.self c.loop-body.at c.loop-body.invariant c.in-Some.ensures.first follows in
     subst (λ (n : ℕ). ReplayedSoFar c.args.bodies c.take_first.new.self c.follow.new.self (c.loop-body.at + (9 + n))) (sym c.len.ensures) more
+
+pub loop-body-preserved : goal.loop-body-preserved
+loop-body-preserved c =
+    let follows : Follows c.in-Some.body c.loop-body.replay c.follow.new.self = subst (λ (b : List ℕ). Follows b c.loop-body.replay c.follow.new.self) c.bytes.ensures c.in-Ok.ensures.followed in
+    let more = replayed_more c.args.bodies c.loop-body.bodies c.take_first.new.self c.in-Some.body c.loop-body.replay c.follow.new.self c.loop-body.at c.loop-body.invariant c.in-Some.ensures.first follows in
+    subst (λ (n : ℕ). ReplayedSoFar c.args.bodies c.take_first.new.self c.follow.new.self (c.loop-body.at + (9 + n))) (sym c.len.ensures) more
