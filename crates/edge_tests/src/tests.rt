@@ -130,7 +130,7 @@ fn send_halves<R: Net<Listener = TcpListener, Stream = TcpStream> + AllocGlobal>
     Ok(halves)
 }
 
-/// How many bytes one client more is answered within three seconds while so many others have sent half a request each.
+/// How many bytes one client more is answered within ten seconds while so many others have sent half a request each.
 fn answered_beside_halves<R: Net<Listener = TcpListener, Stream = TcpStream> + Clock + AllocGlobal>(
     rt: &R,
     port: u16,
@@ -139,7 +139,7 @@ fn answered_beside_halves<R: Net<Listener = TcpListener, Stream = TcpStream> + C
     let halves = send_halves(rt, port, count)?;
     sleep(rt, Duration::from_millis(300));
     let mut whole = connect(rt, port)?;
-    whole.set_read_timeout(Some(Duration::from_millis(3_000)))?;
+    whole.set_read_timeout(Some(Duration::from_millis(10_000)))?;
     whole.write_all(b"whole.")?;
     let answered = piece_of(&mut whole);
     drop(halves);
