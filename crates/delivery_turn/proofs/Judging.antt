@@ -1,0 +1,26 @@
+-- What some replies are judged as, whatever their bodies are.
+use Rattle.std.proofs.Common.{◌≡◌, ℕ, List, [], None, ap, ◌∙◌}
+use Rattle.side_base.specs.declared.message.Response.{Response}
+use Rattle.side_base.specs.declared.message.Field.{Field}
+use Rattle.json_text.specs.declared.part.Part.TheVariants.{Start as start}
+use Rattle.json_text.specs.Forest.{Forest}
+use Rattle.json_text.specs.Grammar.{Completes}
+use Rattle.cloud_events.specs.declared.outcome.Verdict.{Verdict}
+use Rattle.cloud_events.specs.declared.outcome.Verdict.TheVariants.{Retry, Drop}
+use Rattle.cloud_events.specs.Verdict.{by_reply, by_status}
+use Rattle.delivery_turn.specs.Posting.{IsJudged, read, unread}
+
+pub absent : (response : Response) (v : Verdict) → response.status ≡ 404 → IsJudged response v → v ≡ Drop
+absent response v is (read spot inside text e) = e ∙ ap (λ s. by_reply s response.body inside) is
+absent response v is (unread none e) = e ∙ ap by_status is
+
+pub failing : (response : Response) (v : Verdict) → response.status ≡ 500 → IsJudged response v → v ≡ Retry
+failing response v is (read spot inside text e) = e ∙ ap (λ s. by_reply s response.body inside) is
+failing response v is (unread none e) = e ∙ ap by_status is
+
+-- no text is empty
+no_text : (j : ℕ) (values : Forest) → Completes None start 0 [] j [] values → ⊥
+no_text j values h = elim h [ ]
+
+pub empty : (fields : List Field) (status : ℕ) (v : Verdict) → v ≡ by_status status → IsJudged (record { status = status; fields = fields; body = [] }) v
+empty fields status v e = unread (λ values r. no_text 0 values r.text) e

@@ -1,0 +1,5 @@
+pub mod Shapes
+pub mod Counts
+pub mod Judging
+pub mod Retrying
+pub mod Written

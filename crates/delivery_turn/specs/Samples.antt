@@ -1,0 +1,107 @@
+-- Turns of deliveries written out: an event that the app wants again until it is given up, the letter that it becomes, and deliveries that a breaker refuses.
+use Rattle.std.specs.Prelude.{ℕ, List, [], ◌∷◌, codes, Some, None, Ok}
+use Rattle.retry_core.specs.declared.policy.RetryPolicy.{RetryPolicy}
+use Rattle.retry_core.specs.declared.policy.RetryKind.TheVariants.{Constant}
+use Rattle.side_base.specs.declared.method.Method.TheVariants.{Post}
+use Rattle.side_base.specs.declared.message.Response.{Response}
+use Rattle.side_world.specs.declared.link.LinkCall.{LinkCall}
+use Rattle.breaker_core.specs.declared.command.BreakerCmd.TheVariants.{Admit}
+use Rattle.breaker_core.specs.declared.command.BreakerReply.{BreakerReply}
+use Rattle.breaker_core.specs.Course.{Step as BreakerStep}
+use Rattle.ledger_core.specs.declared.plan.Aim.{Aim}
+use Rattle.ledger_core.specs.declared.command.Finish.TheVariants.{Success, Retry, Later}
+use Rattle.ledger_core.specs.declared.command.LedgerCmd.{LedgerCmd}
+use Rattle.ledger_core.specs.declared.command.LedgerCmd.TheVariants.{Take, Settle}
+use Rattle.ledger_core.specs.declared.reply.LedgerReply.{LedgerReply}
+use Rattle.ledger_core.specs.declared.reply.LedgerReply.TheVariants.{Taken, Done, Again}
+use Rattle.ledger_core.specs.Message.{Step}
+use Rattle.topic_spec.specs.declared.sub.Rule.{Rule}
+use Rattle.topic_spec.specs.declared.sub.Sub.{Sub}
+use Rattle.policy_run.specs.Event.{Event, own, guarded, word, moment}
+use Rattle.delivery_turn.specs.Settling.{Own, entered, asked}
+use Rattle.delivery_turn.specs.Delivery.{Setting}
+
+-- ---- the subscriptions, and what is bound
+
+-- whatever its rules are
+abbrev pub orders : List Rule → Sub
+orders rules = record { pubsub = codes "pubsub"; topic = codes "orders"; rules = rules; default = Some (codes "/orders"); dead = Some (codes "dead") }
+
+abbrev pub letters : Sub
+letters = record { pubsub = codes "pubsub"; topic = codes "dead"; rules = []; default = Some (codes "/dead"); dead = None }
+
+-- two further attempts, 100 ms apart
+abbrev pub few : RetryPolicy
+few = record { kind = Constant 100; max_retries = Some 2 }
+
+abbrev pub shop : List Rule → Setting
+shop rules = record { port = 8080; subs = orders rules ∷ letters ∷ []; bound = record { timeout_ms = None; retry = Some few; breaker = None } }
+
+abbrev pub guarded_shop : List Rule → Setting
+guarded_shop rules = record { port = 8080; subs = orders rules ∷ letters ∷ []; bound = record { timeout_ms = None; retry = Some few; breaker = Some 0 } }
+
+-- ---- steps and calls
+
+abbrev pub ledger_step : LedgerCmd → LedgerReply → Step
+ledger_step cmd reply = record { seat = 0; cmd = cmd; reply = reply; mark = 0 }
+
+abbrev pub stepped : LedgerCmd → LedgerReply → Event Own
+stepped cmd reply = own (entered (ledger_step cmd reply))
+
+-- the event is posted to the path, and the app answers so
+abbrev pub post_of : List ℕ → List ℕ → Response → LinkCall
+post_of path event response = record {
+  request = record {
+    host = codes "127.0.0.1";
+    port = 8080;
+    method = Post;
+    target = path;
+    fields = record { name = codes "Content-Type"; value = codes "application/cloudevents+json" } ∷ [];
+    body = event;
+  };
+  limit_ms = 0;
+  answer = Ok response;
+}
+
+-- the app wants the event again
+abbrev pub wants_again : Response
+wants_again = record { status = 200; fields = []; body = codes "{\"status\":\"RETRY\"}" }
+
+abbrev pub accepts : Response
+accepts = record { status = 200; fields = []; body = [] }
+
+-- ---- message 1 to the first subscription, and message 2 to the second
+
+-- the letter is for the second subscription
+abbrev pub letter_aims : List Aim
+letter_aims = record { sub = 1; path = Some (codes "/dead") } ∷ []
+
+-- An attempt of this number and claim at a moment: the app wants it again, a word is drawn, and the ledger answers so
+abbrev pub attempt_at : ℕ → ℕ → ℕ → List ℕ → LedgerReply → List (Event Own)
+attempt_at now number drawn event reply =
+    moment now ∷ stepped (Take now) (Taken 1 0 number event (codes "/orders") number)
+    ∷ own (asked (post_of (codes "/orders") event wants_again))
+    ∷ word drawn
+    ∷ moment now ∷ stepped (Settle 1 0 number Retry now drawn letter_aims) reply
+    ∷ []
+
+-- the letter is accepted
+abbrev pub letter_at : ℕ → ℕ → List ℕ → List (Event Own)
+letter_at now claim event =
+    moment now ∷ stepped (Take now) (Taken 2 1 claim event (codes "/dead") 1)
+    ∷ own (asked (post_of (codes "/dead") event accepts))
+    ∷ moment now ∷ stepped (Settle 2 1 claim Success now 0 []) Done
+    ∷ []
+
+-- ---- a delivery that the breaker refuses
+
+abbrev pub breaker_step : ℕ → BreakerReply → BreakerStep
+breaker_step now reply = record { seat = 0; cmd = Admit now; reply = reply; mark = 0 }
+
+-- The breaker is asked at 5 and answers so; the row is settled at 7 as due again at a moment
+abbrev pub refused_so : BreakerReply → ℕ → List ℕ → List (Event Own)
+refused_so answer due event =
+    moment 4 ∷ stepped (Take 4) (Taken 1 0 1 event (codes "/orders") 1)
+    ∷ moment 5 ∷ guarded (breaker_step 5 answer)
+    ∷ moment 7 ∷ stepped (Settle 1 0 1 (Later due) 7 0 []) (Again due)
+    ∷ []

@@ -1,0 +1,72 @@
+//! What follows of the definition of a turn, as functions whose contract is the law.
+ghost use Rattle.std.specs.Prelude.{◌≡◌, ◌≤◌, ◌+◌, ℕ, true, List, []};
+ghost use Rattle.side_base.specs.declared.message.Response.{Response};
+ghost use Rattle.side_base.specs.declared.message.Field.{Field};
+ghost use Rattle.json_text.specs.Forest.{Forest};
+ghost use Rattle.breaker_core.specs.declared.command.BreakerReply.TheVariants.{Opened, TooMany};
+ghost use Rattle.ledger_core.specs.declared.reply.LedgerReply.TheVariants.{Done, Again, Dead};
+ghost use Rattle.cloud_events.specs.declared.outcome.Verdict.{Verdict};
+ghost use Rattle.cloud_events.specs.declared.outcome.Verdict.TheVariants.{Success, Retry, Drop};
+ghost use Rattle.cloud_events.specs.Wrapped.{IsRead};
+ghost use Rattle.topic_spec.specs.declared.sub.Rule.{Rule};
+ghost use Rattle.policy_run.specs.Event.{Event};
+ghost use Rattle.delivery_turn.specs.declared.turn.Turn.{Turn};
+ghost use Rattle.delivery_turn.specs.declared.turn.Turn.TheVariants.{Delivered};
+ghost use Rattle.delivery_turn.specs.Settling.{Own};
+ghost use Rattle.delivery_turn.specs.Posting.{IsJudged};
+ghost use Rattle.delivery_turn.specs.Delivery.{Setting, guarded, Delivery};
+ghost use Rattle.delivery_turn.specs.Kinds.{BeginsByTaking, IsUnspent, kinds_of, so_many, is_settling, is_retry, is_call, is_refusal, is_report, is_draw};
+ghost use Rattle.delivery_turn.specs.Samples.{accepts, attempt_at, guarded_shop, letter_at, refused_so, shop, wants_again};
+
+/// A turn settles its row once at most.
+pub fn a_row_is_settled_once()
+    ensures { (setting : Setting) (events : List (Event Own)) (turn : Turn) → Delivery setting events turn → so_many is_settling (kinds_of events) ≤ 1 }
+{}
+
+/// All that a turn does comes after it took a row: no call of the app, no settling and no word stands before, or where none was taken.
+pub fn a_row_is_taken_first()
+    ensures { (setting : Setting) (events : List (Event Own)) (turn : Turn) → Delivery setting events turn → BeginsByTaking (kinds_of events) }
+{}
+
+/// Where a breaker guards the deliveries, each call of the app is reported to it, unless a cell was exhausted.
+pub fn a_call_is_reported()
+    ensures { (setting : Setting) (events : List (Event Own)) (turn : Turn) → guarded setting ≡ true → Delivery setting events turn → IsUnspent turn → so_many is_report (kinds_of events) ≡ so_many is_call (kinds_of events) }
+{}
+
+/// A random word is drawn for a settling with `Retry` and for no other, unless a cell was exhausted.
+pub fn a_word_is_drawn_for_retry_alone()
+    ensures { (setting : Setting) (events : List (Event Own)) (turn : Turn) → Delivery setting events turn → IsUnspent turn → so_many is_draw (kinds_of events) ≡ so_many is_retry (kinds_of events) }
+{}
+
+/// The app is called once at most, and not at all where the breaker refuses the delivery.
+pub fn a_refused_delivery_is_not_tried()
+    ensures { (setting : Setting) (events : List (Event Own)) (turn : Turn) → Delivery setting events turn → so_many is_call (kinds_of events) + so_many is_refusal (kinds_of events) ≤ 1 }
+{}
+
+/// Whatever the body of a reply is, 404 drops the message and 500 has it delivered again; a good reply without a body is a success.
+pub fn some_replies_are_judged_by_status()
+    ensures absent { (response : Response) (verdict : Verdict) → response.status ≡ 404 → IsJudged response verdict → verdict ≡ Drop }
+    ensures failing { (response : Response) (verdict : Verdict) → response.status ≡ 500 → IsJudged response verdict → verdict ≡ Retry }
+    ensures empty { (fields : List Field) → IsJudged (record { status = 204; fields = fields; body = [] }) Success }
+{}
+
+/// A reply of 200 with the body `{"status":"RETRY"}` has the message delivered again.
+pub fn a_reply_may_ask_for_another_attempt()
+    ensures { IsJudged wants_again Retry }
+{}
+
+/// A message, whatever JSON text its event is, that the app wants again three times, at 0, 100 and 200 ms, goes to the second subscription
+/// as message 2, which the app accepts.
+pub fn a_letter_is_delivered()
+    ensures first { (rules : List Rule) (event : List ℕ) (values : Forest) (drawn : ℕ) → IsRead event values → Delivery (shop rules) (attempt_at 0 1 drawn event (Again 100)) (Delivered 1 0 (Again 100)) }
+    ensures second { (rules : List Rule) (event : List ℕ) (values : Forest) (drawn : ℕ) → IsRead event values → Delivery (shop rules) (attempt_at 100 2 drawn event (Again 200)) (Delivered 1 0 (Again 200)) }
+    ensures third { (rules : List Rule) (event : List ℕ) (values : Forest) (drawn : ℕ) → IsRead event values → Delivery (shop rules) (attempt_at 200 3 drawn event (Dead 2)) (Delivered 1 0 (Dead 2)) }
+    ensures letter { (rules : List Rule) (event : List ℕ) → Delivery (shop rules) (letter_at 200 4 event) (Delivered 2 1 Done) }
+{}
+
+/// A delivery that an open breaker refuses is due again one past the moment that the breaker says; where too many are out, 1,000 ms
+/// past the moment of the settling.
+pub fn a_refused_delivery_is_postponed()
+    ensures opened { (rules : List Rule) (event : List ℕ) → Delivery (guarded_shop rules) (refused_so (Opened 45000) 45001 event) (Delivered 1 0 (Again 45001)) }
+    ensures too_many { (rules : List Rule) (event : List ℕ) → Delivery (guarded_shop rules) (refused_so (TooMany 1) 1007 event) (Delivered 1 0 (Again 1007)) }
+{}
