@@ -53,7 +53,7 @@ not_numbered : (bytes : List ℕ) (at : ℕ) → (slice_index bytes at == 92) �
 unfolding is_numbered
 not_numbered bytes at e = ap (λ b. b && slice_index bytes (at + 1) == 117 && hex_at bytes (at + 2) && hex_at bytes (at + 3) && hex_at bytes (at + 4) && hex_at bytes (at + 5)) e
 
-none_alone : (bytes : List ℕ) (at : ℕ) → plain_bytes bytes ≡ true → ¬ IsLoneAt bytes at
+pub none_alone : (bytes : List ℕ) (at : ℕ) → plain_bytes bytes ≡ true → ¬ IsLoneAt bytes at
 none_alone bytes at h l =
     let numbered = not_numbered bytes at (no_backslash bytes at h) in
     let paired : is_lone l.0 bytes at ≡ false = ap (λ b. ((b && is_high_surrogate (unit_of bytes at)) && not (is_low_escape bytes (at + 6))) || ((b && is_low_surrogate (unit_of bytes at)) && not l.0)) numbered in

@@ -38,7 +38,7 @@ module _ (rules : List Rule) (now number drawn : ℕ) (event : List ℕ) (values
   first_take = moment now ∷ stepped (Take now) (Taken 1 0 number event (codes "/orders") number) ∷ []
 
   abbrev first_post : List (Event Own)
-  first_post = own (asked (post_of (codes "/orders") event wants_again)) ∷ []
+  first_post = own (asked (post_of 0 (codes "/orders") event (Ok wants_again))) ∷ []
 
   abbrev first_settling : List (Event Own)
   first_settling = moment now ∷ stepped (Settle 1 0 number Retry now drawn letter_aims) reply ∷ []
@@ -86,7 +86,7 @@ module _ (rules : List Rule) (now claim : ℕ) (event : List ℕ) where
   letter_take = moment now ∷ stepped (Take now) (Taken 2 1 claim event (codes "/dead") 1) ∷ []
 
   abbrev letter_post : List (Event Own)
-  letter_post = own (asked (post_of (codes "/dead") event accepts)) ∷ []
+  letter_post = own (asked (post_of 0 (codes "/dead") event (Ok accepts))) ∷ []
 
   abbrev letter_settling : List (Event Own)
   letter_settling = moment now ∷ stepped (Settle 2 1 claim Success now 0 []) Done ∷ []
@@ -135,7 +135,7 @@ module _ (rules : List Rule) (event : List ℕ) (refusal : Refusal) (due : ℕ) 
   refused_take = moment 4 ∷ stepped (Take 4) (Taken 1 0 1 event (codes "/orders") 1) ∷ []
 
   abbrev refused_asks : List (Event Own)
-  refused_asks = moment 5 ∷ guarded (breaker_step 5 (reply_of refusal)) ∷ []
+  refused_asks = moment 5 ∷ guarded (breaker_step (Admit 5) (reply_of refusal)) ∷ []
 
   abbrev refused_settling : List (Event Own)
   refused_settling = moment 7 ∷ stepped (Settle 1 0 1 (Later due) 7 0 []) (Again due) ∷ []
@@ -144,7 +144,7 @@ module _ (rules : List Rule) (event : List ℕ) (refusal : Refusal) (due : ℕ) 
   refused_takes = record { now = 4; step = ledger_step (Take 4) (Taken 1 0 1 event (codes "/orders") 1); told = refl; answer = refl; whole = refl }
 
   asks : Fits (Admit 5) (reply_of refusal) → Asks (reply_of refusal) refused_asks
-  asks fits = record { now = 5; step = breaker_step 5 (reply_of refusal); answers = record { cmd = refl; reply = refl; fits = fits }; whole = refl }
+  asks fits = record { now = 5; step = breaker_step (Admit 5) (reply_of refusal); answers = record { cmd = refl; reply = refl; fits = fits }; whole = refl }
 
   some_again : Again due ≢ NoMemory
   some_again e = let bad : ⊥ = cc in bad

@@ -1,12 +1,17 @@
--- Turns of deliveries written out: an event that the app wants again until it is given up, the letter that it becomes, and deliveries that a breaker refuses.
-use Rattle.std.specs.Prelude.{ℕ, List, [], ◌∷◌, codes, Some, None, Ok}
+-- Turns of deliveries written out: an event that the app wants again until it is given up, the letter that it becomes, and deliveries that a breaker refuses or
+-- that get no reply.
+use Rattle.std.specs.Prelude.{ℕ, false, List, [], ◌∷◌, codes, Some, None, Result, Ok, Err}
 use Rattle.retry_core.specs.declared.policy.RetryPolicy.{RetryPolicy}
 use Rattle.retry_core.specs.declared.policy.RetryKind.TheVariants.{Constant}
 use Rattle.side_base.specs.declared.method.Method.TheVariants.{Post}
 use Rattle.side_base.specs.declared.message.Response.{Response}
 use Rattle.side_world.specs.declared.link.LinkCall.{LinkCall}
-use Rattle.breaker_core.specs.declared.command.BreakerCmd.TheVariants.{Admit}
+use Rattle.side_world.specs.declared.link.LinkErr.{LinkErr}
+use Rattle.side_world.specs.declared.link.LinkErr.TheVariants.{Failed}
+use Rattle.breaker_core.specs.declared.command.BreakerCmd.{BreakerCmd}
+use Rattle.breaker_core.specs.declared.command.BreakerCmd.TheVariants.{Admit, Report}
 use Rattle.breaker_core.specs.declared.command.BreakerReply.{BreakerReply}
+use Rattle.breaker_core.specs.declared.command.BreakerReply.TheVariants.{Admitted, Counted}
 use Rattle.breaker_core.specs.Course.{Step as BreakerStep}
 use Rattle.ledger_core.specs.declared.plan.Aim.{Aim}
 use Rattle.ledger_core.specs.declared.command.Finish.TheVariants.{Success, Retry, Later}
@@ -40,6 +45,14 @@ shop rules = record { port = 8080; subs = orders rules ∷ letters ∷ []; bound
 abbrev pub guarded_shop : List Rule → Setting
 guarded_shop rules = record { port = 8080; subs = orders rules ∷ letters ∷ []; bound = record { timeout_ms = None; retry = Some few; breaker = Some 0 } }
 
+-- a call may take 50 ms
+abbrev pub hurried_shop : List Rule → Setting
+hurried_shop rules = record { port = 8080; subs = orders rules ∷ letters ∷ []; bound = record { timeout_ms = Some 50; retry = Some few; breaker = None } }
+
+-- an event for the first subscription
+abbrev pub order_event : List ℕ
+order_event = codes "{\"data\":{\"n\":1},\"id\":\"7\",\"pubsubname\":\"pubsub\",\"source\":\"shop\",\"specversion\":\"1.0\",\"time\":\"1970-01-01T00:00:00Z\",\"topic\":\"orders\",\"type\":\"com.dapr.event.sent\"}"
+
 -- ---- steps and calls
 
 abbrev pub ledger_step : LedgerCmd → LedgerReply → Step
@@ -48,9 +61,9 @@ ledger_step cmd reply = record { seat = 0; cmd = cmd; reply = reply; mark = 0 }
 abbrev pub stepped : LedgerCmd → LedgerReply → Event Own
 stepped cmd reply = own (entered (ledger_step cmd reply))
 
--- the event is posted to the path, and the app answers so
-abbrev pub post_of : List ℕ → List ℕ → Response → LinkCall
-post_of path event response = record {
+-- the event is posted to the path within the limit, and the app answers so
+abbrev pub post_of : ℕ → List ℕ → List ℕ → Result Response LinkErr → LinkCall
+post_of limit path event answer = record {
   request = record {
     host = codes "127.0.0.1";
     port = 8080;
@@ -59,8 +72,8 @@ post_of path event response = record {
     fields = record { name = codes "Content-Type"; value = codes "application/cloudevents+json" } ∷ [];
     body = event;
   };
-  limit_ms = 0;
-  answer = Ok response;
+  limit_ms = limit;
+  answer = answer;
 }
 
 -- the app wants the event again
@@ -80,7 +93,7 @@ letter_aims = record { sub = 1; path = Some (codes "/dead") } ∷ []
 abbrev pub attempt_at : ℕ → ℕ → ℕ → List ℕ → LedgerReply → List (Event Own)
 attempt_at now number drawn event reply =
     moment now ∷ stepped (Take now) (Taken 1 0 number event (codes "/orders") number)
-    ∷ own (asked (post_of (codes "/orders") event wants_again))
+    ∷ own (asked (post_of 0 (codes "/orders") event (Ok wants_again)))
     ∷ word drawn
     ∷ moment now ∷ stepped (Settle 1 0 number Retry now drawn letter_aims) reply
     ∷ []
@@ -89,19 +102,41 @@ attempt_at now number drawn event reply =
 abbrev pub letter_at : ℕ → ℕ → List ℕ → List (Event Own)
 letter_at now claim event =
     moment now ∷ stepped (Take now) (Taken 2 1 claim event (codes "/dead") 1)
-    ∷ own (asked (post_of (codes "/dead") event accepts))
+    ∷ own (asked (post_of 0 (codes "/dead") event (Ok accepts)))
     ∷ moment now ∷ stepped (Settle 2 1 claim Success now 0 []) Done
     ∷ []
 
 -- ---- a delivery that the breaker refuses
 
-abbrev pub breaker_step : ℕ → BreakerReply → BreakerStep
-breaker_step now reply = record { seat = 0; cmd = Admit now; reply = reply; mark = 0 }
+abbrev pub breaker_step : BreakerCmd → BreakerReply → BreakerStep
+breaker_step cmd reply = record { seat = 0; cmd = cmd; reply = reply; mark = 0 }
 
 -- The breaker is asked at 5 and answers so; the row is settled at 7 as due again at a moment
 abbrev pub refused_so : BreakerReply → ℕ → List ℕ → List (Event Own)
 refused_so answer due event =
     moment 4 ∷ stepped (Take 4) (Taken 1 0 1 event (codes "/orders") 1)
-    ∷ moment 5 ∷ guarded (breaker_step 5 answer)
+    ∷ moment 5 ∷ guarded (breaker_step (Admit 5) answer)
     ∷ moment 7 ∷ stepped (Settle 1 0 1 (Later due) 7 0 []) (Again due)
+    ∷ []
+
+-- ---- a letter that gets no reply: it has no further dead-letter topic
+
+-- The breaker lets it through at 5, the call fails, the breaker is told at 9, and a word is drawn
+abbrev pub failed_so : ℕ → List ℕ → List (Event Own)
+failed_so drawn event =
+    moment 4 ∷ stepped (Take 4) (Taken 2 1 1 event (codes "/dead") 1)
+    ∷ moment 5 ∷ guarded (breaker_step (Admit 5) (Admitted 0 false))
+    ∷ own (asked (post_of 0 (codes "/dead") event (Err Failed)))
+    ∷ moment 9 ∷ guarded (breaker_step (Report 0 9 false) Counted)
+    ∷ word drawn
+    ∷ moment 9 ∷ stepped (Settle 2 1 1 Retry 9 drawn []) (Again 1009)
+    ∷ []
+
+-- the call may take 50 ms, and its reply, whatever it is, comes 51 ms after it was made
+abbrev pub late_so : ℕ → List ℕ → Response → List (Event Own)
+late_so drawn event response =
+    moment 4 ∷ stepped (Take 4) (Taken 2 1 1 event (codes "/dead") 1)
+    ∷ moment 5 ∷ own (asked (post_of 50 (codes "/dead") event (Ok response))) ∷ moment 56
+    ∷ word drawn
+    ∷ moment 56 ∷ stepped (Settle 2 1 1 Retry 56 drawn []) (Again 1056)
     ∷ []

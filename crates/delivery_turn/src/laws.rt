@@ -16,7 +16,7 @@ ghost use Rattle.delivery_turn.specs.Settling.{Own};
 ghost use Rattle.delivery_turn.specs.Posting.{IsJudged};
 ghost use Rattle.delivery_turn.specs.Delivery.{Setting, guarded, Delivery};
 ghost use Rattle.delivery_turn.specs.Kinds.{BeginsByTaking, IsUnspent, kinds_of, so_many, is_settling, is_retry, is_call, is_refusal, is_report, is_draw};
-ghost use Rattle.delivery_turn.specs.Samples.{accepts, attempt_at, guarded_shop, letter_at, refused_so, shop, wants_again};
+ghost use Rattle.delivery_turn.specs.Samples.{attempt_at, failed_so, guarded_shop, hurried_shop, late_so, letter_at, order_event, refused_so, shop, wants_again};
 
 /// A turn settles its row once at most.
 pub fn a_row_is_settled_once()
@@ -55,6 +55,11 @@ pub fn a_reply_may_ask_for_another_attempt()
     ensures { IsJudged wants_again Retry }
 {}
 
+/// The event of the samples is a JSON text.
+pub fn the_event_is_a_text()
+    ensures { (values : Forest) × IsRead order_event values }
+{}
+
 /// A message, whatever JSON text its event is, that the app wants again three times, at 0, 100 and 200 ms, goes to the second subscription
 /// as message 2, which the app accepts.
 pub fn a_letter_is_delivered()
@@ -69,4 +74,11 @@ pub fn a_letter_is_delivered()
 pub fn a_refused_delivery_is_postponed()
     ensures opened { (rules : List Rule) (event : List ℕ) → Delivery (guarded_shop rules) (refused_so (Opened 45000) 45001 event) (Delivered 1 0 (Again 45001)) }
     ensures too_many { (rules : List Rule) (event : List ℕ) → Delivery (guarded_shop rules) (refused_so (TooMany 1) 1007 event) (Delivered 1 0 (Again 1007)) }
+{}
+
+/// A delivery whose call fails is reported to the breaker as failing, and made again; a reply that comes after the time limit, whatever
+/// it is, counts as none.
+pub fn a_delivery_without_a_reply_is_made_again()
+    ensures failed { (rules : List Rule) (event : List ℕ) (drawn : ℕ) → Delivery (guarded_shop rules) (failed_so drawn event) (Delivered 2 1 (Again 1009)) }
+    ensures late { (rules : List Rule) (event : List ℕ) (drawn : ℕ) (response : Response) → Delivery (hurried_shop rules) (late_so drawn event response) (Delivered 2 1 (Again 1056)) }
 {}
