@@ -5,3 +5,4 @@ pub mod Retrying
 pub mod SampleEvent
 pub mod Written
 pub mod Missed
+pub mod Refused

@@ -1,5 +1,5 @@
 -- The turns that get no reply, and are written out, are turns of deliveries.
-use Rattle.std.proofs.Common.{◌≡◌, ℕ, Bool, true, false, List, [], ◌∷◌, ◌++◌, Result, Ok, Err, None, refl, arith, codes}
+use Rattle.std.proofs.Common.{ℕ, true, false, List, [], ◌∷◌, ◌++◌, Ok, Err, refl, arith, codes}
 use Rattle.std.specs.Prelude.{◌≢◌}
 use Rattle.side_base.specs.declared.message.Response.{Response}
 use Rattle.side_world.specs.declared.link.LinkErr.TheVariants.{Failed}
@@ -13,7 +13,7 @@ use Rattle.policy_run.specs.Event.{Event, own, guarded, word, moment}
 use Rattle.policy_run.specs.Turn.{Asks, Reports}
 use Rattle.delivery_turn.specs.declared.turn.Turn.TheVariants.{Delivered}
 use Rattle.delivery_turn.specs.Settling.{Own, asked, Row, Settles, settled}
-use Rattle.delivery_turn.specs.Posting.{Heard, missed, Posts, free, timed, DeadAims, nowhere, Draws, again}
+use Rattle.delivery_turn.specs.Posting.{missed, free, timed, DeadAims, nowhere, Draws, again}
 use Rattle.delivery_turn.specs.Delivery.{Setting, Sent, Tried, Concludes, Takes, Delivery, taken}
 use Rattle.delivery_turn.specs.Delivery as turns
 use Rattle.delivery_turn.specs.Samples.{orders, letters, guarded_shop, hurried_shop, ledger_step, stepped, post_of, breaker_step, failed_so, late_so}
@@ -72,7 +72,7 @@ module _ (rules : List Rule) (drawn : ℕ) (event : List ℕ) where
   pub failed : Delivery (guarded_shop rules) (failed_so drawn event) (Delivered 2 1 (Again 1009))
   failed =
       taken row 1 take (((admission ++ call) ++ report) ++ word drawn ∷ settling 9 1009) takes
-          (turns.tried missed ((admission ++ call) ++ report) (word drawn ∷ settling 9 1009) failed_tried failed_concludes refl) refl
+      (turns.tried missed ((admission ++ call) ++ report) (word drawn ∷ settling 9 1009) failed_tried failed_concludes refl) refl
 
   -- ---- the reply comes late
 
@@ -92,4 +92,4 @@ module _ (rules : List Rule) (drawn : ℕ) (event : List ℕ) where
     pub late : Delivery (hurried_shop rules) (late_so drawn event response) (Delivered 2 1 (Again 1056))
     late =
         taken row 1 take (late_call ++ word drawn ∷ settling 56 1056) takes
-            (turns.tried missed late_call (word drawn ∷ settling 56 1056) late_tried late_concludes refl) refl
+        (turns.tried missed late_call (word drawn ∷ settling 56 1056) late_tried late_concludes refl) refl

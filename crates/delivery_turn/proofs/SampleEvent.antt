@@ -1,9 +1,9 @@
 -- The event that is written out is a JSON text.
-use Rattle.std.proofs.Common.{◌≡◌, ◌≤◌, List, [], ◌∷◌, length, Some, None, refl, arith}
+use Rattle.std.proofs.Common.{◌≤◌, Some, None, refl, arith}
 use Rattle.json_text.specs.declared.kind.Kind.TheVariants as kinds
 use Rattle.json_text.specs.Forest.{Forest, empty, grows}
-use Rattle.json_text.specs.Lexeme.{begins, ends, next, Spells, done, more}
-use Rattle.json_text.specs.Grammar.{Completes, IsText, word, nested, member_name, turn, close, finish, closes, takes_name, takes_value, turns}
+use Rattle.json_text.specs.Lexeme.{begins, ends, next, done, more}
+use Rattle.json_text.specs.Grammar.{IsText, word, nested, member_name, turn, close, finish, closes, takes_name, takes_value, turns}
 use Rattle.json_text.specs.Shape.{nesting}
 use Rattle.json_text.proofs.Depths.{nothing_wrong}
 use Rattle.cloud_events.specs.Wrapped.{IsRead}

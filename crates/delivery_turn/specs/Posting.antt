@@ -88,12 +88,16 @@ IsFinish lacked ends = ⊥
 abbrev pub IsSubOf : List Sub → Row → Sub → Type 0
 IsSubOf subs row sub = get_elem? subs row.sub ≡ some sub
 
+-- the aims of the row's event at a topic of its subscription's component
+abbrev pub aims_at : List Sub → Row → Sub → List ℕ → Forest → List Aim
+aims_at subs row sub topic values = aims_of (record { bytes = row.event; values = values }) sub.pubsub topic subs
+
 -- Where the event goes if it is given up: to the subscriptions of the dead-letter topic that it matches, where there is such a topic and the event is a JSON text
 pub data DeadAims (subs : List Sub) (row : Row) (aims : List Aim) : Type 0 where
   nowhere : (sub : Sub) → IsSubOf subs row sub → sub.dead ≡ None → aims ≡ [] → DeadAims subs row aims
   unreadable : (sub : Sub) (topic : List ℕ) → IsSubOf subs row sub → sub.dead ≡ Some topic → ((values : Forest) → ¬ IsRead row.event values) → aims ≡ [] → DeadAims subs row aims
-  matched : (sub : Sub) (topic : List ℕ) (values : Forest) → IsSubOf subs row sub → sub.dead ≡ Some topic → IsRead row.event values
-      → aims ≡ aims_of (record { bytes = row.event; values = values }) sub.pubsub topic subs → DeadAims subs row aims
+  matched : (sub : Sub) (topic : List ℕ) (values : Forest) → IsSubOf subs row sub → sub.dead ≡ Some topic → IsRead row.event values → aims ≡ aims_at subs row sub topic values
+      → DeadAims subs row aims
 
 -- What a settling draws and names: a random word, and the aims of the dead letter, exactly where it is `Retry`
 pub data Draws (subs : List Sub) (row : Row) (ends : Finish) (drawn : ℕ) (aims : List Aim) (events : List (Event Own)) : Type 0 where

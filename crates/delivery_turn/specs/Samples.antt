@@ -1,6 +1,6 @@
--- Turns of deliveries written out: an event that the app wants again until it is given up, the letter that it becomes, and deliveries that a breaker refuses or
--- that get no reply.
-use Rattle.std.specs.Prelude.{ℕ, false, List, [], ◌∷◌, codes, Some, None, Result, Ok, Err}
+-- Turns of deliveries written out: an event that the app wants again until it is given up, and the letter that it becomes; deliveries that a breaker
+-- refuses, or that get no reply; and turns that are none.
+use Rattle.std.specs.Prelude.{ℕ, false, List, [], ◌∷◌, ◌++◌, codes, Some, None, Result, Ok, Err}
 use Rattle.retry_core.specs.declared.policy.RetryPolicy.{RetryPolicy}
 use Rattle.retry_core.specs.declared.policy.RetryKind.TheVariants.{Constant}
 use Rattle.side_base.specs.declared.method.Method.TheVariants.{Post}
@@ -18,7 +18,7 @@ use Rattle.ledger_core.specs.declared.command.Finish.TheVariants.{Success, Retry
 use Rattle.ledger_core.specs.declared.command.LedgerCmd.{LedgerCmd}
 use Rattle.ledger_core.specs.declared.command.LedgerCmd.TheVariants.{Take, Settle}
 use Rattle.ledger_core.specs.declared.reply.LedgerReply.{LedgerReply}
-use Rattle.ledger_core.specs.declared.reply.LedgerReply.TheVariants.{Taken, Done, Again}
+use Rattle.ledger_core.specs.declared.reply.LedgerReply.TheVariants.{Taken, Idle, NotTaken, Done, Again}
 use Rattle.ledger_core.specs.Message.{Step}
 use Rattle.topic_spec.specs.declared.sub.Rule.{Rule}
 use Rattle.topic_spec.specs.declared.sub.Sub.{Sub}
@@ -139,4 +139,47 @@ late_so drawn event response =
     ∷ moment 5 ∷ own (asked (post_of 50 (codes "/dead") event (Ok response))) ∷ moment 56
     ∷ word drawn
     ∷ moment 56 ∷ stepped (Settle 2 1 1 Retry 56 drawn []) (Again 1056)
+    ∷ []
+
+-- ---- turns that are none
+
+-- a further settling behind an attempt
+abbrev pub settled_twice : ℕ → List ℕ → List (Event Own)
+settled_twice drawn event = attempt_at 0 1 drawn event (Again 100) ++ moment 0 ∷ stepped (Settle 1 0 1 Success 0 0 []) NotTaken ∷ []
+
+-- a call that failed, of which the breaker that let it through is not told
+abbrev pub unreported : ℕ → List ℕ → List (Event Own)
+unreported drawn event =
+    moment 4 ∷ stepped (Take 4) (Taken 2 1 1 event (codes "/dead") 1)
+    ∷ moment 5 ∷ guarded (breaker_step (Admit 5) (Admitted 0 false))
+    ∷ own (asked (post_of 0 (codes "/dead") event (Err Failed)))
+    ∷ word drawn
+    ∷ moment 9 ∷ stepped (Settle 2 1 1 Retry 9 drawn []) (Again 1009)
+    ∷ []
+
+-- a call before a row is taken, and a call where none was
+abbrev pub called_first : List ℕ → List (Event Own)
+called_first event =
+    own (asked (post_of 0 (codes "/dead") event (Ok accepts)))
+    ∷ moment 4 ∷ stepped (Take 4) (Taken 2 1 1 event (codes "/dead") 1)
+    ∷ moment 9 ∷ stepped (Settle 2 1 1 Success 9 0 []) Done
+    ∷ []
+
+abbrev pub called_idly : List ℕ → List (Event Own)
+called_idly event = moment 4 ∷ stepped (Take 4) (Idle None) ∷ own (asked (post_of 0 (codes "/dead") event (Ok accepts))) ∷ []
+
+-- a settling with `Retry` that draws no word, and one with `Success` that draws one
+abbrev pub undrawn : List ℕ → List (Event Own)
+undrawn event =
+    moment 4 ∷ stepped (Take 4) (Taken 2 1 1 event (codes "/dead") 1)
+    ∷ own (asked (post_of 0 (codes "/dead") event (Err Failed)))
+    ∷ moment 9 ∷ stepped (Settle 2 1 1 Retry 9 0 []) (Again 1009)
+    ∷ []
+
+abbrev pub overdrawn : ℕ → List ℕ → List (Event Own)
+overdrawn drawn event =
+    moment 4 ∷ stepped (Take 4) (Taken 2 1 1 event (codes "/dead") 1)
+    ∷ own (asked (post_of 0 (codes "/dead") event (Ok accepts)))
+    ∷ word drawn
+    ∷ moment 9 ∷ stepped (Settle 2 1 1 Success 9 drawn []) Done
     ∷ []

@@ -16,14 +16,15 @@ ghost use Rattle.delivery_turn.specs.Settling.{Own};
 ghost use Rattle.delivery_turn.specs.Posting.{IsJudged};
 ghost use Rattle.delivery_turn.specs.Delivery.{Setting, guarded, Delivery};
 ghost use Rattle.delivery_turn.specs.Kinds.{BeginsByTaking, IsUnspent, kinds_of, so_many, is_settling, is_retry, is_call, is_refusal, is_report, is_draw};
-ghost use Rattle.delivery_turn.specs.Samples.{attempt_at, failed_so, guarded_shop, hurried_shop, late_so, letter_at, order_event, refused_so, shop, wants_again};
+ghost use Rattle.delivery_turn.specs.Samples.{attempt_at, called_first, called_idly, failed_so, guarded_shop, hurried_shop, late_so, letter_at, order_event, overdrawn, refused_so, settled_twice, shop, undrawn, unreported, wants_again};
 
 /// A turn settles its row once at most.
 pub fn a_row_is_settled_once()
     ensures { (setting : Setting) (events : List (Event Own)) (turn : Turn) → Delivery setting events turn → so_many is_settling (kinds_of events) ≤ 1 }
 {}
 
-/// All that a turn does comes after it took a row: no call of the app, no settling and no word stands before, or where none was taken.
+/// All that a turn does comes after it took a row: no call of the app, no settling and no word stands before, or where none was
+/// taken.
 pub fn a_row_is_taken_first()
     ensures { (setting : Setting) (events : List (Event Own)) (turn : Turn) → Delivery setting events turn → BeginsByTaking (kinds_of events) }
 {}
@@ -55,13 +56,13 @@ pub fn a_reply_may_ask_for_another_attempt()
     ensures { IsJudged wants_again Retry }
 {}
 
-/// The event of the samples is a JSON text.
+/// An event of 159 bytes, as it is published, is a JSON text.
 pub fn the_event_is_a_text()
     ensures { (values : Forest) × IsRead order_event values }
 {}
 
-/// A message, whatever JSON text its event is, that the app wants again three times, at 0, 100 and 200 ms, goes to the second subscription
-/// as message 2, which the app accepts.
+/// A message, whatever JSON text its event is, that the app wants again three times, at 0, 100 and 200 ms, goes to the second
+/// subscription as message 2, which the app accepts.
 pub fn a_letter_is_delivered()
     ensures first { (rules : List Rule) (event : List ℕ) (values : Forest) (drawn : ℕ) → IsRead event values → Delivery (shop rules) (attempt_at 0 1 drawn event (Again 100)) (Delivered 1 0 (Again 100)) }
     ensures second { (rules : List Rule) (event : List ℕ) (values : Forest) (drawn : ℕ) → IsRead event values → Delivery (shop rules) (attempt_at 100 2 drawn event (Again 200)) (Delivered 1 0 (Again 200)) }
@@ -81,4 +82,16 @@ pub fn a_refused_delivery_is_postponed()
 pub fn a_delivery_without_a_reply_is_made_again()
     ensures failed { (rules : List Rule) (event : List ℕ) (drawn : ℕ) → Delivery (guarded_shop rules) (failed_so drawn event) (Delivered 2 1 (Again 1009)) }
     ensures late { (rules : List Rule) (event : List ℕ) (drawn : ℕ) (response : Response) → Delivery (hurried_shop rules) (late_so drawn event response) (Delivered 2 1 (Again 1056)) }
+{}
+
+/// Some turns are none, whatever the setting is: one that settles twice, one that does not report a call to the breaker that guards
+/// it, one that calls the app before it took a row or where it took none, and one that draws no word for a settling with `Retry`, or
+/// one for another.
+pub fn wrong_turns_are_refused()
+    ensures twice { (setting : Setting) (drawn : ℕ) (event : List ℕ) (turn : Turn) → ¬ Delivery setting (settled_twice drawn event) turn }
+    ensures unreported { (setting : Setting) (drawn : ℕ) (event : List ℕ) → guarded setting ≡ true → ¬ Delivery setting (unreported drawn event) (Delivered 2 1 (Again 1009)) }
+    ensures first { (setting : Setting) (event : List ℕ) (turn : Turn) → ¬ Delivery setting (called_first event) turn }
+    ensures idle { (setting : Setting) (event : List ℕ) (turn : Turn) → ¬ Delivery setting (called_idly event) turn }
+    ensures undrawn { (setting : Setting) (event : List ℕ) → ¬ Delivery setting (undrawn event) (Delivered 2 1 (Again 1009)) }
+    ensures overdrawn { (setting : Setting) (drawn : ℕ) (event : List ℕ) → ¬ Delivery setting (overdrawn drawn event) (Delivered 2 1 Done) }
 {}
