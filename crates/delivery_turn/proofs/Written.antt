@@ -21,7 +21,7 @@ use Rattle.delivery_turn.specs.Posting.{replied, free, DeadAims, matched, again,
 use Rattle.delivery_turn.specs.Delivery.{Sent, Tried, Concludes, Postponed, Takes, Delivery, taken}
 use Rattle.delivery_turn.specs.Delivery as turns
 use Rattle.delivery_turn.specs.Samples.{orders, letters, shop, guarded_shop, ledger_step, stepped, post_of, wants_again, accepts, letter_aims, attempt_at, letter_at, breaker_step, refused_so}
-use Rattle.delivery_turn.proofs.Judging.{empty}
+use Rattle.delivery_turn.proofs.Judging.{no_body}
 use Rattle.delivery_turn.proofs.Retrying.{wants_again_judged}
 
 letter_is : (rules : List Rule) (event : List ℕ) (values : Forest) → letter_aims ≡ aims_of (record { bytes = event; values = values }) (codes "pubsub") (codes "dead") (orders rules ∷ letters ∷ [])
@@ -116,7 +116,7 @@ module _ (rules : List Rule) (now claim : ℕ) (event : List ℕ) where
     dead = [];
     draw = [];
     settling = letter_settling;
-    is_finish = (verdict.Success, empty [] 200 verdict.Success refl, refl);
+    is_finish = (verdict.Success, no_body [] 200 verdict.Success refl, refl);
     draws = otherwise not_again refl refl refl;
     settles = letter_settles;
     whole = refl;

@@ -44,6 +44,11 @@ pub fn a_refused_delivery_is_not_tried()
     ensures { (setting : Setting) (events : List (Event Own)) (turn : Turn) → Delivery setting events turn → so_many is_call (kinds_of events) + so_many is_refusal (kinds_of events) ≤ 1 }
 {}
 
+/// A reply has one verdict at most.
+pub fn a_reply_has_one_verdict()
+    ensures { (response : Response) (one other : Verdict) → IsJudged response one → IsJudged response other → one ≡ other }
+{}
+
 /// Whatever the body of a reply is, 404 drops the message and 500 has it delivered again; a good reply without a body is a success.
 pub fn some_replies_are_judged_by_status()
     ensures absent { (response : Response) (verdict : Verdict) → response.status ≡ 404 → IsJudged response verdict → verdict ≡ Drop }
