@@ -1,0 +1,5 @@
+pub mod Settling
+pub mod Posting
+pub mod Delivery
+pub mod Kinds
+pub mod Samples
