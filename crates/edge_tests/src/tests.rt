@@ -5,7 +5,7 @@ use std::net::{Net, TcpListener, TcpStream};
 use std::process::Abort;
 use std::sync::Wait;
 use std::test::Fail;
-use std::thread::{Threads, for_each_mut, join, sleep};
+use std::thread::{for_each_mut, join, sleep};
 use std::time::{Clock, Duration};
 
 /// Limits of a door that is soon out of patience.
@@ -167,19 +167,32 @@ fn answered_beside_drips<R: Net<Listener = TcpListener, Stream = TcpStream> + Cl
     piece_of(&mut whole)
 }
 
-/// What comes of clients of a door with four workers, which is shut afterwards.
-fn beside_workers<R, F>(rt: R, clients: F) -> io::Result<usize>
-where
-    R: Net<Listener = TcpListener, Stream = TcpStream>
-        + Threads
-        + Wait
-        + AllocGlobal
-        + Copy
-        + Drop
-        + Send
-        + Sync,
-    F: FnOnce(u16) -> io::Result<usize> + Send,
-{
+/// Slow clients beside which one more is answered.
+#[derive(Clone, Copy)]
+enum Slow {
+    /// So many that have sent half a request.
+    Halves(u32),
+    /// Four that go on sending.
+    Drips,
+}
+
+/// How many bytes one client more is answered beside slow ones at a door that is shut afterwards.
+fn answered_at<R: Net<Listener = TcpListener, Stream = TcpStream> + Clock + AllocGlobal>(
+    rt: &R,
+    door: &TcpDoor,
+    port: u16,
+    slow: Slow,
+) -> io::Result<usize> {
+    let answered = match slow {
+        Slow::Halves(count) => answered_beside_halves(rt, port, count),
+        Slow::Drips => answered_beside_drips(rt, port),
+    };
+    door.shut();
+    answered
+}
+
+#[test]
+fn four_half_requests_leave_a_worker_to_a_fifth_client(rt: HostRuntime) -> Result<(), Fail> {
     let door = TcpDoor::open(&rt, 0)?;
     let port = door.port()?;
     let mut workers = Vec::new(rt.alloc());
@@ -189,32 +202,42 @@ where
     let (_, answered) = join(
         &rt,
         || for_each_mut(&rt, &mut workers, 4, &|_, worker| serve_to_the_end(worker)),
-        || {
-            let answered = clients(port);
-            door.shut();
-            answered
-        },
+        || answered_at(&rt, &door, port, Slow::Halves(4)),
     );
-    answered
-}
-
-#[test]
-fn four_half_requests_leave_a_worker_to_a_fifth_client(rt: HostRuntime) -> Result<(), Fail> {
-    let answered = beside_workers(rt, |port| answered_beside_halves(&rt, port, 4))?;
-    assert_eq!(rt; answered, 6);
+    assert_eq!(rt; answered?, 6);
     Ok(())
 }
 
 #[test]
 fn sixty_half_requests_leave_a_worker_to_another_client(rt: HostRuntime) -> Result<(), Fail> {
-    let answered = beside_workers(rt, |port| answered_beside_halves(&rt, port, 60))?;
-    assert_eq!(rt; answered, 6);
+    let door = TcpDoor::open(&rt, 0)?;
+    let port = door.port()?;
+    let mut workers = Vec::new(rt.alloc());
+    for _ in 0..4u32 {
+        workers.push(door.acceptor(rt)?)?;
+    }
+    let (_, answered) = join(
+        &rt,
+        || for_each_mut(&rt, &mut workers, 4, &|_, worker| serve_to_the_end(worker)),
+        || answered_at(&rt, &door, port, Slow::Halves(60)),
+    );
+    assert_eq!(rt; answered?, 6);
     Ok(())
 }
 
 #[test]
 fn four_slow_requests_leave_a_worker_to_a_fifth_client(rt: HostRuntime) -> Result<(), Fail> {
-    let answered = beside_workers(rt, |port| answered_beside_drips(&rt, port))?;
-    assert_eq!(rt; answered, 6);
+    let door = TcpDoor::open(&rt, 0)?;
+    let port = door.port()?;
+    let mut workers = Vec::new(rt.alloc());
+    for _ in 0..4u32 {
+        workers.push(door.acceptor(rt)?)?;
+    }
+    let (_, answered) = join(
+        &rt,
+        || for_each_mut(&rt, &mut workers, 4, &|_, worker| serve_to_the_end(worker)),
+        || answered_at(&rt, &door, port, Slow::Drips),
+    );
+    assert_eq!(rt; answered?, 6);
     Ok(())
 }
