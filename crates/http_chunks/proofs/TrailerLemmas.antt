@@ -1,5 +1,5 @@
 -- Trailers within their limit, from what the parser says of them.
-use Rattle.std.proofs.Common.{◌≡◌, ℕ, ◌+◌, ◌<◌, ◌≤◌, List, [], ◌∷◌, ◌++◌, length, take, drop, inl, inr, lit≤, refl, sym, ap, ◌∙◌, subst, arith, append_assoc, append-nil, length-append, take-append-drop, length-take, true}
+use Rattle.std.proofs.Common.{◌≡◌, ℕ, ◌+◌, ◌*◌, ◌<◌, ◌≤◌, List, [], ◌∷◌, ◌++◌, length, take, drop, inl, inr, lit≤, refl, sym, ap, ◌∙◌, subst, arith, append_assoc, append-nil, length-append, take-append-drop, length-take, true}
 use Rattle.std.specs.Prelude.{All}
 use Rattle.std.specs.List.{flat_map}
 use Rattle.std.proofs.lemmas.List.{take_all, same_from_push}
@@ -282,8 +282,8 @@ trailers_of_end p more fits some none (front, back, fields, last, each, cut, sam
   ),
 )
 
-pub never_exceeds_section : (text : List ℕ) (room : ℕ) → length text ≤ LINE_LIMIT → 5463 ≤ room → SectionExceeds room text → ⊥
-never_exceeds_section text room short large (front, rest, whole, fields, reads, many) =
+pub never_exceeds_section : (text : List ℕ) (room : ℕ) → length text < 3 * room → SectionExceeds room text → ⊥
+never_exceeds_section text room large (front, rest, whole, fields, reads, many) =
     omega (
       arith,
       ap length whole,

@@ -10,8 +10,8 @@ use std::alloc::Global;
 
 /// The trailers for which there is room without memory.
 const FIELD_ROOM: usize = 8;
-/// More trailers than 16,386 bytes can have, each of which takes three bytes at least.
-const MOST_FIELDS: usize = 5_463;
+/// The least bytes of a trailer.
+const FIELD_LEN: usize = 3;
 
 const ONE_FEED: &[u8] = b"\n";
 
@@ -106,12 +106,12 @@ fn read_section(alloc: Global, text: &[u8]) -> Result<TrailersRead, NoMemory>
     }
 }
 
-/// The same, with room for the fields of every such text.
+/// The same, with room for as many fields as the text can have.
 fn read_long_section(alloc: Global, text: &[u8]) -> Result<TrailersRead, NoMemory>
     requires { length text.now ≤ LINE_LIMIT }
     ensures { IfOk result (λ read. IsSectionRead text.now read) }
 {
-    let mut headers = vec![in alloc; EMPTY_HEADER_SPAN; MOST_FIELDS]?;
+    let mut headers = vec![in alloc; EMPTY_HEADER_SPAN; text.len() / FIELD_LEN + 1]?;
     match section_within(text, &mut headers) {
         Some(read) => Ok(read),
         None => unreachable!(),
