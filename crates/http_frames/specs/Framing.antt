@@ -27,6 +27,8 @@ content_of (Some content) = content.body.bytes
 pub record Kept : Type 0 where
   pub begun : Option Content
   pub buffered : List ℕ
+  -- the bytes that were read and stand in the buffer still
+  pub behind : ℕ
   pub continued : Bool
   pub refused : Option FrameErr
 
@@ -108,6 +110,10 @@ IsNext old (Err error) new = (new ≡ ended error) × ((old ≡ ended error) ⊎
 -- the number of bytes that are held: those of the content that came, and those that were not read
 abbrev pub held : Kept → ℕ
 held kept = length kept.buffered + length (content_of kept.begun)
+
+-- the number of bytes that stand in the buffer and in the content, those that were read among them
+abbrev pub stored : Kept → ℕ
+stored kept = kept.behind + held kept
 
 -- all that is held of a request that is not whole: its content, and a chunk line and trailers
 abbrev pub HELD_LIMIT : ℕ

@@ -43,13 +43,19 @@ IsTurn pending rest continued (next, Ok turn.Need) =
 IsTurn pending rest continued (next, Ok (turn.Refused error)) = IsRefused pending error × IsQuiet pending continued
 IsTurn pending rest continued (next, Err error) = Holds pending rest next
 
+-- what is left at a stage of an open stream
+abbrev pub IsOpen : List ℕ → Bool → Stage → Type 0
+IsOpen rest continued (stage.Head place) = IsStage rest continued (stage.Head place)
+IsOpen rest continued (stage.Content content) = IsStage rest continued (stage.Content content)
+IsOpen rest continued (stage.Refused error) = ⊥
+
 -- what is left behind a turn, of which rest was not read
 abbrev pub Leaves : List ℕ → Bool → Stage × Result Turn AllocError → Type 0
 Leaves rest continued (next, Ok (turn.Request request end)) = (next ≡ stage.Head beginning) × (end ≤ length rest)
-Leaves rest continued (next, Ok turn.Continue) = IsStage rest true next
-Leaves rest continued (next, Ok turn.Need) = IsStage rest continued next × (length rest < HEAD_LIMIT + HEAD_LIMIT)
+Leaves rest continued (next, Ok turn.Continue) = IsOpen rest true next
+Leaves rest continued (next, Ok turn.Need) = IsOpen rest continued next × (length rest < HEAD_LIMIT + HEAD_LIMIT)
 Leaves rest continued (next, Ok (turn.Refused error)) = next ≡ stage.Refused error
-Leaves rest continued (next, Err error) = IsStage rest continued next
+Leaves rest continued (next, Err error) = IsOpen rest continued next
 
 -- the turn from a stage on, with what was not read before it and behind it; a refused stream is refused again
 abbrev pub TakesTurn : List ℕ → List ℕ → List ℕ → Bool → Stage → Stage × Result Turn AllocError → Type 0

@@ -1,5 +1,5 @@
 ghost use Rattle.std.specs.Prelude.{◌≡◌, ◌≤◌, ◌+◌, [], false, IsTrue, ◌↔◌, OnOk, OnErr, length, drop};
-ghost use Rattle.http_frames.specs.Framing.{State, Stands, Answers, waiting, fed, held};
+ghost use Rattle.http_frames.specs.Framing.{State, Stands, Answers, waiting, fed, held, stored};
 
 use crate::lines::{Place, start};
 use crate::progress::{Content, feed_content};
@@ -66,6 +66,7 @@ impl Framer {
         ensures ok { OnOk result ((state : State) → Stands state self.old → Stands (fed state piece.now) self.new) }
         ensures err { OnErr result ((state : State) → Stands state self.old → Stands state self.new) }
         ensures room { held self.new ≤ held self.old + length piece.now }
+        ensures dropped { stored self.new ≤ held self.old + length piece.now }
     {
         if let Stage::Refused(_) = self.stage {
             return Ok(());

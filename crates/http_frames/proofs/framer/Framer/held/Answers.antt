@@ -9,7 +9,7 @@ returns-in-Head c =
       arith,
       c.len.ensures,
       length-drop inside.start inside.bytes.items,
-      held_head _ (drop inside.start inside.bytes.items) inside.continued inside.stage c.in-Head.field-0 c.in-Head.is c.self.view_is,
+      held_head _ inside.start (drop inside.start inside.bytes.items) inside.continued inside.stage c.in-Head.field-0 c.in-Head.is c.self.view_is,
     )
 
 pub returns-in-Content : goal.returns-in-Content
@@ -20,10 +20,10 @@ returns-in-Content c =
       c.len.ensures,
       c.len-in-Content.ensures,
       length-drop inside.start inside.bytes.items,
-      held_content _ (drop inside.start inside.bytes.items) inside.continued inside.stage c.in-Content.content c.in-Content.is c.self.view_is,
+      held_content _ inside.start (drop inside.start inside.bytes.items) inside.continued inside.stage c.in-Content.content c.in-Content.is c.self.view_is,
     )
 
 pub returns-in-Refused : goal.returns-in-Refused
 returns-in-Refused c =
     let inside = c.self.inside in
-    held_refused _ (drop inside.start inside.bytes.items) inside.continued inside.stage c.in-Refused.field-0 c.in-Refused.is c.self.view_is
+    held_refused _ inside.start (drop inside.start inside.bytes.items) inside.continued inside.stage c.in-Refused.field-0 c.in-Refused.is c.self.view_is

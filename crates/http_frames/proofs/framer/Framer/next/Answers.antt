@@ -1,4 +1,4 @@
-use Rattle.std.proofs.Common.{◌∙◌, List, ℕ, false, Result, Ok, drop, sym, ap, subst, drop-drop}
+use Rattle.std.proofs.Common.{◌∙◌, ◌+◌, List, ℕ, false, Result, Ok, drop, sym, ap, subst, drop-drop}
 use Rattle.std.proofs.lemmas.Result.{err_from_is_err_and}
 use Rattle.std.specs.declared.alloc.AllocError.{AllocError}
 use Rattle.http_frames.specs.declared.framer.Stage.{Stage}
@@ -25,7 +25,7 @@ returns-in_err-request c state is =
     let R : Result Turn AllocError → Type 0 = λ r. TakesTurn state.pending rest rest' inside.continued inside.stage (turned.0, r) in
     let took = subst R (c.in_err-request.was) (subst Q c.replace-stage.ensures.value (subst N c.deref.ensures.value (c.take_turn-stage.ensures.turn state.pending))) in
     let p = err_from_is_err_and c.from_residual.result c.from_residual.ensures.1 in
-    rw (p.1, p.2) (gives_nothing state rest rest' inside.continued inside.stage turned.0 _ stands took)
+    rw (p.1, p.2) (gives_nothing state inside.start c.take_turn-stage.new.at rest rest' inside.continued inside.stage turned.0 _ stands took)
 
 pub returns-in-Request : goal.returns-in-Request
 returns-in-Request c state is =
@@ -42,9 +42,9 @@ returns-in-Request c state is =
     let took = subst R (c.in_ok-request.was ∙ ap (λ (t : Turn). Ok t) c.in-Request.is) (subst Q c.replace-stage.ensures.value (subst N c.deref.ensures.value (c.take_turn-stage.ensures.turn state.pending))) in
     let L : Result Turn AllocError → Type 0 = λ r. Leaves (drop c.take_turn-stage.new.at c.deref.result.now) inside.continued (turned.0, r) in
     let left = subst L (c.in_ok-request.was ∙ ap (λ (t : Turn). Ok t) c.in-Request.is) c.take_turn-stage.ensures.left in
-    let W : List ℕ → Type 0 = λ t. Answers state (Ok (step.Request c.in-Request.request)) (kept_at t false turned.0) in
+    let W : List ℕ → Type 0 = λ t. Answers state (Ok (step.Request c.in-Request.request)) (kept_at (c.take_turn-stage.new.at + c.in-Request.end) t false turned.0) in
     subst W (drop-drop c.in-Request.end c.take_turn-stage.new.at bytes)
-    (gives_request state rest rest' inside.continued inside.stage turned.0 c.in-Request.request c.in-Request.end stands took left.0)
+    (gives_request state inside.start _ rest rest' inside.continued inside.stage turned.0 c.in-Request.request c.in-Request.end stands took left.0)
 
 pub returns-in-Continue : goal.returns-in-Continue
 returns-in-Continue c state is =
@@ -59,7 +59,7 @@ returns-in-Continue c state is =
     let Q : Stage → Type 0 = λ s. TakesTurn state.pending rest rest' inside.continued s turned in
     let R : Result Turn AllocError → Type 0 = λ r. TakesTurn state.pending rest rest' inside.continued inside.stage (turned.0, r) in
     let took = subst R (c.in_ok-request.was ∙ ap (λ (t : Turn). Ok t) c.in-Continue.is) (subst Q c.replace-stage.ensures.value (subst N c.deref.ensures.value (c.take_turn-stage.ensures.turn state.pending))) in
-    gives_continue state rest rest' inside.continued inside.stage turned.0 stands took
+    gives_continue state inside.start c.take_turn-stage.new.at rest rest' inside.continued inside.stage turned.0 stands took
 
 pub returns-in-Need : goal.returns-in-Need
 returns-in-Need c state is =
@@ -77,7 +77,7 @@ returns-in-Need c state is =
     let L : Result Turn AllocError → Type 0 = λ r. Leaves (drop c.take_turn-stage.new.at c.deref.result.now) inside.continued (turned.0, r) in
     let M : List ℕ → Type 0 = λ t. Leaves (drop c.take_turn-stage.new.at t) inside.continued (turned.0, Ok turn.Need) in
     let left = subst M c.deref.ensures.value (subst L (c.in_ok-request.was ∙ ap (λ (t : Turn). Ok t) c.in-Need.is) c.take_turn-stage.ensures.left) in
-    gives_need state rest rest' inside.continued inside.stage turned.0 stands took left
+    gives_need state inside.start c.take_turn-stage.new.at rest rest' inside.continued inside.stage turned.0 stands took left
 
 pub returns-in-Refused : goal.returns-in-Refused
 returns-in-Refused c state is =
@@ -94,4 +94,4 @@ returns-in-Refused c state is =
     let took = subst R (c.in_ok-request.was ∙ ap (λ (t : Turn). Ok t) c.in-Refused.is) (subst Q c.replace-stage.ensures.value (subst N c.deref.ensures.value (c.take_turn-stage.ensures.turn state.pending))) in
     let L : Result Turn AllocError → Type 0 = λ r. Leaves (drop c.take_turn-stage.new.at c.deref.result.now) inside.continued (turned.0, r) in
     let left = subst L (c.in_ok-request.was ∙ ap (λ (t : Turn). Ok t) c.in-Refused.is) c.take_turn-stage.ensures.left in
-    gives_refusal state rest rest' _ inside.continued inside.continued inside.stage turned.0 c.in-Refused.error stands took left
+    gives_refusal state inside.start _ rest rest' _ inside.continued inside.continued inside.stage turned.0 c.in-Refused.error stands took left
