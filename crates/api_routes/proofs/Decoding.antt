@@ -1,5 +1,5 @@
 -- Why the parameters of a route give no texts.
-use Rattle.std.proofs.Common.{◌≡◌, ◌+◌, length, ℕ, inl, inr, List, [], ◌∷◌, Result, Ok, Err, refl, sym, subst}
+use Rattle.std.proofs.Common.{◌≡◌, length, ℕ, inl, inr, List, [], ◌∷◌, Result, Ok, Err, refl, sym, ◌∙◌, subst}
 use Rattle.api_routes.specs.declared.route.RouteErr.{RouteErr}
 use Rattle.api_routes.specs.declared.route.RouteErr.TheVariants.{NotFound, MethodNotAllowed, BadEscape, NoMemory}
 use Rattle.std.specs.List.{AllByRecursion}
@@ -7,9 +7,10 @@ use Rattle.api_routes.specs.declared.route.Route.{Route}
 use Rattle.api_routes.specs.declared.route.Route.TheVariants as route
 use Rattle.api_routes.specs.declared.table.Kind.{Kind}
 use Rattle.api_routes.specs.declared.table.Kind.TheVariants as kind
-use Rattle.api_routes.specs.Parameters.{Broken, Begins, Decodes, DecodesInvoked, DecodesRoute, DecodesTwo, Invoked, Leads, One, Two}
-use Rattle.api_routes.specs.Path.{Parameter, slash}
+use Rattle.api_routes.specs.Parameters.{Broken, Decodes, DecodesInvoked, DecodesRoute, DecodesTwo, Stands, parts_of}
+use Rattle.api_routes.specs.Path.{Parameter}
 use Rattle.api_routes.specs.Route.{IsText, Says, decoded, text_of}
+use Rattle.api_routes.proofs.Cutting.{count, counts, one-of, two-of}
 
 -- where the first of two is broken
 pub broken-first : (first last : Parameter) (why : RouteErr) → Broken (first ∷ []) why → Broken (first ∷ last ∷ []) why
@@ -41,10 +42,12 @@ one-at target sort first make (Ok text) (Err why) all says decodes is = absurd i
 one-at target sort first make (Err why) (Ok way) all says decodes is = absurd is
 one-at target sort first make (Err why) (Err other) all says decodes is = rw (is, all) decodes
 
-pub one-route : (target path : List ℕ) (sort : Kind) (parameters : List Parameter) (make : List ℕ → Route) (one : Result (List ℕ) RouteErr) (result : Result Route RouteErr) → ((first : Parameter) → decoded sort (first ∷ []) ≡ first ∷ []) → ((first : Parameter) → Says target sort (first ∷ []) (make (text_of first))) → One path parameters → ((first : Parameter) (rest : List ℕ) → Leads path first rest → Decodes first one) → IsMapped make one result → DecodesRoute target sort parameters result
-one-route target path sort parameters make one result all says stands decodes cases =
-    subst (λ (ps : List Parameter). DecodesRoute target sort ps result) (sym stands.are)
-    (one-at target sort stands.first make one result (all stands.first) (says stands.first) (decodes stands.first stands.rest stands.leads) cases)
+pub one-route : (target path : List ℕ) (sort : Kind) (parameters : List Parameter) (make : List ℕ → Route) (one : Result (List ℕ) RouteErr) (result : Result Route RouteErr) → ((first : Parameter) → decoded sort (first ∷ []) ≡ first ∷ []) → ((first : Parameter) → Says target sort (first ∷ []) (make (text_of first))) → count (parts_of sort) ≡ 1 → Stands sort path parameters → ((first : Parameter) → Stands sort path (first ∷ []) → Decodes first one) → IsMapped make one result → DecodesRoute target sort parameters result
+one-route target path sort parameters make one result all says single stands decodes cases =
+    let found = one-of parameters (counts 0 (parts_of sort) path parameters stands ∙ single) in
+    let at = subst (λ (ps : List Parameter). Stands sort path ps) found.1 stands in
+    subst (λ (ps : List Parameter). DecodesRoute target sort ps result) (sym found.1)
+    (one-at target sort found.0 make one result (all found.0) (says found.0) (decodes found.0 at) cases)
 
 -- a route of two
 two-at : (target : List ℕ) (sort : Kind) (first last : Parameter) (make : List ℕ × List ℕ → Route) (two : Result (List ℕ × List ℕ) RouteErr) (result : Result Route RouteErr) → decoded sort (first ∷ last ∷ []) ≡ first ∷ last ∷ [] → ((texts : List ℕ × List ℕ) → texts.0 ≡ text_of first → texts.1 ≡ text_of last → Says target sort (first ∷ last ∷ []) (make texts)) → DecodesTwo first last two → IsMapped make two result → DecodesRoute target sort (first ∷ last ∷ []) result
@@ -54,10 +57,12 @@ two-at target sort first last make (Ok texts) (Err why) all says decodes is = ab
 two-at target sort first last make (Err why) (Ok way) all says decodes is = absurd is
 two-at target sort first last make (Err why) (Err other) all says decodes is = rw (is, all) decodes
 
-pub two-route : (target path : List ℕ) (sort : Kind) (parameters : List Parameter) (make : List ℕ × List ℕ → Route) (two : Result (List ℕ × List ℕ) RouteErr) (result : Result Route RouteErr) → ((first last : Parameter) → decoded sort (first ∷ last ∷ []) ≡ first ∷ last ∷ []) → ((first last : Parameter) (texts : List ℕ × List ℕ) → texts.0 ≡ text_of first → texts.1 ≡ text_of last → Says target sort (first ∷ last ∷ []) (make texts)) → Two path parameters → ((first last : Parameter) → Leads path first (slash ∷ last.bytes) → last.at + length last.bytes ≡ length path → DecodesTwo first last two) → IsMapped make two result → DecodesRoute target sort parameters result
-two-route target path sort parameters make two result all says stands decodes cases =
-    subst (λ (ps : List Parameter). DecodesRoute target sort ps result) (sym stands.are)
-    (two-at target sort stands.first stands.last make two result (all stands.first stands.last) (says stands.first stands.last) (decodes stands.first stands.last stands.leads stands.at_is) cases)
+pub two-route : (target path : List ℕ) (sort : Kind) (parameters : List Parameter) (make : List ℕ × List ℕ → Route) (two : Result (List ℕ × List ℕ) RouteErr) (result : Result Route RouteErr) → ((first last : Parameter) → decoded sort (first ∷ last ∷ []) ≡ first ∷ last ∷ []) → ((first last : Parameter) (texts : List ℕ × List ℕ) → texts.0 ≡ text_of first → texts.1 ≡ text_of last → Says target sort (first ∷ last ∷ []) (make texts)) → count (parts_of sort) ≡ 2 → Stands sort path parameters → ((first last : Parameter) → Stands sort path (first ∷ last ∷ []) → DecodesTwo first last two) → IsMapped make two result → DecodesRoute target sort parameters result
+two-route target path sort parameters make two result all says pair stands decodes cases =
+    let found = two-of parameters (counts 0 (parts_of sort) path parameters stands ∙ pair) in
+    let at = subst (λ (ps : List Parameter). Stands sort path ps) found.2 stands in
+    subst (λ (ps : List Parameter). DecodesRoute target sort ps result) (sym found.2)
+    (two-at target sort found.0 found.1 make two result (all found.0 found.1) (says found.0 found.1) (decodes found.0 found.1 at) cases)
 
 -- an invocation
 invoke-at : (target : List ℕ) (first last : Parameter) (two : Result (List ℕ × List ℕ) RouteErr) (result : Result Route RouteErr) → DecodesInvoked target first last two → IsMapped (λ texts. route.Invoke texts.0 texts.1) two result → DecodesRoute target kind.Invoke (first ∷ last ∷ []) result
@@ -66,7 +71,9 @@ invoke-at target first last (Ok texts) (Err why) decodes is = absurd is
 invoke-at target first last (Err why) (Ok way) decodes is = absurd is
 invoke-at target first last (Err why) (Err other) decodes is = rw is decodes
 
-pub invoke-route : (target path : List ℕ) (parameters : List Parameter) (two : Result (List ℕ × List ℕ) RouteErr) (result : Result Route RouteErr) → Invoked path parameters → ((first last : Parameter) (after segment : List ℕ) → Leads path first after → Begins after segment (slash ∷ last.bytes) → last.at + length last.bytes ≡ length path → DecodesInvoked target first last two) → IsMapped (λ texts. route.Invoke texts.0 texts.1) two result → DecodesRoute target kind.Invoke parameters result
+pub invoke-route : (target path : List ℕ) (parameters : List Parameter) (two : Result (List ℕ × List ℕ) RouteErr) (result : Result Route RouteErr) → Stands kind.Invoke path parameters → ((first last : Parameter) → Stands kind.Invoke path (first ∷ last ∷ []) → DecodesInvoked target first last two) → IsMapped (λ texts. route.Invoke texts.0 texts.1) two result → DecodesRoute target kind.Invoke parameters result
 invoke-route target path parameters two result stands decodes cases =
-    subst (λ (ps : List Parameter). DecodesRoute target kind.Invoke ps result) (sym stands.are)
-    (invoke-at target stands.first stands.last two result (decodes stands.first stands.last stands.after stands.segment stands.leads stands.goes_on stands.at_is) cases)
+    let found = two-of parameters (counts 0 (parts_of kind.Invoke) path parameters stands) in
+    let at = subst (λ (ps : List Parameter). Stands kind.Invoke path ps) found.2 stands in
+    subst (λ (ps : List Parameter). DecodesRoute target kind.Invoke ps result) (sym found.2)
+    (invoke-at target found.0 found.1 two result (decodes found.0 found.1 at) cases)

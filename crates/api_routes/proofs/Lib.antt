@@ -1,5 +1,6 @@
 pub mod Allowed
 pub mod Cuts
+pub mod Cutting
 pub mod Decoding
 pub mod Ending
 pub mod Finds
@@ -10,6 +11,7 @@ pub mod Paths
 pub mod Query
 pub mod Routing
 pub mod Seeks
+pub mod Segments
 pub mod Serving
 pub mod Standing
 pub mod Tables

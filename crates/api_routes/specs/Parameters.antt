@@ -6,8 +6,12 @@ use Rattle.api_routes.specs.declared.route.RouteErr.{RouteErr}
 use Rattle.api_routes.specs.declared.route.RouteErr.TheVariants.{NotFound, MethodNotAllowed, BadEscape, NoMemory}
 use Rattle.api_routes.specs.declared.table.Kind.{Kind}
 use Rattle.api_routes.specs.declared.table.Kind.TheVariants.{Save, Get, Delete, Bulk, Transact, Invoke, Publish, Binding, Health, Metadata, SetMetadata, Shutdown}
+use Rattle.api_routes.specs.declared.table.Part.{Part as Shape}
+use Rattle.api_routes.specs.declared.table.Part.TheVariants as sort
 use Rattle.api_routes.specs.Path.{Parameter, StartsSegment, slash}
 use Rattle.api_routes.specs.Route.{IsFirstBroken, IsText, Says, decoded, text_of}
+use Rattle.api_routes.specs.Table.{Part}
+use Rattle.api_routes.specs.Table.Part.{Literal, Segment, Tail}
 
 -- no byte is a slash
 abbrev pub IsPlain : List ℕ → Type 0
@@ -19,57 +23,50 @@ pub record Begins (path segment rest : List ℕ) : Type 0 where
   pub plain : IsPlain segment
   pub ends : StartsSegment rest
 
--- the third segment of a path is a parameter, and `rest` is left after it
-pub record Leads (path : List ℕ) (first : Parameter) (rest : List ℕ) : Type 0 where
-  pub version : List ℕ
-  pub area : List ℕ
-  pub after_version : List ℕ
-  pub after_area : List ℕ
-  pub begins : Begins path version after_version
-  pub goes_on : Begins after_version area after_area
-  pub stands : Begins after_area first.bytes rest
-  pub at_is : first.at ≡ length version + length area + 3
+-- a part of a path in the table, without its text
+abbrev pub shape_of : Part → Shape
+shape_of (Literal text) = sort.Literal
+shape_of Segment = sort.Segment
+shape_of Tail = sort.Tail
 
--- one parameter
-pub record One (path : List ℕ) (parameters : List Parameter) : Type 0 where
-  pub first : Parameter
-  pub rest : List ℕ
-  pub leads : Leads path first rest
-  pub are : parameters ≡ first ∷ []
+-- A path of these parts has these parameters: after each slash stands a segment that is passed over, or one that is a parameter, or a parameter that is all that
+-- is left. The path begins at a place of the target.
+abbrev pub Cuts : ℕ → List Shape → List ℕ → List Parameter → Type 0
+Cuts at [] path parameters = parameters ≡ []
+Cuts at (sort.Literal ∷ parts) path parameters =
+    (segment rest : List ℕ) × Begins path segment rest × Cuts (at + 1 + length segment) parts rest parameters
+Cuts at (sort.Segment ∷ parts) path parameters =
+    (segment rest : List ℕ) × (others : List Parameter) × Begins path segment rest × (parameters ≡ record { at = at + 1; bytes = segment } ∷ others)
+    × Cuts (at + 1 + length segment) parts rest others
+Cuts at (sort.Tail ∷ parts) path parameters =
+    (text : List ℕ) × (path ≡ slash ∷ text) × (parameters ≡ record { at = at + 1; bytes = text } ∷ [])
 
--- a parameter, and one that ends the path
-pub record Two (path : List ℕ) (parameters : List Parameter) : Type 0 where
-  pub first : Parameter
-  pub last : Parameter
-  pub leads : Leads path first (slash ∷ last.bytes)
-  pub at_is : last.at + length last.bytes ≡ length path
-  pub are : parameters ≡ first ∷ last ∷ []
+-- so many parameters come before one of the path
+pub record HasNth (at : ℕ) (parts : List Shape) (path : List ℕ) (nth : ℕ) : Type 0 where
+  pub parameters : List Parameter
+  pub parameter : Parameter
+  pub others : List Parameter
+  pub cuts : Cuts at parts path parameters
+  pub is : drop nth parameters ≡ parameter ∷ others
 
--- a parameter, a segment, and a parameter that ends the path
-pub record Invoked (path : List ℕ) (parameters : List Parameter) : Type 0 where
-  pub first : Parameter
-  pub last : Parameter
-  pub after : List ℕ
-  pub segment : List ℕ
-  pub leads : Leads path first after
-  pub goes_on : Begins after segment (slash ∷ last.bytes)
-  pub at_is : last.at + length last.bytes ≡ length path
-  pub are : parameters ≡ first ∷ last ∷ []
+-- the parts of the path of a kind of route
+abbrev pub parts_of : Kind → List Shape
+parts_of Save = sort.Literal ∷ sort.Literal ∷ sort.Segment ∷ []
+parts_of Get = sort.Literal ∷ sort.Literal ∷ sort.Segment ∷ sort.Segment ∷ []
+parts_of Delete = sort.Literal ∷ sort.Literal ∷ sort.Segment ∷ sort.Segment ∷ []
+parts_of Bulk = sort.Literal ∷ sort.Literal ∷ sort.Segment ∷ sort.Literal ∷ []
+parts_of Transact = sort.Literal ∷ sort.Literal ∷ sort.Segment ∷ sort.Literal ∷ []
+parts_of Invoke = sort.Literal ∷ sort.Literal ∷ sort.Segment ∷ sort.Literal ∷ sort.Tail ∷ []
+parts_of Publish = sort.Literal ∷ sort.Literal ∷ sort.Segment ∷ sort.Tail ∷ []
+parts_of Binding = sort.Literal ∷ sort.Literal ∷ sort.Segment ∷ []
+parts_of Health = sort.Literal ∷ sort.Literal ∷ []
+parts_of Metadata = sort.Literal ∷ sort.Literal ∷ []
+parts_of SetMetadata = sort.Literal ∷ sort.Literal ∷ sort.Segment ∷ []
+parts_of Shutdown = sort.Literal ∷ sort.Literal ∷ []
 
 -- where a kind of route has its parameters
 abbrev pub Stands : Kind → List ℕ → List Parameter → Type 0
-Stands Save path parameters = One path parameters
-Stands Get path parameters = Two path parameters
-Stands Delete path parameters = Two path parameters
-Stands Bulk path parameters = One path parameters
-Stands Transact path parameters = One path parameters
-Stands Invoke path parameters = Invoked path parameters
-Stands Publish path parameters = Two path parameters
-Stands Binding path parameters = One path parameters
-Stands Health path parameters = parameters ≡ []
-Stands Metadata path parameters = parameters ≡ []
-Stands SetMetadata path parameters = One path parameters
-Stands Shutdown path parameters = parameters ≡ []
+Stands kind path parameters = Cuts 0 (parts_of kind) path parameters
 
 -- why parameters give no texts: one is none, or there is no memory
 abbrev pub Broken : List Parameter → RouteErr → Type 0

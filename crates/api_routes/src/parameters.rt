@@ -1,9 +1,9 @@
-ghost use Rattle.std.specs.Prelude.{◌≡◌, ◌≤◌, ◌+◌, ◌==◌, not, ℕ, List, ◌∷◌, length, drop};
+ghost use Rattle.std.specs.Prelude.{◌≡◌, ◌≤◌, ◌<◌, ◌+◌, ◌^◌, ◌==◌, not, ℕ, List, [], ◌∷◌, length, drop};
 ghost use Rattle.std.specs.List.{prefix_len};
-ghost use Rattle.api_routes.specs.Parameters.{Begins, Decodes, DecodesInvoked, DecodesRoute, DecodesTwo, Invoked, IsPlain, Leads, One, Stands, Two};
-ghost use Rattle.api_routes.specs.Path.{Parameter as Defined, StartsSegment, slash};
+ghost use Rattle.api_routes.specs.Parameters.{Begins, Cuts, Decodes, DecodesInvoked, DecodesRoute, DecodesTwo, HasNth, Stands, parts_of};
+ghost use Rattle.api_routes.specs.Path.{Parameter as Defined};
 
-use crate::table::Kind;
+use crate::table::{Kind, Part, parts_of};
 use crate::{Route, RouteErr};
 use percent_encoding::{DecodeError, percent_decode};
 use side_base::{Blob, Text};
@@ -34,19 +34,32 @@ fn split_segment(path: &[u8]) -> (&[u8], &[u8])
     text.split_at(segment_len(text))
 }
 
-/// The first parameter of a route, which is the third segment of its path, and what is left of the path after it.
-fn first_parameter(path: &[u8]) -> (Parameter<'_>, &[u8])
-    requires { (first : Defined) × (rest : List ℕ) × Leads path.now first rest }
-    ensures { (first : Defined) (rest : List ℕ) → Leads path.now first rest → (result.0.at ≡ first.at) × (result.0.bytes.now ≡ first.bytes) × (result.1.now ≡ rest) }
+/// The parameter that so many others come before, of a path that begins at a place of the target and has these parts.
+fn nth_parameter<'a>(at: usize, parts: &[Part], path: &'a [u8], nth: usize) -> Parameter<'a>
+    requires within { at + length path.now < 2 ^ 63 }
+    requires some { HasNth at parts.now path.now nth }
+    ensures { (parameters others : List Defined) (parameter : Defined) → Cuts at parts.now path.now parameters → drop nth parameters ≡ parameter ∷ others → (result.at ≡ parameter.at) × (result.bytes.now ≡ parameter.bytes) }
 {
-    let (_, after_version) = split_segment(path);
-    let (_, after_area) = split_segment(after_version);
-    let (bytes, rest) = split_segment(after_area);
-    let first = Parameter {
-        at: path.len() - after_area.len() + 1,
-        bytes,
-    };
-    (first, rest)
+    match parts.split_first() {
+        None => unreachable!(),
+        Some((part, others)) => match part {
+            Part::Literal => {
+                let (segment, rest) = split_segment(path);
+                nth_parameter(at + 1 + segment.len(), others, rest, nth)
+            }
+            Part::Segment => {
+                let (bytes, rest) = split_segment(path);
+                if nth == 0 {
+                    return Parameter { at: at + 1, bytes };
+                }
+                nth_parameter(at + 1 + bytes.len(), others, rest, nth - 1)
+            }
+            Part::Tail => {
+                let (_, bytes) = path.split_at(1);
+                Parameter { at: at + 1, bytes }
+            }
+        },
+    }
 }
 
 /// The text that a parameter stands for. Without an escape it is copied once.
@@ -60,36 +73,30 @@ fn text_of(alloc: Global, parameter: Parameter<'_>) -> Result<Text, RouteErr>
     }
 }
 
-/// The parameter that ends a path: `rest` is an end of the path, and begins with the slash before the parameter.
-fn last_parameter<'a>(path: &[u8], rest: &'a [u8]) -> Parameter<'a>
-    requires some { 1 ≤ length rest.now }
-    requires within { length rest.now ≤ length path.now }
-    ensures at { result.at + length rest.now ≡ length path.now + 1 }
-    ensures bytes { result.bytes.now ≡ drop 1 rest.now }
+/// The parameter of a route that so many others come before.
+fn parameter_of<'a>(kind: Kind, path: &'a [u8], nth: usize) -> Parameter<'a>
+    requires { HasNth 0 (parts_of kind) path.now nth }
+    ensures { (parameters others : List Defined) (parameter : Defined) → Stands kind path.now parameters → drop nth parameters ≡ parameter ∷ others → (result.at ≡ parameter.at) × (result.bytes.now ≡ parameter.bytes) }
 {
-    let (_, bytes) = rest.split_at(1);
-    Parameter {
-        at: path.len() - rest.len() + 1,
-        bytes,
-    }
+    nth_parameter(0, parts_of(kind), path, nth)
 }
 
-/// The text of the one parameter of a path.
-fn one_text(alloc: Global, path: &[u8]) -> Result<Text, RouteErr>
-    requires { (parameters : List Defined) × One path.now parameters }
-    ensures { (first : Defined) (rest : List ℕ) → Leads path.now first rest → Decodes first result }
+/// The text of the one parameter of a route.
+fn one_text(alloc: Global, kind: Kind, path: &[u8]) -> Result<Text, RouteErr>
+    requires { HasNth 0 (parts_of kind) path.now 0 }
+    ensures { (first : Defined) → Stands kind path.now (first ∷ []) → Decodes first result }
 {
-    let (first, _) = first_parameter(path);
-    text_of(alloc, first)
+    text_of(alloc, parameter_of(kind, path, 0))
 }
 
-/// The texts of the two parameters of a path.
-fn two_texts(alloc: Global, path: &[u8]) -> Result<(Text, Text), RouteErr>
-    requires { (parameters : List Defined) × Two path.now parameters }
-    ensures { (first last : Defined) → Leads path.now first (slash ∷ last.bytes) → last.at + length last.bytes ≡ length path.now → DecodesTwo first last result }
+/// The texts of the two parameters of a route.
+fn two_texts(alloc: Global, kind: Kind, path: &[u8]) -> Result<(Text, Text), RouteErr>
+    requires first { HasNth 0 (parts_of kind) path.now 0 }
+    requires last { HasNth 0 (parts_of kind) path.now 1 }
+    ensures { (first last : Defined) → Stands kind path.now (first ∷ last ∷ []) → DecodesTwo first last result }
 {
-    let (first, rest) = first_parameter(path);
-    let last = last_parameter(path, rest);
+    let first = parameter_of(kind, path, 0);
+    let last = parameter_of(kind, path, 1);
     match text_of(alloc, first) {
         Ok(first_text) => match text_of(alloc, last) {
             Ok(last_text) => Ok((first_text, last_text)),
@@ -100,14 +107,19 @@ fn two_texts(alloc: Global, path: &[u8]) -> Result<(Text, Text), RouteErr>
 }
 
 /// The application of an invocation, and the rest of the target from the method's name on.
-fn invocation(alloc: Global, target: &[u8], path: &[u8]) -> Result<(Text, Blob), RouteErr>
-    requires invoked { (parameters : List Defined) × Invoked path.now parameters }
+fn invocation(
+    alloc: Global,
+    kind: Kind,
+    target: &[u8],
+    path: &[u8],
+) -> Result<(Text, Blob), RouteErr>
+    requires first { HasNth 0 (parts_of kind) path.now 0 }
+    requires last { HasNth 0 (parts_of kind) path.now 1 }
     requires within { length path.now ≤ length target.now }
-    ensures { (first last : Defined) (after segment : List ℕ) → Leads path.now first after → Begins after segment (slash ∷ last.bytes) → last.at + length last.bytes ≡ length path.now → DecodesInvoked target.now first last result }
+    ensures { (first last : Defined) → Stands kind path.now (first ∷ last ∷ []) → DecodesInvoked target.now first last result }
 {
-    let (first, after) = first_parameter(path);
-    let (_, tail) = split_segment(after);
-    let last = last_parameter(path, tail);
+    let first = parameter_of(kind, path, 0);
+    let last = parameter_of(kind, path, 1);
     match text_of(alloc, first) {
         Ok(app) => match Blob::from_bytes(alloc, &target[last.at..]) {
             Ok(rest) => Ok((app, rest)),
@@ -130,37 +142,37 @@ pub(crate) fn route_of(
 {
     match kind {
         Kind::Save => Ok(Route::Save {
-            store: one_text(alloc, path)?,
+            store: one_text(alloc, kind, path)?,
         }),
         Kind::Get => {
-            let (store, key) = two_texts(alloc, path)?;
+            let (store, key) = two_texts(alloc, kind, path)?;
             Ok(Route::Get { store, key })
         }
         Kind::Delete => {
-            let (store, key) = two_texts(alloc, path)?;
+            let (store, key) = two_texts(alloc, kind, path)?;
             Ok(Route::Delete { store, key })
         }
         Kind::Bulk => Ok(Route::Bulk {
-            store: one_text(alloc, path)?,
+            store: one_text(alloc, kind, path)?,
         }),
         Kind::Transact => Ok(Route::Transact {
-            store: one_text(alloc, path)?,
+            store: one_text(alloc, kind, path)?,
         }),
         Kind::Invoke => {
-            let (app, rest) = invocation(alloc, target, path)?;
+            let (app, rest) = invocation(alloc, kind, target, path)?;
             Ok(Route::Invoke { app, rest })
         }
         Kind::Publish => {
-            let (pubsub, topic) = two_texts(alloc, path)?;
+            let (pubsub, topic) = two_texts(alloc, kind, path)?;
             Ok(Route::Publish { pubsub, topic })
         }
         Kind::Binding => Ok(Route::Binding {
-            name: one_text(alloc, path)?,
+            name: one_text(alloc, kind, path)?,
         }),
         Kind::Health => Ok(Route::Health),
         Kind::Metadata => Ok(Route::Metadata),
         Kind::SetMetadata => Ok(Route::SetMetadata {
-            name: one_text(alloc, path)?,
+            name: one_text(alloc, kind, path)?,
         }),
         Kind::Shutdown => Ok(Route::Shutdown),
     }

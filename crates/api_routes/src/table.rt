@@ -1,3 +1,5 @@
+ghost use Rattle.std.specs.Prelude.{◌≡◌};
+ghost use Rattle.api_routes.specs.Parameters.{parts_of};
 ghost use Rattle.api_routes.specs.Routers.{AreRows};
 ghost use Rattle.api_routes.specs.Table.{table};
 
@@ -18,6 +20,17 @@ pub(crate) enum Kind {
     Metadata,
     SetMetadata,
     Shutdown,
+}
+
+/// A part of a path: what stands after a slash.
+#[derive(Clone, Copy)]
+pub(crate) enum Part {
+    /// A segment that is none of the parameters.
+    Literal,
+    /// A parameter: one segment.
+    Segment,
+    /// A parameter: all that is left.
+    Tail,
 }
 
 /// A row of the table of routes.
@@ -138,4 +151,30 @@ pub(crate) fn routes() -> &'static [Row]
     ensures { AreRows result.now table }
 {
     &ROUTES
+}
+
+/// The parts of the path of a kind of route.
+pub(crate) fn parts_of(kind: Kind) -> &'static [Part]
+    ensures { result.now ≡ parts_of kind }
+{
+    match kind {
+        Kind::Save | Kind::Binding | Kind::SetMetadata => {
+            &[Part::Literal, Part::Literal, Part::Segment]
+        }
+        Kind::Get | Kind::Delete => {
+            &[Part::Literal, Part::Literal, Part::Segment, Part::Segment]
+        }
+        Kind::Bulk | Kind::Transact => {
+            &[Part::Literal, Part::Literal, Part::Segment, Part::Literal]
+        }
+        Kind::Invoke => &[
+            Part::Literal,
+            Part::Literal,
+            Part::Segment,
+            Part::Literal,
+            Part::Tail,
+        ],
+        Kind::Publish => &[Part::Literal, Part::Literal, Part::Segment, Part::Tail],
+        Kind::Health | Kind::Metadata | Kind::Shutdown => &[Part::Literal, Part::Literal],
+    }
 }
