@@ -1,5 +1,5 @@
 -- Why the parameters of a route give no texts.
-use Rattle.std.proofs.Common.{◌≡◌, length, ℕ, inl, inr, List, [], ◌∷◌, Result, Ok, Err, refl, sym, ◌∙◌, subst}
+use Rattle.std.proofs.Common.{◌≡◌, ℕ, inl, inr, List, [], ◌∷◌, Result, Ok, Err, refl, sym, ◌∙◌, subst}
 use Rattle.api_routes.specs.declared.route.RouteErr.{RouteErr}
 use Rattle.api_routes.specs.declared.route.RouteErr.TheVariants.{NotFound, MethodNotAllowed, BadEscape, NoMemory}
 use Rattle.std.specs.List.{AllByRecursion}
