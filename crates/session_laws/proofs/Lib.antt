@@ -1,1 +1,14 @@
+pub mod Apart
 pub mod Calling
+pub mod Composing
+pub mod Following
+pub mod Heads
+pub mod Paths
+pub mod Plain
+pub mod Playing
+pub mod Saving
+pub mod StorePaths
+pub mod Storing
+pub mod Transacting
+pub mod Working
+pub mod Wrongly
