@@ -1,6 +1,7 @@
 pub mod Apart
 pub mod Calling
 pub mod Composing
+pub mod Early
 pub mod Following
 pub mod Heads
 pub mod Paths

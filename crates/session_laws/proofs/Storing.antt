@@ -56,7 +56,7 @@ delete_is = refl
 key_start : (method : List ℕ) → IsToken method → Start method (codes "/v1.0/state/statestore/a")
 key_start method token = record { token = token; some = omega arith; bytes = AllPass-from_list_all is_uri_byte (codes "/v1.0/state/statestore/a") refl; text = IsUtf8-from_ascii (codes "/v1.0/state/statestore/a") (ascii_by (codes "/v1.0/state/statestore/a") refl) }
 
-save_one : IsOneWhole asks_save save_request
+pub save_one : IsOneWhole asks_save save_request
 unfolding print_request
 save_one = one_whole (codes "POST") (codes "/v1.0/state/statestore") Post (host ∷ length_of (codes "25") ∷ []) save_body asks_save store_start post_is save_plain refl (omega arith)
 

@@ -1,7 +1,10 @@
 -- Sessions over a store written out: an item is saved and read, and one that was deleted is not saved under its old version.
-use Rattle.std.specs.Prelude.{◌≡◌, ℕ, List, [], ◌∷◌, ◌++◌, codes, Some, None}
+use Rattle.std.specs.Prelude.{◌≡◌, ◌≢◌, ℕ, List, [], ◌∷◌, ◌++◌, codes, flat_map, Some, None, Result}
 use Rattle.side_base.specs.declared.method.Method.TheVariants.{Post}
 use Rattle.side_base.specs.declared.message.Request.{Request}
+use Rattle.side_base.specs.declared.message.Response.{Response}
+use Rattle.turn_cell.specs.declared.error.ApiErr.{ApiErr}
+use Rattle.api_routes.specs.declared.route.Route.{Route}
 use Rattle.policy_spec.specs.Policies.{nothing}
 use Rattle.resource_spec.specs.declared.component.ComponentKind.TheVariants.{StateMemory, PubsubMemory}
 use Rattle.state_core.specs.declared.command.Cmd.{Cmd}
@@ -14,9 +17,11 @@ use Rattle.state_core.specs.History.{Step}
 use Rattle.sidecar_core.specs.declared.config.Config.{Config}
 use Rattle.sidecar_core.specs.declared.doing.Doing.{Doing}
 use Rattle.sidecar_core.specs.declared.doing.Doing.TheVariants.{Stored, Timed}
+use Rattle.sidecar_core.specs.Doing.{stored_at}
+use Rattle.sidecar_core.specs.Exchange.{AtStore}
 use Rattle.sidecar_core.specs.Site.{Site}
 use Rattle.sidecar_core.specs.Sites.{IsSite}
-use Rattle.session_laws.specs.Sessions.{line}
+use Rattle.session_laws.specs.Sessions.{line, no_content}
 
 -- ---- a sidecar with a store
 
@@ -24,7 +29,10 @@ use Rattle.session_laws.specs.Sessions.{line}
 abbrev pub usual : Config
 usual = record {
   app = codes "a";
-  components = record { name = codes "statestore"; kind = StateMemory; version = codes "v1"; settings = [] } ∷ record { name = codes "pubsub"; kind = PubsubMemory; version = codes "v1"; settings = [] } ∷ [];
+  components =
+      record { name = codes "statestore"; kind = StateMemory; version = codes "v1"; settings = [] }
+      ∷ record { name = codes "pubsub"; kind = PubsubMemory; version = codes "v1"; settings = [] }
+      ∷ [];
   policies = record { apps = []; outbound = []; inbound = []; breakers = [] };
 }
 
@@ -95,3 +103,21 @@ found_once = line (codes "HTTP/1.1 200 OK") ++ line (codes "Content-Type: applic
 abbrev pub refused_first : List ℕ
 refused_first = line (codes "HTTP/1.1 409 Conflict") ++ line (codes "Content-Type: application/json") ++ line (codes "Content-Length: 52") ++ line []
     ++ codes "{\"errorCode\":\"ERR_STATE_SAVE\",\"message\":\"refused 0\"}"
+
+-- ---- all of a session: a save, a delete, and a save under the version that the key had
+
+abbrev pub asks_in_vain : List ℕ
+asks_in_vain = asks_save ++ asks_delete ++ asks_old_save
+
+abbrev pub steps_in_vain : ℕ → ℕ → ℕ → List Doing
+steps_in_vain one two three = saves_at one ++ deletes_at two ++ is_refused_at three
+
+abbrev pub told_in_vain : List ℕ
+told_in_vain = no_content ++ no_content ++ refused_first
+
+-- ---- the steps of requests
+
+-- all requests of the state API for the store of this name, which stands at this place, make steps at no other
+abbrev pub StepsAlone : Config → List ℕ → ℕ → Type 0
+StepsAlone config name place = (request : Request) (asked : Route) (events : List Doing) (reply : Result Response ApiErr) → AtStore config request asked name events reply
+    → (k : ℕ) → k ≢ place → flat_map (stored_at k) events ≡ []

@@ -7,7 +7,7 @@ use Rattle.state_core.specs.declared.command.Op.{Op}
 use Rattle.state_core.specs.declared.command.Op.TheVariants.{Upsert, Remove}
 use Rattle.state_core.specs.declared.reply.Reply.TheVariants.{Saved, Mismatch, Committed}
 use Rattle.sidecar_core.specs.declared.doing.Doing.{Doing}
-use Rattle.session_laws.specs.Sessions.{line}
+use Rattle.session_laws.specs.Sessions.{line, no_content}
 use Rattle.session_laws.specs.Stores.{steps_at}
 
 -- ---- steps
@@ -51,3 +51,14 @@ asks_nothing = line (codes "POST /v1.0/state/statestore/transaction HTTP/1.1") +
 abbrev pub mismatch_answer : List ℕ
 mismatch_answer = line (codes "HTTP/1.1 409 Conflict") ++ line (codes "Content-Type: application/json") ++ line (codes "Content-Length: 68") ++ line []
     ++ codes "{\"errorCode\":\"ERR_STATE_TRANSACTION\",\"message\":\"etag mismatch at 1\"}"
+
+-- ---- all of the session
+
+abbrev pub asks_three_times : List ℕ
+asks_three_times = asks_first ++ asks_three ++ asks_nothing
+
+abbrev pub steps_three_times : ℕ → ℕ → ℕ → List Doing
+steps_three_times one two last = first_saved_at one ++ mismatches_at two ++ commits_at last
+
+abbrev pub told_three_times : List ℕ
+told_three_times = no_content ++ mismatch_answer ++ no_content

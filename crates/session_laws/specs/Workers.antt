@@ -1,6 +1,10 @@
 -- Workers written out: what their acceptors answer, with what came back of their connections.
-use Rattle.std.specs.Prelude.{◌≡◌, ℕ, true, List, [], ◌∷◌, ◌++◌, Some}
+use Rattle.std.specs.Prelude.{ℕ, true, List, [], ◌∷◌, ◌++◌, Option, Some, None}
 use Rattle.side_world.specs.Answer.{Answer, conn, idle, closed}
+use Rattle.sidecar_core.specs.declared.config.Config.{Config}
+use Rattle.sidecar_core.specs.declared.doing.Doing.{Doing}
+use Rattle.sidecar_workers.specs.declared.exit.Exit.{Exit}
+use Rattle.sidecar_serving.specs.Worker.{Worked}
 use Rattle.session_laws.specs.Sessions.{asks_health, asks_shutdown, last_no_content, no_content}
 use Rattle.session_laws.specs.Stores.{asks_save, asks_get_once, found_once}
 
@@ -19,3 +23,7 @@ is_written_once = came_back (asks_save ++ asks_get_once) (no_content ++ found_on
 -- two connections, the second of which asks for the end, and sends more
 abbrev pub is_shut_down : List ℕ → List Answer
 is_shut_down later = came_back asks_health no_content ∷ came_back (asks_shutdown ++ later) last_no_content ∷ []
+
+-- whoever gets a further answer behind these had not ended by them
+abbrev pub HadNotEnded : Config → List Answer → Type 0
+HadNotEnded config answers = (answer : Answer) (events : List Doing) (exit : Option Exit) → Worked config (answers ++ answer ∷ []) events exit → (before : List Doing) × Worked config answers before None

@@ -8,7 +8,8 @@ ghost use Rattle.policy_run.specs.declared.outcome.Outcome.TheVariants.{Good, Ba
 ghost use Rattle.policy_run.specs.declared.outcome.Refusal.TheVariants.{Opened};
 ghost use Rattle.policy_run.specs.Event.{own_of, step_of};
 ghost use Rattle.policy_run.specs.Attempts.{Attempts};
-ghost use Rattle.session_laws.specs.Calls.{AreStepsAfter, AsksOnce, agrees, failing_call, forced_call, guarded_only, hasty_call, misreported_call, refused_call, repeated_call, retried_call, retried_only, trips_at_once, unasked_call, unreported_call};
+ghost use Rattle.session_laws.specs.Calls.{AreStepsAfter, AsksOnce, agrees, failing_call, guarded_only, refused_call, retried_call, retried_only, trips_at_once};
+ghost use Rattle.session_laws.specs.Calls.{forced_call, hasty_call, misreported_call, repeated_call, unasked_call, unreported_call};
 
 /// An app has a breaker that one failing call opens for 60 seconds. A call fails; the next, at the same moment, is refused, and the
 /// app is not called. The breaker answers both so.

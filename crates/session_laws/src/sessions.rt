@@ -1,14 +1,12 @@
 //! Sessions of connections, by the bytes that are read and written.
-ghost use Rattle.std.specs.Prelude.{◌≡◌, ◌≢◌, ◌≤◌, ◌++◌, ◌∷◌, ℕ, List, [], length, take, Option, Some, None, true};
+ghost use Rattle.std.specs.Prelude.{◌≢◌, ◌≤◌, ◌++◌, ℕ, List, [], length, take};
 ghost use Rattle.http_frames.specs.declared.refusal.FrameErr.TheVariants.{BothLengths};
-ghost use Rattle.http_frames.specs.Closes.{closes_after};
 ghost use Rattle.http_frames.specs.Streams.{Whole, IsStream};
-ghost use Rattle.conn_serve.specs.declared.ended.Ended.{Ended};
 ghost use Rattle.conn_serve.specs.declared.ended.Ended.TheVariants.{Done, Closed, Asked, ClosedByPeer, Refused, SourceFailed, SinkFailed};
-ghost use Rattle.conn_serve.specs.Exchanged.{Exchanged, Unanswered, request_in};
 ghost use Rattle.sidecar_core.specs.declared.config.Config.{Config};
 ghost use Rattle.sidecar_core.specs.declared.doing.Doing.{Doing};
-ghost use Rattle.session_laws.specs.Sessions.{Plays, Wrote, asks_health, asks_nowhere, asks_shutdown, asks_once, breaks_off, has_two_lengths, last_no_content, no_content, no_route_answer, two_lengths_answer};
+ghost use Rattle.session_laws.specs.Sessions.{NoWishForgotten, NoneAnsweredBehind, NoneEarlyBehind, Plays};
+ghost use Rattle.session_laws.specs.Sessions.{asks_health, asks_nowhere, asks_shutdown, asks_once, breaks_off, has_two_lengths, last_no_content, no_content, no_route_answer, two_lengths_answer};
 
 use http_frames::laws::streams_are_unique;
 
@@ -43,14 +41,14 @@ pub fn sessions_may_break_off()
 
 /// Behind a response with which the session ends no request is answered, and none ends early.
 pub fn nothing_follows_an_end()
-    ensures answered { (config : Config) (input : List ℕ) (before after : List (Exchanged Doing)) (last other : Exchanged Doing) (more : Option (Unanswered Doing)) (output : List ℕ) (ended stop : Ended) → last.stop ≡ Some stop → ¬ Wrote config input (before ++ last ∷ other ∷ after) more output ended }
-    ensures unanswered { (config : Config) (input : List ℕ) (before : List (Exchanged Doing)) (last : Exchanged Doing) (next : Unanswered Doing) (output : List ℕ) (ended stop : Ended) → last.stop ≡ Some stop → ¬ Wrote config input (before ++ last ∷ []) (Some next) output ended }
+    ensures answered { (config : Config) (input : List ℕ) → NoneAnsweredBehind config input }
+    ensures unanswered { (config : Config) (input : List ℕ) → NoneEarlyBehind config input }
 {}
 
 /// The response to a request that asks for the connection's end is not one with which the session goes on, so that it says
 /// `Connection: close`.
 pub fn a_wish_to_end_is_not_forgotten()
-    ensures { (config : Config) (input : List ℕ) (before after : List (Exchanged Doing)) (one : Exchanged Doing) (more : Option (Unanswered Doing)) (output : List ℕ) (ended : Ended) → closes_after (request_in one.whole) ≡ true → one.stop ≡ None → ¬ Wrote config input (before ++ one ∷ after) more output ended }
+    ensures { (config : Config) (input : List ℕ) → NoWishForgotten config input }
 {}
 
 /// A session is `Done` where its bytes are whole requests and nothing else, and `ClosedByPeer` where they are not.
