@@ -1,10 +1,9 @@
 -- A request of the state API makes steps at the store of its name, and at no other.
-use Rattle.std.proofs.Common.{◌≡◌, ◌≢◌, ℕ, Bool, true, false, ◌==◌, if◌then◌else◌, List, [], ◌∷◌, ◌++◌, length, codes, map, flat_map, Option, Some, None, Result, Ok, Err, unwrap_or, refl, sym, ap, subst, ◌∙◌, arith}
+use Rattle.std.proofs.Common.{◌≡◌, ◌≢◌, ℕ, Bool, true, false, ◌==◌, if◌then◌else◌, List, [], ◌∷◌, ◌++◌, length, codes, map, flat_map, Some, None, Result, Ok, Err, unwrap_or, refl, sym, ap, subst, ◌∙◌, arith}
 use Rattle.std.proofs.lemmas.Bool.Decides.{nat_tests}
 use Rattle.side_base.specs.declared.message.Request.{Request}
 use Rattle.side_base.specs.declared.message.Response.{Response}
 use Rattle.turn_cell.specs.declared.error.ApiErr.{ApiErr}
-use Rattle.turn_cell.specs.declared.error.ApiErr.TheVariants as error
 use Rattle.api_routes.specs.declared.route.Route.{Route}
 use Rattle.api_routes.specs.declared.route.Route.TheVariants as route
 use Rattle.api_routes.specs.declared.route.RouteErr.{RouteErr}
@@ -29,7 +28,7 @@ use Rattle.policy_run.specs.Attempts.{Ends}
 use Rattle.policy_run.specs.Event.{Event, own, guarded, word, moment, pause}
 use Rattle.sidecar_core.specs.declared.config.Config.{Config}
 use Rattle.sidecar_core.specs.declared.doing.Doing.{Doing}
-use Rattle.sidecar_core.specs.Doing.{placed, stored_at, one_at}
+use Rattle.sidecar_core.specs.Doing.{placed, stored_at}
 use Rattle.sidecar_core.specs.Site.{Site}
 use Rattle.sidecar_core.specs.Sites.{IsSite, place_named, sites_of}
 use Rattle.sidecar_core.specs.Responses.{no_route, not_allowed, bad_escape}

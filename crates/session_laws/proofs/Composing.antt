@@ -1,16 +1,16 @@
 -- Sessions of requests that are written one behind the other.
-use Rattle.std.proofs.Common.{◌≡◌, ℕ, suc, ◌≤◌, Bool, true, false, List, [], ◌∷◌, ◌++◌, length, take, map, flat_map, inl, inr, Option, Some, None, is_some, Result, Ok, if◌then◌else◌, refl, sym, ap, subst, ◌∙◌, arith, append_assoc, append-nil}
+use Rattle.std.proofs.Common.{◌≡◌, ℕ, suc, ◌≤◌, Bool, true, false, List, [], ◌∷◌, ◌++◌, length, take, flat_map, inl, inr, Option, Some, None, is_some, Ok, if◌then◌else◌, refl, sym, ap, subst, ◌∙◌, append_assoc, append-nil}
 use Rattle.std.proofs.lemmas.List.Elements.{All-nil, All-cons}
 use Rattle.side_base.specs.declared.message.Request.{Request}
 use Rattle.side_base.specs.declared.message.Response.{Response}
 use Rattle.http_frames.specs.declared.refusal.FrameErr.{FrameErr}
 use Rattle.http_frames.specs.Requests.{ReadsWhole, HasNoWhole, IsRefused, IsAccepted}
-use Rattle.http_frames.specs.Streams.{Whole, Begins, IsStream, IsAsking}
+use Rattle.http_frames.specs.Streams.{Whole, Begins, IsAsking}
 use Rattle.http_frames.specs.Written.{written, continue_bytes}
 use Rattle.http_frames.specs.Printed.{IsOneWhole}
 use Rattle.conn_serve.specs.declared.ended.Ended.{Ended}
 use Rattle.conn_serve.specs.declared.ended.Ended.TheVariants.{Done, Closed, Asked, ClosedByPeer, Refused, SourceFailed, SinkFailed}
-use Rattle.conn_serve.specs.Exchanged.{Exchanged, AreAnswered, GoesOn, StopsWith, IsStop, request_in, is_head, mark_of, response_bytes, answer_bytes, out_of, wholes_of}
+use Rattle.conn_serve.specs.Exchanged.{Exchanged, AreAnswered, GoesOn, StopsWith, IsStop, request_in, is_head, response_bytes, answer_bytes, out_of, wholes_of}
 use Rattle.conn_serve.specs.Session.{EndsAfter, refused_bytes}
 use Rattle.sidecar_core.specs.declared.config.Config.{Config}
 use Rattle.sidecar_core.specs.declared.doing.Doing.{Doing}

@@ -1,12 +1,12 @@
 -- What may follow in a session, and how it ends.
-use Rattle.std.proofs.Common.{◌≡◌, ◌≢◌, ◌⊎◌, ℕ, suc, Bool, true, false, List, [], ◌∷◌, ◌++◌, length, inl, inr, Option, Some, None, refl, sym, ap, subst, ◌∙◌, arith, length-append}
+use Rattle.std.proofs.Common.{◌≡◌, ◌≢◌, ◌⊎◌, ℕ, suc, true, List, [], ◌∷◌, ◌++◌, length, inl, inr, Option, Some, None, sym, ap, subst, ◌∙◌, arith, length-append}
 use Rattle.std.proofs.lemmas.List.Elements.{All-head, All-tail}
 use Rattle.http_frames.specs.Closes.{closes_after}
 use Rattle.http_frames.specs.Streams.{Whole, IsStream}
 use Rattle.conn_serve.specs.declared.ended.Ended.{Ended}
 use Rattle.conn_serve.specs.declared.ended.Ended.TheVariants.{Done, Closed, Asked, ClosedByPeer, Refused, Limit, Spent, SourceFailed, SinkFailed, NoMemory}
 use Rattle.conn_serve.specs.Exchanged.{Exchanged, Unanswered, AreAnswered, GoesOn, StopsWith, IsStop, request_in, wholes_of}
-use Rattle.conn_serve.specs.Session.{Ends, EndsSending, sent_at}
+use Rattle.conn_serve.specs.Session.{Ends, EndsSending}
 use Rattle.sidecar_core.specs.declared.config.Config.{Config}
 use Rattle.sidecar_core.specs.declared.doing.Doing.{Doing}
 use Rattle.sidecar_core.specs.Exchange.{Exchange}

@@ -1,7 +1,6 @@
 -- What the paths of the written sessions mean.
-use Rattle.std.proofs.Common.{◌≡◌, ◌≢◌, ℕ, zero, suc, Bool, true, false, List, [], ◌∷◌, ◌++◌, drop, codes, inl, inr, not, ◌&&◌, Option, Some, None, Result, Ok, Err, refl, sym, ap, ◌∙◌, arith}
+use Rattle.std.proofs.Common.{◌≡◌, ◌≢◌, ℕ, zero, suc, Bool, true, false, List, [], ◌∷◌, codes, inl, inr, not, ◌&&◌, Some, None, Ok, Err, refl, sym, ap, ◌∙◌}
 use Rattle.std.proofs.lemmas.Bool.{and_parts}
-use Rattle.side_base.specs.declared.method.Method.{Method}
 use Rattle.side_base.specs.declared.method.Method.TheVariants.{Get, Post}
 use Rattle.side_base.specs.declared.message.Request.{Request}
 use Rattle.side_base.specs.Field.{is_same_word, has_item, list_items, trimmed}
@@ -12,11 +11,11 @@ use Rattle.api_routes.specs.declared.route.RouteErr.TheVariants.{NotFound}
 use Rattle.api_routes.specs.Path.{path_of, spelled, is_bad_start, IsClean}
 use Rattle.api_routes.specs.Table.{Part, RouteRow, table, under_version, get_alone, post_alone}
 use Rattle.api_routes.specs.Table.Part.{Literal}
-use Rattle.api_routes.specs.Route.{IsAmong, Fits, HasRoute, HasNoRoute, Means, IsNotFound, Answers}
+use Rattle.api_routes.specs.Route.{IsAmong, Fits, HasNoRoute, Means, IsNotFound}
 use Rattle.api_routes.proofs.Tables.{fits-one}
 use Rattle.api_routes.proofs.OneAnswer.{means-one}
 use Rattle.conn_serve.specs.declared.ended.Ended.TheVariants.{Asked, Closed}
-use Rattle.conn_serve.specs.Exchanged.{IsShutdown, IsStop}
+use Rattle.conn_serve.specs.Exchanged.{IsStop}
 use Rattle.sidecar_core.specs.declared.config.Config.{Config}
 use Rattle.sidecar_core.specs.Exchange.{Exchange}
 use Rattle.sidecar_core.specs.Responses.{no_route}

@@ -1,10 +1,9 @@
 -- The written sessions are sessions.
-use Rattle.std.proofs.Common.{◌≡◌, ℕ, ◌≤◌, suc, true, false, List, [], ◌∷◌, ◌++◌, length, take, codes, Some, None, refl, sym, ap, subst, ◌∙◌, arith, append-nil}
+use Rattle.std.proofs.Common.{◌≡◌, ℕ, ◌≤◌, suc, true, false, List, [], ◌++◌, length, take, None, refl, ap, subst, arith}
 use Rattle.std.specs.Fmt.{digits}
 use Rattle.byte_lanes.specs.Spelling.{spelled_byte}
 use Rattle.http_frames.specs.declared.refusal.FrameErr.TheVariants.{BothLengths}
 use Rattle.http_frames.specs.Written.{written, phrase}
-use Rattle.conn_serve.specs.declared.ended.Ended.{Ended}
 use Rattle.conn_serve.specs.declared.ended.Ended.TheVariants.{Done, Asked, Closed, ClosedByPeer, Refused, SourceFailed, SinkFailed}
 use Rattle.conn_serve.specs.Session.{refused_bytes}
 use Rattle.sidecar_core.specs.declared.config.Config.{Config}

@@ -1,5 +1,5 @@
 -- What the bodies of the written requests ask of a store.
-use Rattle.std.proofs.Common.{◌≡◌, ◌≤◌, ℕ, List, [], ◌∷◌, codes, Some, None, Ok, refl, arith}
+use Rattle.std.proofs.Common.{◌≤◌, ℕ, List, [], ◌∷◌, codes, Some, None, Ok, refl, arith}
 use Rattle.form_urlencoded.specs.Form.{raw_pairs, split}
 use Rattle.json_text.specs.declared.kind.Kind.TheVariants as kinds
 use Rattle.json_text.specs.declared.spot.Spot.{Spot}

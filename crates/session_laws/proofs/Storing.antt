@@ -1,11 +1,10 @@
 -- The written sessions over a store are sessions.
-use Rattle.std.proofs.Common.{◌≡◌, ◌≢◌, ℕ, ◌≤◌, suc, true, false, List, [], ◌∷◌, ◌++◌, length, codes, inl, inr, Some, None, Ok, refl, sym, ap, subst, ◌∙◌, arith}
+use Rattle.std.proofs.Common.{◌≡◌, ◌≢◌, ℕ, ◌≤◌, true, false, List, [], ◌∷◌, ◌++◌, codes, inl, Some, None, Ok, refl, sym, ap, subst, arith}
 use Rattle.std.proofs.lemmas.Str.{IsUtf8-from_ascii}
 use Rattle.std.proofs.lemmas.List.Sums.{AllPass-from_list_all}
 use Rattle.httparse.specs.Grammar.{IsToken, is_token_byte, is_uri_byte, print_request}
 use Rattle.std.specs.Fmt.{digits}
 use Rattle.byte_lanes.specs.Spelling.{spelled_byte}
-use Rattle.side_base.specs.declared.message.Request.{Request}
 use Rattle.side_base.specs.declared.message.Response.{Response}
 use Rattle.side_base.specs.declared.method.Method.TheVariants.{Get, Post, Delete}
 use Rattle.side_base.specs.Field.{is_same_word, has_item, list_items, trimmed}
@@ -38,7 +37,7 @@ use Rattle.sidecar_core.specs.Exchange.{Exchange, Called, found, called}
 use Rattle.session_laws.specs.Sessions.{Plays, no_content}
 use Rattle.session_laws.specs.Stores.{HasStore, item, old_item, plain_site, save_request, steps_at, saves_at, reads_at, deletes_at, is_refused_at, asks_save, asks_get_once, asks_delete, asks_old_save, found_once, refused_first}
 use Rattle.session_laws.proofs.Composing.{Said, Goes, Stops, goes_none, goes_more, stops_last, stops_more, plays_done, plays_closed}
-use Rattle.session_laws.proofs.Heads.{Start, ascii_by, one_whole, get_token, post_token, get_is, post_is, host, close, length_of, host_plain, close_plain, save_plain, old_plain, store_start, empty_whole, empty_accepted}
+use Rattle.session_laws.proofs.Heads.{Start, ascii_by, one_whole, get_token, get_is, post_is, host, close, length_of, host_plain, close_plain, save_plain, old_plain, store_start, empty_whole, empty_accepted}
 use Rattle.session_laws.proofs.Playing.{no_content_bytes}
 use Rattle.session_laws.proofs.Saving.{save_body, old_body, old_request, get_request, delete_request, save_asks, old_asks, get_asks, delete_asks}
 use Rattle.session_laws.proofs.StorePaths.{save_means, get_means, delete_means}

@@ -1,13 +1,13 @@
 -- Workers that are written out, and what is none.
-use Rattle.std.proofs.Common.{◌≡◌, ℕ, true, List, [], ◌∷◌, ◌++◌, length, Option, Some, None, refl, sym, ap, subst, ◌∙◌, arith, length-append}
-use Rattle.side_world.specs.Answer.{Answer, conn, idle, closed, failed}
+use Rattle.std.proofs.Common.{◌≡◌, ℕ, List, [], ◌∷◌, ◌++◌, length, Option, Some, None, refl, sym, ap, subst, arith, length-append}
+use Rattle.side_world.specs.Answer.{Answer, conn, idle, closed}
 use Rattle.conn_serve.specs.declared.ended.Ended.TheVariants as ends
 use Rattle.sidecar_core.specs.declared.config.Config.{Config}
 use Rattle.sidecar_core.specs.declared.delivering.Turn.TheVariants as turns
 use Rattle.sidecar_core.specs.declared.doing.Doing.{Doing}
 use Rattle.sidecar_workers.specs.declared.exit.Exit.{Exit}
 use Rattle.sidecar_workers.specs.declared.exit.Exit.TheVariants as exits
-use Rattle.sidecar_serving.specs.Worker.{Adds, Turned, Worked, HasExit, nothing, further}
+use Rattle.sidecar_serving.specs.Worker.{Adds, Worked, HasExit, nothing, further}
 use Rattle.session_laws.specs.Sessions.{asks_health, asks_shutdown, last_no_content, no_content}
 use Rattle.session_laws.specs.Stores.{HasStore, asks_save, asks_get_once, found_once, saves_at, reads_at}
 use Rattle.session_laws.specs.Workers.{came_back, is_asked_once, is_written_once, is_shut_down}

@@ -1,16 +1,15 @@
 -- Sessions that are none.
-use Rattle.std.proofs.Common.{◌≡◌, ◌≢◌, ℕ, suc, ◌+◌, ◌≤◌, Bool, true, false, List, [], ◌∷◌, ◌++◌, length, flat_map, Option, Some, None, is_some, refl, sym, ap, subst, ◌∙◌, arith, length-append}
+use Rattle.std.proofs.Common.{◌≡◌, ℕ, ◌+◌, ◌≤◌, Bool, true, List, [], ◌∷◌, ◌++◌, length, Option, Some, None, is_some, refl, sym, ap, ◌∙◌, arith, length-append}
 use Rattle.std.proofs.lemmas.Grind.{flat_map-append}
 use Rattle.std.proofs.lemmas.List.Elements.{All-head}
-use Rattle.side_base.specs.declared.message.Request.{Request}
 use Rattle.side_base.specs.declared.message.Response.{Response}
 use Rattle.side_base.specs.Field.{is_same_word, has_item, list_items, trimmed}
 use Rattle.http_frames.specs.Closes.{closes_after}
 use Rattle.http_frames.specs.Streams.{Whole, IsStream}
-use Rattle.http_frames.specs.Written.{written, status_line, field_line, length_line, close_line, line_end, content}
+use Rattle.http_frames.specs.Written.{written}
 use Rattle.conn_serve.specs.declared.ended.Ended.{Ended}
 use Rattle.conn_serve.specs.declared.ended.Ended.TheVariants.{Done, Closed, ClosedByPeer}
-use Rattle.conn_serve.specs.Exchanged.{Exchanged, AreAnswered, GoesOn, StopsWith, request_in, is_head, mark_of, answer_bytes, response_bytes, out_of, wholes_of}
+use Rattle.conn_serve.specs.Exchanged.{Exchanged, AreAnswered, GoesOn, request_in, is_head, mark_of, answer_bytes, response_bytes, out_of, wholes_of}
 use Rattle.sidecar_core.specs.declared.config.Config.{Config}
 use Rattle.sidecar_core.specs.declared.doing.Doing.{Doing}
 use Rattle.sidecar_core.specs.Exchange.{Exchange}

@@ -13,7 +13,6 @@ use Rattle.state_core.specs.declared.command.Item.{Item}
 use Rattle.state_core.specs.declared.command.Mode.TheVariants.{Unsaid}
 use Rattle.state_core.specs.declared.reply.Reply.{Reply}
 use Rattle.state_core.specs.declared.reply.Reply.TheVariants.{Value, Saved, SomeRefused, Deleted}
-use Rattle.state_core.specs.History.{Step}
 use Rattle.sidecar_core.specs.declared.config.Config.{Config}
 use Rattle.sidecar_core.specs.declared.doing.Doing.{Doing}
 use Rattle.sidecar_core.specs.declared.doing.Doing.TheVariants.{Stored, Timed}

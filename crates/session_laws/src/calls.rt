@@ -1,5 +1,5 @@
 //! Calls under a policy, by the events of their attempts.
-ghost use Rattle.std.specs.Prelude.{◌≡◌, ◌++◌, ℕ, List, [], flat_map};
+ghost use Rattle.std.specs.Prelude.{◌≡◌, ◌++◌, ℕ, [], flat_map};
 ghost use Rattle.side_base.specs.declared.message.Response.{Response};
 ghost use Rattle.side_world.specs.declared.link.LinkErr.{LinkErr};
 ghost use Rattle.side_world.specs.declared.link.LinkErr.TheVariants.{Failed};
