@@ -51,7 +51,7 @@ pub fn a_wish_to_end_is_not_forgotten()
     ensures { (config : Config) (input : List ℕ) → NoWishForgotten config input }
 {}
 
-/// A session is `Done` where its bytes are whole requests and nothing else, and `ClosedByPeer` where they are not.
+/// A session is `Done` only where its bytes are whole requests and nothing else, and `ClosedByPeer` only where they are not.
 pub fn a_session_is_done_between_requests()
     ensures done { (config : Config) (input : List ℕ) (wholes : List Whole) (rest : List ℕ) (events : List Doing) (output : List ℕ) → IsStream input wholes rest → rest ≢ [] → ¬ Plays config input events output Done }
     ensures closed { (config : Config) (input : List ℕ) (wholes : List Whole) (events : List Doing) (output : List ℕ) → IsStream input wholes [] → ¬ Plays config input events output ClosedByPeer }
