@@ -7,6 +7,7 @@ pub mod Heads
 pub mod Paths
 pub mod Plain
 pub mod Playing
+pub mod Replying
 pub mod Saving
 pub mod StorePaths
 pub mod Storing

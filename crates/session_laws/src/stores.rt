@@ -1,7 +1,14 @@
 //! Sessions over a store, by the bytes that are read and written and the steps that are made.
-ghost use Rattle.std.specs.Prelude.{◌++◌, ◌∷◌, ℕ, List, [], Result, Ok};
+ghost use Rattle.std.specs.Prelude.{◌≡◌, ◌++◌, ◌∷◌, ℕ, List, [], codes, Some, None, Result, Ok};
 ghost use Rattle.side_base.specs.declared.message.Response.{Response};
 ghost use Rattle.turn_cell.specs.declared.error.ApiErr.{ApiErr};
+ghost use Rattle.keeper_core.specs.Rows.{Row};
+ghost use Rattle.state_core.specs.declared.command.Cmd.TheVariants.{Get, Save, Transact};
+ghost use Rattle.state_core.specs.declared.reply.Reply.TheVariants.{Value, SomeRefused, Mismatch, Committed};
+ghost use Rattle.state_core.specs.Current.{live_at};
+ghost use Rattle.state_core.specs.Judged.{version_in};
+ghost use Rattle.state_core.specs.Reply.{Held, reply_to};
+ghost use Rattle.state_core.specs.Write.{upsert};
 ghost use Rattle.state_api.specs.Response.{done};
 ghost use Rattle.conn_serve.specs.declared.ended.Ended.TheVariants.{Done, Closed, Spent, NoMemory};
 ghost use Rattle.sidecar_core.specs.declared.config.Config.{Config};
@@ -10,8 +17,8 @@ ghost use Rattle.sidecar_core.specs.Sites.{IsSite};
 ghost use Rattle.sidecar_core.specs.Exchange.{Exchange};
 ghost use Rattle.sidecar_core.specs.declared.doing.Doing.TheVariants.{Timed};
 ghost use Rattle.session_laws.specs.Sessions.{EndsEarly, Plays, no_content, no_memory_answer, spent_answer};
-ghost use Rattle.session_laws.specs.Stores.{HasStore, StepsAlone, usual, save_request, saves_elsewhere, saves_at, reads_at, asks_save, asks_get_once, asks_in_vain, found_once, steps_in_vain, told_in_vain};
-ghost use Rattle.session_laws.specs.Transactions.{asks_three_times, steps_three_times, told_three_times};
+ghost use Rattle.session_laws.specs.Stores.{HasStore, StepsAlone, old_item, usual, save_request, saves_elsewhere, saves_at, reads_at, asks_save, asks_get_once, asks_in_vain, found_once, steps_in_vain, told_in_vain};
+ghost use Rattle.session_laws.specs.Transactions.{asks_three_times, steps_three_times, three, told_three_times};
 
 /// A sidecar without resource files has a store `statestore`, whose keys stand behind the app's id, and to which nothing is bound.
 pub fn a_sidecar_without_files_has_a_store()
@@ -48,4 +55,13 @@ pub fn a_save_may_end_early()
     ensures spent { (config : Config) (now : ℕ) → HasStore config → EndsEarly config asks_save (Timed now ∷ []) spent_answer (Spent 4611686018427387904) }
     ensures lacking { (config : Config) → HasStore config → EndsEarly config asks_save [] no_memory_answer NoMemory }
     ensures free { (config : Config) (input : List ℕ) → Plays config input [] no_memory_answer NoMemory }
+{}
+
+/// The replies that are written out are the store's own, where there is memory and the keeper does not fail: to a get of a row that is
+/// live, to a save under a version where the key has none, and to operations of which the second names the version 9 and finds 1.
+pub fn the_store_replies_so()
+    ensures read { (h : Held) (moment : ℕ) (row : Row) → live_at h.rows moment (codes "a||a") ≡ Some row → reply_to h moment (Get (codes "a||a") moment) ≡ Value row.value row.version }
+    ensures refused { (h : Held) (moment : ℕ) → live_at h.rows moment (codes "a||a") ≡ None → reply_to h moment (Save (old_item (codes "1") ∷ []) moment) ≡ SomeRefused (0 ∷ []) }
+    ensures mismatch { (h : Held) (moment : ℕ) → version_in h.rows h.next moment (upsert (codes "a||k2") (codes "2") 0 ∷ []) (codes "a||k1") ≡ Some 1 → reply_to h moment (Transact three moment) ≡ Mismatch 1 }
+    ensures nothing { (h : Held) (moment : ℕ) → reply_to h moment (Transact [] moment) ≡ Committed }
 {}
