@@ -64,10 +64,10 @@ pub record Start (method target : List ℕ) : Type 0 where
   pub bytes : AllPass is_uri_byte target
   pub text : IsUtf8 target
 
-valid_head : (method target : List ℕ) (fields : List Field) → Start method target → All IsField (map line_of fields) → IsRequestHead (head_with method target fields)
+pub valid_head : (method target : List ℕ) (fields : List Field) → Start method target → All IsField (map line_of fields) → IsRequestHead (head_with method target fields)
 valid_head method target fields start valid = record { method = start.token; target = (start.some, start.bytes); target_text = start.text; minor = omega arith; fields = valid }
 
-content_by : (head : RequestHead) (after body rest : List ℕ) → is_chunked (fields_of head) ≡ false → ReadsLength after (content_length (fields_of head)) body rest → ReadsBody head after body rest
+pub content_by : (head : RequestHead) (after body rest : List ℕ) → is_chunked (fields_of head) ≡ false → ReadsLength after (content_length (fields_of head)) body rest → ReadsBody head after body rest
 content_by head after body rest plain reads = rw plain reads
 
 pub one_whole : (method target : List ℕ) (named : Method) (fields : List Field) (body text : List ℕ) → Start method target → method_of method ≡ named → Plain fields (length body)
@@ -104,7 +104,7 @@ five = record { name = codes "Content-Length"; value = codes "5" }
 abbrev pub chunked : Field
 chunked = record { name = codes "Transfer-Encoding"; value = codes "chunked" }
 
-host_valid : IsField (line_of host)
+pub host_valid : IsField (line_of host)
 unfolding is_token_byte
 host_valid = record { name = (omega arith, AllPass-from_list_all is_token_byte (codes "Host") refl); raw = AllPass-from_list_all is_value_byte (32 ∷ codes "a") refl }
 
@@ -138,7 +138,7 @@ close_plain = record {
 abbrev pub length_of : List ℕ → Field
 length_of value = record { name = codes "Content-Length"; value = value }
 
-length_valid : (value : List ℕ) → AllPass is_value_byte (32 ∷ value) → IsField (line_of (length_of value))
+pub length_valid : (value : List ℕ) → AllPass is_value_byte (32 ∷ value) → IsField (line_of (length_of value))
 unfolding is_token_byte
 length_valid value passes = record { name = (omega arith, AllPass-from_list_all is_token_byte (codes "Content-Length") refl); raw = passes }
 

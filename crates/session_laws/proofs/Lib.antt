@@ -12,5 +12,6 @@ pub mod Saving
 pub mod StorePaths
 pub mod Storing
 pub mod Transacting
+pub mod Waiting
 pub mod Working
 pub mod Wrongly

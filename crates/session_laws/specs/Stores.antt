@@ -85,6 +85,11 @@ save_request = record {
 abbrev pub asks_save : List ℕ
 asks_save = line (codes "POST /v1.0/state/statestore HTTP/1.1") ++ line (codes "Host: a") ++ line (codes "Content-Length: 25") ++ line [] ++ codes "[{\"key\":\"a\",\"value\":\"x\"}]"
 
+-- a client that waits to be told that the content is wanted
+abbrev pub asks_save_waiting : List ℕ
+asks_save_waiting = line (codes "POST /v1.0/state/statestore HTTP/1.1") ++ line (codes "Host: a") ++ line (codes "Content-Length: 25") ++ line (codes "Expect: 100-continue") ++ line []
+    ++ codes "[{\"key\":\"a\",\"value\":\"x\"}]"
+
 abbrev pub asks_get_once : List ℕ
 asks_get_once = line (codes "GET /v1.0/state/statestore/a HTTP/1.1") ++ line (codes "Host: a") ++ line (codes "Connection: close") ++ line []
 
@@ -95,6 +100,9 @@ abbrev pub asks_old_save : List ℕ
 asks_old_save = line (codes "POST /v1.0/state/statestore HTTP/1.1") ++ line (codes "Host: a") ++ line (codes "Content-Length: 34") ++ line [] ++ codes "[{\"key\":\"a\",\"value\":1,\"etag\":\"1\"}]"
 
 -- ---- responses
+
+abbrev pub is_wanted : List ℕ
+is_wanted = line (codes "HTTP/1.1 100 Continue") ++ line []
 
 abbrev pub found_once : List ℕ
 found_once = line (codes "HTTP/1.1 200 OK") ++ line (codes "Content-Type: application/json") ++ line (codes "ETag: 1") ++ line (codes "Content-Length: 3") ++ line (codes "Connection: close") ++ line [] ++ codes "\"x\""

@@ -17,7 +17,7 @@ ghost use Rattle.sidecar_core.specs.Sites.{IsSite};
 ghost use Rattle.sidecar_core.specs.Exchange.{Exchange};
 ghost use Rattle.sidecar_core.specs.declared.doing.Doing.TheVariants.{Timed};
 ghost use Rattle.session_laws.specs.Sessions.{EndsEarly, Plays, no_content, no_memory_answer, spent_answer};
-ghost use Rattle.session_laws.specs.Stores.{HasStore, StepsAlone, old_item, usual, save_request, saves_elsewhere, saves_at, reads_at, asks_save, asks_get_once, asks_in_vain, found_once, steps_in_vain, told_in_vain};
+ghost use Rattle.session_laws.specs.Stores.{HasStore, StepsAlone, old_item, usual, save_request, saves_elsewhere, saves_at, reads_at, asks_save, asks_save_waiting, asks_get_once, asks_in_vain, found_once, is_wanted, steps_in_vain, told_in_vain};
 ghost use Rattle.session_laws.specs.Transactions.{asks_three_times, steps_three_times, three, told_three_times};
 
 /// A sidecar without resource files has a store `statestore`, whose keys stand behind the app's id, and to which nothing is bound.
@@ -29,6 +29,11 @@ pub fn a_sidecar_without_files_has_a_store()
 /// behind it.
 pub fn a_value_is_saved_and_read()
     ensures { (config : Config) (now later : ℕ) (rest : List ℕ) → HasStore config → Plays config (asks_save ++ asks_get_once ++ rest) (saves_at now ++ reads_at later) (no_content ++ found_once) Closed }
+{}
+
+/// A client that waits to be told that its content is wanted is told so before the response.
+pub fn content_is_asked_for()
+    ensures { (config : Config) (now : ℕ) → HasStore config → Plays config asks_save_waiting (saves_at now) (is_wanted ++ no_content) Done }
 {}
 
 /// A key is saved, deleted, and not saved under the version that it had: the store refuses the first item, and so it is told.
