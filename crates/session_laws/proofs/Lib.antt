@@ -1,0 +1,17 @@
+pub mod Apart
+pub mod Calling
+pub mod Composing
+pub mod Early
+pub mod Following
+pub mod Heads
+pub mod Paths
+pub mod Plain
+pub mod Playing
+pub mod Replying
+pub mod Saving
+pub mod StorePaths
+pub mod Storing
+pub mod Transacting
+pub mod Waiting
+pub mod Working
+pub mod Wrongly
