@@ -1,5 +1,6 @@
 use crate::scene::{Given, Scene, connect, next_of, piece_of};
 use net_edge::{DoorLimits, TcpAcceptor, TcpDoor};
+use side_world::Acceptor;
 use std::io::{self, Write};
 use std::net::{Net, TcpListener, TcpStream};
 use std::process::Abort;
@@ -239,5 +240,39 @@ fn four_slow_requests_leave_a_worker_to_a_fifth_client(rt: HostRuntime) -> Resul
         || answered_at(&rt, &door, port, Slow::Drips),
     );
     assert_eq!(rt; answered?, 6);
+    Ok(())
+}
+
+/// How many bytes a client that has sent half a request is answered once a worker leaves, at a door that is shut afterwards.
+fn answered_at_the_end<
+    R: Net<Listener = TcpListener, Stream = TcpStream> + Clock + Wait + AllocGlobal,
+>(rt: &R, door: &TcpDoor, port: u16, last: &mut TcpAcceptor<R>) -> io::Result<usize> {
+    let mut halves = send_halves(rt, port, 1)?;
+    sleep(rt, Duration::from_millis(300));
+    last.leave();
+    let answered = match halves.first_mut() {
+        Some(half) => piece_of(half),
+        None => Ok(usize::MAX),
+    };
+    door.shut();
+    answered
+}
+
+#[test]
+fn half_a_request_does_not_hold_up_the_end(rt: HostRuntime) -> Result<(), Fail> {
+    let limits = DoorLimits {
+        patience_ms: 600_000,
+        ..short()
+    };
+    let door = TcpDoor::open_within(&rt, 0, limits)?;
+    let port = door.port()?;
+    let mut worker = door.acceptor(rt)?;
+    let mut last = door.acceptor(rt)?;
+    let (_, answered) = join(
+        &rt,
+        || serve_to_the_end(&mut worker),
+        || answered_at_the_end(&rt, &door, port, &mut last),
+    );
+    assert_eq!(rt; answered?, 0);
     Ok(())
 }

@@ -46,6 +46,8 @@ pub(crate) struct Door {
     swept_at: AtomicU64,
     sweeps: AtomicU64,
     has_other_work: AtomicBool,
+    /// A worker ended for a reason of its own, and so all end.
+    is_ending: AtomicBool,
     is_shut: AtomicBool,
 }
 
@@ -99,6 +101,7 @@ impl Door {
             swept_at: AtomicU64::new(0),
             sweeps: AtomicU64::new(0),
             has_other_work: AtomicBool::new(false),
+            is_ending: AtomicBool::new(false),
             is_shut: AtomicBool::new(false),
         })
     }
@@ -122,6 +125,17 @@ impl Door {
     /// Whether it is shut.
     pub(crate) fn is_shut(&self) -> bool {
         self.is_shut.load(Ordering::SeqCst)
+    }
+
+    /// Says that all workers end, and wakes those that wait.
+    pub(crate) fn leave(&self) {
+        self.is_ending.store(true, Ordering::SeqCst);
+        self.bell.ring();
+    }
+
+    /// Whether all workers end.
+    pub(crate) fn is_ending(&self) -> bool {
+        self.is_ending.load(Ordering::SeqCst)
     }
 
     /// Says that there is other work, and has one of those that wait look for it.
@@ -162,9 +176,9 @@ impl Door {
             .park(rt, &self.set, stream, Coming::Again, now_ms());
     }
 
-    /// Has the bell awaited again. That of a shut door goes on ringing, so that all hear it.
+    /// Has the bell awaited again. That of a shut door, or of one that all leave, goes on ringing, so that all hear it.
     fn hear(&self) -> io::Result<()> {
-        if !self.is_shut() {
+        if !self.is_shut() && !self.is_ending() {
             self.bell.hush();
         }
         self.set.arm(self.bell.fd(), BELL)
@@ -270,8 +284,11 @@ impl Door {
         left.min(LOOK_MS as u64) as i32
     }
 
-    /// Whether all workers wait for slow peers, and something else wants one of them.
+    /// Whether all workers end, or all wait for slow peers and something else wants one of them.
     fn is_pressed(&self) -> bool {
+        if self.is_ending() {
+            return true;
+        }
         self.waiting.load(Ordering::SeqCst) >= self.workers.load(Ordering::SeqCst)
             && self.set.has_ready()
     }

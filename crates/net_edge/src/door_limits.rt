@@ -18,7 +18,7 @@ pub struct DoorLimits {
     pub crowded_ms: u64,
     /// A worker waits so long for the rest of a request, and so long for a peer that doesn't read.
     pub patience_ms: u64,
-    /// The same where all workers wait so, and another connection, or other work, wants one of them.
+    /// The same where all workers wait so, and another connection, or other work, wants one of them, and where all workers end.
     pub pressed_ms: u64,
 }
 

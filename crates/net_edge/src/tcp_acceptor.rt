@@ -69,6 +69,9 @@ impl<R: Wait + AllocGlobal> TcpAcceptor<R> {
         if self.door.is_shut() {
             return Ok(Next::Closed);
         }
+        if self.door.is_ending() {
+            return Ok(Next::Idle);
+        }
         if !self.was_idle && self.door.take_other_work() {
             return Ok(Next::Idle);
         }
@@ -80,6 +83,7 @@ impl<R: Wait + AllocGlobal> TcpAcceptor<R> {
                 Look::Conn(stream) => return self.shared(stream),
                 Look::Went => ms = ms_until(until),
                 Look::Rung if self.door.is_shut() => return Ok(Next::Closed),
+                Look::Rung if self.door.is_ending() => return Ok(Next::Idle),
                 // A connection that is ready comes before other work that follows other work.
                 Look::Rung if self.was_idle => ms = 0,
                 Look::Rung if self.door.take_other_work() => return Ok(Next::Idle),
@@ -146,6 +150,10 @@ impl<R: Wait + AllocGlobal> Acceptor for TcpAcceptor<R> {
 
     fn wake(&mut self) {
         self.door.wake();
+    }
+
+    fn leave(&mut self) {
+        self.door.leave();
     }
 }
 

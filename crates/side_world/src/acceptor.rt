@@ -52,4 +52,11 @@ pub trait Acceptor {
         ensures told { told self.new ≡ told self.old }
         ensures faults { faults self.new ≡ faults self.old }
     {}
+
+    /// Says that its worker ends for a reason of its own, and that all others are to end too: their `accept` should answer soon, and what they wait for
+    /// within a request should be waited for no longer than where others want them. A hint as `wake` is one.
+    fn leave(&mut self)
+        ensures told { told self.new ≡ told self.old }
+        ensures faults { faults self.new ≡ faults self.old }
+    {}
 }

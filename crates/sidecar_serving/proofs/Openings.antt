@@ -10,7 +10,7 @@ use Rattle.side_world.specs.Told.{Tells}
 use Rattle.side_world.proofs.Composed.{tells_on, tells_nothing}
 use Rattle.sidecar_core.specs.Did.{CellsAt, SeatsAt}
 use Rattle.sidecar_workers.specs.StopSeat.{Standing, parent_of, root_of}
-use Rattle.sidecar_serving.specs.Opened.{AreWorkers, worker_calls}
+use Rattle.sidecar_serving.specs.Opened.{AreWorkers, IsAskedUpTo, worker_calls}
 use Rattle.sidecar_serving.specs.Passes.{root_pass}
 
 -- one more behind those that are there
@@ -64,10 +64,10 @@ one_opened cells stop port stream Is all yielded next rest' rest slots slots' nu
 
 -- where one more was asked for
 pub one_asked : {X Y O : Type 0} (cells : CellsAt O) (stop : TableId) (port : ℕ) (stream : Y → Stream) (Is : ℕ → Stream → X → Type 0) (all yielded : List Y) (next : Y) (rest' rest : List Y) (slots : List X) (number : ℕ) (seats : SeatsAt O) (seat : Standing) (calls between calls' : Option (List OutsideCall))
-    → rest ≡ next ∷ rest' → Tells between calls' (call.Worker port number ∷ []) → OpeningSoFar cells stop port stream Is all yielded rest slots number seats seat calls between → (asked : ℕ) × (asked ≤ length all) × Tells calls calls' (worker_calls port asked)
+    → rest ≡ next ∷ rest' → Tells between calls' (call.Worker port number ∷ []) → OpeningSoFar cells stop port stream Is all yielded rest slots number seats seat calls between → (asked : ℕ) × IsAskedUpTo (length all) (length slots) asked × Tells calls calls' (worker_calls port asked)
 one_asked cells stop port stream Is all yielded next rest' rest slots number seats seat calls between calls' comes told so =
     let taken : all ≡ yielded ++ next ∷ rest' = so.taken ∙ ap (λ l. yielded ++ l) comes in (
       suc (length slots),
-      omega (arith, ap length taken, length-append yielded (next ∷ rest'), so.count),
+      (omega (arith, ap length taken, length-append yielded (next ∷ rest'), so.count), omega arith, omega arith),
       tells_on calls between calls' (worker_calls port (length slots)) (call.Worker port (length slots) ∷ []) so.told (subst (λ n. Tells between calls' (call.Worker port n ∷ [])) so.numbered told),
     )

@@ -17,7 +17,7 @@ use Rattle.sidecar_serving.specs.declared.opening.Unopened.{Unopened}
 use Rattle.sidecar_serving.specs.declared.opening.Unopened.TheVariants as lack
 use Rattle.sidecar_serving.specs.Ending.{end_of, end_without}
 use Rattle.sidecar_serving.specs.Met.{AreMet, HubAt, failed_in, nobody, reason_in, spent_in, stopped_in}
-use Rattle.sidecar_serving.specs.Opened.{AreWorkers, HasWorked, WorkerAt, worker_calls}
+use Rattle.sidecar_serving.specs.Opened.{AreWorkers, HasWorked, IsAskedUpTo, IsOpened, WorkerAt, worker_calls}
 use Rattle.sidecar_serving.specs.Passes.{IsRootPass, root_pass}
 use Rattle.sidecar_serving.specs.Served.{IsServed, IsUnopened, WereMet, unopened, went}
 use Rattle.sidecar_serving.proofs.Passes.{lone_root, root_pass_is}
@@ -64,19 +64,19 @@ rose_first a b c low (inl less) later = inl (omega (arith, less, later))
 rose_first a b c low (inr top) later = elim (eq-or-lt_of_le later) [ inl same ↦ inr (sym same ∙ top) | inr less ↦ inl (omega (arith, low, less)) ]
 
 pub unopened_served : {X O : Type 0} (config : Config) (kinds : Kinds O) (cells : CellsAt O) (port : ℕ) (words : List Stream) (worker : X → WorkerAt O) (opened : List X) (calls between calls' : Option (List OutsideCall)) (at mid after : HubAt O) (u : Unopened) (end : End) (asked : ℕ)
-    → length opened ≤ length words → asked ≤ length words → AreWorkers (HasWorked config kinds cells) 0 words (map worker opened) → All (λ x. (worker x).ended ≡ None) opened → Tells calls between (worker_calls port asked) → calls' ≡ between
+    → length opened ≤ length words → IsAskedUpTo (length words) (length opened) asked → AreWorkers (HasWorked config kinds cells) 0 words (map worker opened) → AreWorkers (IsOpened cells) 0 words (map worker opened) → Tells calls between (worker_calls port asked) → calls' ≡ between
     → mid.seats ≡ root_pass (length opened) cells → at.faults ≤ mid.faults → mid.faults ≤ after.faults → (u ≡ lack.Failed → Rose at.faults mid.faults) → end ≡ end_without u
     → AreMet kinds cells (map worker opened) mid after → IsRootPass 0 cells after.seats → (0 < length opened → IsSoundPass kinds cells after.seats) → IsServed config kinds cells port words calls calls' at after end
-unopened_served config kinds cells port words worker opened calls between calls' at mid after u end asked few few-asked each all told still root low high failed ends met lone sound =
-    unopened (map worker opened) asked mid (subst (λ n. n ≤ length words) (sym (length-map opened worker)) few) few-asked
-    (were_met config kinds cells words worker opened opened mid mid after refl root refl refl each met lone sound) (all_mapped worker (λ w. w.ended ≡ None) opened all)
+unopened_served config kinds cells port words worker opened calls between calls' at mid after u end asked few few-asked each opens told still root low high failed ends met lone sound =
+    unopened (map worker opened) asked mid (subst (λ n. n ≤ length words) (sym (length-map opened worker)) few) (subst (λ n. IsAskedUpTo (length words) n asked) (sym (length-map opened worker)) few-asked)
+    (were_met config kinds cells words worker opened opened mid mid after refl root refl refl each met lone sound) opens
     (subst (λ c. Tells calls c (worker_calls port asked)) (sym still) told) (λ e. rose_first at.faults mid.faults after.faults low (failed (was_failed u (sym ends ∙ e))) high) (is_unopened u end ends)
 
 -- no memory for any
 pub none_served : {O : Type 0} (config : Config) (kinds : Kinds O) (cells : CellsAt O) (port : ℕ) (words : List Stream) (calls : Option (List OutsideCall)) (at : HubAt O) → at.seats ≡ root_pass 0 cells → IsServed config kinds cells port words calls calls at at ended.NoMemory
-none_served config kinds cells port words calls at root = unopened [] 0 at (omega arith) (omega arith) (record {
+none_served config kinds cells port words calls at root = unopened [] 0 at (omega arith) (omega arith, omega arith, omega arith) (record {
   each = tt;
   met = subst (λ s. AreMet kinds cells [] (record at { seats = s }) at) root (nobody at);
   lone = lone_root cells at.seats (subst (λ s. IsRootPass 0 cells s) (sym root) (root_pass_is cells 0));
   sound = λ low. absurd (omega (arith, low));
-}) (All-nil (λ w. w.ended ≡ None)) (tells_nothing calls) (λ e. absurd (cc)) (inr refl)
+}) tt (tells_nothing calls) (λ e. absurd (cc)) (inr refl)

@@ -1,5 +1,5 @@
 -- Workers that were opened, and workers that have run.
-use Rattle.std.specs.Prelude.{◌≡◌, ℕ, zero, suc, List, [], ◌∷◌, ◌++◌, Option, Some, None}
+use Rattle.std.specs.Prelude.{◌≡◌, ◌≤◌, ◌+◌, ℕ, zero, suc, List, [], ◌∷◌, ◌++◌, Option, Some, None}
 use Rattle.rand_core.specs.Stream.{Stream}
 use Rattle.side_world.specs.declared.outside.OutsideCall.{OutsideCall}
 use Rattle.side_world.specs.declared.outside.OutsideCall.TheVariants as call
@@ -15,6 +15,10 @@ use Rattle.sidecar_serving.specs.Worker.{HasDone, HasExit, Reached}
 abbrev pub worker_calls : ℕ → ℕ → List OutsideCall
 worker_calls port zero = []
 worker_calls port (suc n) = worker_calls port n ++ call.Worker port n ∷ []
+
+-- so many workers' parts were asked for where so many of all were opened: those of the opened ones, and of no other but the first that was refused
+abbrev pub IsAskedUpTo : ℕ → ℕ → ℕ → Type 0
+IsAskedUpTo all opened asked = (asked ≤ all) × (opened ≤ asked) × (asked ≤ opened + 1)
 
 -- a worker: its number, what it has come to, how often its acceptor has failed, and how it ended, if it has run
 pub record WorkerAt (O : Type 0) : Type 0 where

@@ -1,5 +1,5 @@
 -- Serving as a whole: workers are opened, run, and met.
-use Rattle.std.specs.Prelude.{◌≡◌, ◌⊎◌, ◌≤◌, ◌<◌, ℕ, true, List, length, All, IsSome, None, Option}
+use Rattle.std.specs.Prelude.{◌≡◌, ◌⊎◌, ◌≤◌, ◌<◌, ℕ, true, List, length, All, IsSome, Option}
 use Rattle.rand_core.specs.Stream.{Stream}
 use Rattle.side_world.specs.declared.outside.OutsideCall.{OutsideCall}
 use Rattle.side_world.specs.Faults.{Rose}
@@ -10,7 +10,7 @@ use Rattle.sidecar_serving.specs.declared.end.End.{End}
 use Rattle.sidecar_serving.specs.declared.end.End.TheVariants as ended
 use Rattle.sidecar_serving.specs.Ending.{end_of}
 use Rattle.sidecar_serving.specs.Met.{AreMet, HubAt, failed_in, reason_in, spent_in, stopped_in}
-use Rattle.sidecar_serving.specs.Opened.{AreWorkers, HasWorked, WorkerAt, worker_calls}
+use Rattle.sidecar_serving.specs.Opened.{AreWorkers, HasWorked, IsAskedUpTo, IsOpened, WorkerAt, worker_calls}
 use Rattle.sidecar_serving.specs.Passes.{root_pass}
 
 -- Workers that had these random words were opened, and all have been met. The pass of the root seats has then seen all that they did: each history is legal, and has the steps
@@ -26,9 +26,9 @@ abbrev pub IsUnopened : End → Type 0
 IsUnopened end = (end ≡ ended.OutsideFailed) ⊎ (end ≡ ended.NoMemory)
 
 -- Serving by so many workers as there are streams of random words, with the calls that asked the outside for their parts. All were opened, ran until each ended, and were met; where one was
--- stopped, another had a reason. Or the outside had no parts for one, or there was no memory: then none ran
+-- stopped, another had a reason. Or the outside had no parts for one, or there was no memory: then no further one was asked for, and none ran
 pub data IsServed {O : Type 0} (config : Config) (kinds : Kinds O) (cells : CellsAt O) (port : ℕ) (words : List Stream) (calls calls' : Option (List OutsideCall)) (at after : HubAt O) (end : End) : Type 0 where
   went : (workers : List (WorkerAt O)) → length workers ≡ length words → WereMet config kinds cells words workers at after → All (λ w. IsSome w.ended) workers → (stopped_in workers ≡ true → reason_in workers ≡ true)
       → Tells calls calls' (worker_calls port (length words)) → end ≡ end_of (spent_in workers) (failed_in workers) → IsServed config kinds cells port words calls calls' at after end
-  unopened : (workers : List (WorkerAt O)) (asked : ℕ) (between : HubAt O) → length workers ≤ length words → asked ≤ length words → WereMet config kinds cells words workers between after → All (λ w. w.ended ≡ None) workers
+  unopened : (workers : List (WorkerAt O)) (asked : ℕ) (between : HubAt O) → length workers ≤ length words → IsAskedUpTo (length words) (length workers) asked → WereMet config kinds cells words workers between after → AreWorkers (IsOpened cells) 0 words workers
       → Tells calls calls' (worker_calls port asked) → (end ≡ ended.OutsideFailed → Rose at.faults after.faults) → IsUnopened end → IsServed config kinds cells port words calls calls' at after end

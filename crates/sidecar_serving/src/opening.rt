@@ -5,7 +5,7 @@ ghost use Rattle.side_world.specs.Faults.{Rose};
 ghost use Rattle.side_world.specs.Told.{Tells};
 ghost use Rattle.sidecar_core.specs.Pass.{cells_of, seats_of};
 ghost use Rattle.sidecar_workers.specs.StopSeat.{parent_of, root_of};
-ghost use Rattle.sidecar_serving.specs.Opened.{AreWorkers, worker_calls};
+ghost use Rattle.sidecar_serving.specs.Opened.{AreWorkers, IsAskedUpTo, worker_calls};
 ghost use Rattle.sidecar_serving.specs.Passes.{root_pass, worker_pass};
 ghost use Rattle.sidecar_serving.specs.Slots.{IsOpenedSlot};
 
@@ -51,7 +51,7 @@ pub(crate) fn open_all<'a, K: Keeper, O: Outside, R: Rng + Drop>(
     ensures root { seats_of pass.new ≡ root_pass (length slots.new.items) (cells_of shared.now.objects) }
     ensures seat { seat.new ≡ record (root_of stop.now) { out = length slots.new.items } }
     ensures calls { OnOk result (Tells (O.calls outside.old) (O.calls outside.new) (worker_calls port (length rngs.items))) }
-    ensures asked { (asked : ℕ) × (asked ≤ length rngs.items) × Tells (O.calls outside.old) (O.calls outside.new) (worker_calls port asked) }
+    ensures asked { (asked : ℕ) × IsAskedUpTo (length rngs.items) (length slots.new.items) asked × Tells (O.calls outside.old) (O.calls outside.new) (worker_calls port asked) }
     ensures disks { O.disks outside.new ≡ O.disks outside.old }
     ensures numbers { O.numbers outside.new ≡ O.numbers outside.old }
     ensures backs { OnOk result (O.backs outside.new ≡ O.backs outside.old) }

@@ -39,7 +39,10 @@ impl<K: Keeper, A: Acceptor, L: Link, C: Clock, R: Rng> Work for Serving<'_, K, 
                 Got::Idle
             }
             Accepted::Closed => Got::Closed,
-            Accepted::Failed => Got::Failed,
+            Accepted::Failed => {
+                self.acceptor.leave();
+                Got::Failed
+            }
         }
     }
 
@@ -62,6 +65,10 @@ impl<K: Keeper, A: Acceptor, L: Link, C: Clock, R: Rng> Work for Serving<'_, K, 
                 self.acceptor.end(source, sink);
                 let served = served_of(ended);
                 self.exit = exit_after_serve(served);
+                if self.exit.is_some() {
+                    self.acceptor.leave();
+                    return served;
+                }
                 served
             }
             Due::Nothing | Due::Turn => unreachable!(),
@@ -81,6 +88,10 @@ impl<K: Keeper, A: Acceptor, L: Link, C: Clock, R: Rng> Work for Serving<'_, K, 
                 );
                 let turned = turned_of(&turn);
                 self.exit = exit_after_turn(turned);
+                if self.exit.is_some() {
+                    self.acceptor.leave();
+                    return turned;
+                }
                 turned
             }
             Due::Nothing | Due::Serve { .. } => unreachable!(),

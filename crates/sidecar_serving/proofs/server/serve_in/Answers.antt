@@ -1,5 +1,5 @@
 use Rattle.std.specs.Prelude.{ℕ, Err}
-use Rattle.sidecar_serving.specs.Opened.{AreWorkers}
+use Rattle.sidecar_serving.specs.Opened.{AreWorkers, IsAskedUpTo}
 use Rattle.std.proofs.Common.{◌∙◌, ◌≡◌, ◌++◌, All, arith, ap, drop, length, map, sym, subst, take}
 use Rattle.std.proofs.Math.Seq.{take-append_seam}
 use Rattle.std.proofs.lemmas.List.{length-map}
@@ -8,7 +8,7 @@ use Rattle.sidecar_workers.specs.StopSeat.{root_of}
 use Rattle.sidecar_serving.specs.Passes.{IsRootPass}
 use Rattle.sidecar_serving.specs.Slots.{IsOpenedSlot, IsReadySlot, worker_at}
 use Rattle.sidecar_serving.proofs.Passes.{root_pass_is}
-use Rattle.sidecar_serving.proofs.Ran.{all_of, mapped_of, opened_ready, opened_worked}
+use Rattle.sidecar_serving.proofs.Ran.{mapped_of, opened_ready, opened_worked}
 use Rattle.sidecar_serving.proofs.Whole.{unopened_served, went_served}
 use Rattle.sidecar_serving.proofs.server.serve_in.Goals as goal
 
@@ -66,6 +66,6 @@ returns-in-Err-clause-served g c =
     let few = c.open_all.ensures.some in
     let asked = c.open_all.ensures.asked in
     let few-asked = asked.1 in
-    unopened_served _ _ _ _ words worker_at opened _ _ _ _ _ _ c.in-Err.unopened _ asked.0 (omega (arith, few, many)) (omega (arith, few-asked, many))
-    (mapped_of _ _ worker_at (λ number word slot is. opened_worked _ _ _ number word (worker_at slot) is.worker) 0 words opened c.open_all.ensures.opened) (all_of _ _ (λ number word slot is. is.worker.waits) 0 words opened c.open_all.ensures.opened) asked.2 e.calls
+    unopened_served _ _ _ _ words worker_at opened _ _ _ _ _ _ c.in-Err.unopened _ asked.0 (omega (arith, few, many)) (subst (λ n. IsAskedUpTo n (length opened) asked.0) (sym many) few-asked)
+    (mapped_of _ _ worker_at (λ number word slot is. opened_worked _ _ _ number word (worker_at slot) is.worker) 0 words opened c.open_all.ensures.opened) (mapped_of _ _ worker_at (λ number word slot is. is.worker) 0 words opened c.open_all.ensures.opened) asked.2 e.calls
     c.open_all.ensures.root c.open_all.ensures.no_fewer e.no_fewer (λ u. c.open_all.ensures.failed (c.in-Err.is ∙ ap Err u)) c.end_without.ensures e.met e.lone e.sound

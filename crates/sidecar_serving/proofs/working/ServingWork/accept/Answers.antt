@@ -1,4 +1,4 @@
-use Rattle.std.proofs.Common.{refl}
+use Rattle.std.proofs.Common.{refl, sym}
 use Rattle.side_world.specs.Answer.{closed, failed}
 use Rattle.sidecar_serving.proofs.Doings.{conn_came, idle_came, none_came}
 use Rattle.sidecar_serving.proofs.working.ServingWork.accept.Goals as goal
@@ -13,4 +13,4 @@ pub returns-in-Closed-clause-kept : goal.returns-in-Closed-clause-kept
 returns-in-Closed-clause-kept g c = (refl, λ start done. none_came _ _ _ _ _ start _ _ closed _ _ _ c.requires.free c.requires.on (refl, refl) c.in-Closed.ensures.told done)
 
 pub returns-in-Failed-clause-kept : goal.returns-in-Failed-clause-kept
-returns-in-Failed-clause-kept g c = (refl, λ start done. none_came _ _ _ _ _ start _ _ failed _ _ _ c.requires.free c.requires.on (refl, refl) c.in-Failed.ensures.told done)
+returns-in-Failed-clause-kept g c = (refl, λ start done. none_came _ _ _ _ _ start _ _ failed _ _ _ c.requires.free c.requires.on (refl, refl) (rw (sym c.leave.ensures.told) at c.in-Failed.ensures.told) done)
