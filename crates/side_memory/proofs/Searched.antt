@@ -5,7 +5,7 @@ use Rattle.std.proofs.lemmas.List.{take_more}
 use Rattle.std.proofs.lemmas.List.Elements.{Contains-append_left, Contains-push, Contains-push_cases}
 use Rattle.std.proofs.lemmas.Slice.Eq.{bytes_eq-Decides}
 use Rattle.side_world.specs.Files.{Folders, IsYamlName, HasBytes, HasLength, ListsAll}
-use Rattle.side_memory.specs.MemoryFiles.{bytes_at, is_one_of, folders_of, files_of, told_of}
+use Rattle.side_memory.specs.MemoryFiles.{bytes_at, first_of, with_file, is_one_of, folders_of, files_of, told_of}
 use Rattle.side_memory.specs.declared.memory_files.MemoryFiles.{MemoryFiles}
 use Rattle.side_memory.specs.declared.memory_files.MemoryFile.{MemoryFile}
 
@@ -41,6 +41,14 @@ there (file ∷ files) last none = by_front (Is file last.folder last.name) (the
   by_front : (b : Bool) → (bytes_at files last.folder last.name ≡ None → bytes_at (files ++ last ∷ []) last.folder last.name ≡ Some last.bytes) → (if b then Some file.bytes else bytes_at files last.folder last.name) ≡ None → (if b then Some file.bytes else bytes_at (files ++ last ∷ []) last.folder last.name) ≡ Some last.bytes
   by_front true more is = absurd (cc)
   by_front false more is = more is
+
+-- what is there once a file is added
+pub one_with : (files : List MemoryFile) (last : MemoryFile) (folder name : List ℕ) → bytes_at (files ++ last ∷ []) folder name ≡ with_file (bytes_at files) last.folder last.name last.bytes folder name
+one_with [] last folder name = refl
+one_with (file ∷ files) last folder name = by_front (Is file folder name) (one_with files last folder name) where
+  by_front : (b : Bool) → bytes_at (files ++ last ∷ []) folder name ≡ with_file (bytes_at files) last.folder last.name last.bytes folder name → (if b then Some file.bytes else bytes_at (files ++ last ∷ []) folder name) ≡ first_of (if b then Some file.bytes else bytes_at files folder name) (if Is last folder name then Some last.bytes else None)
+  by_front true more = refl
+  by_front false more = more
 
 -- the names of the files of a folder
 abbrev pub NamesOf : List MemoryFile → List ℕ → List (List ℕ) → Type 0

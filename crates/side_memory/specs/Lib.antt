@@ -7,4 +7,5 @@ pub mod MemoryLink
 pub mod MemoryOutside
 pub mod MemorySink
 pub mod MemorySource
+pub mod Plan
 pub mod Scripts

@@ -6,6 +6,7 @@ use Rattle.side_world.specs.declared.acceptor.Accepted.TheVariants as accepted
 use Rattle.side_memory.specs.declared.memory_acceptor.AcceptorAnswer.{AcceptorAnswer}
 use Rattle.side_memory.specs.declared.memory_acceptor.AcceptorAnswer.TheVariants as answer
 use Rattle.side_memory.specs.declared.memory_acceptor.Visit.{Visit}
+use Rattle.side_memory.specs.Plan.{Plan, begun}
 use Rattle.side_memory.specs.MemorySource.{SourceState}
 use Rattle.side_memory.specs.MemorySink.{SinkState}
 use Rattle.side_memory.specs.declared.memory_acceptor.AcceptorNote.{AcceptorNote}
@@ -29,11 +30,14 @@ pub record AcceptorState : Type 0 where
   -- the answers so far, with what came back, where they are told
   pub notes : Option (List AcceptorNote)
   pub faults : ℕ
+  -- which calls of `accept` are to fail
+  pub plan : Plan
 
 -- the connection that a visit makes
 abbrev pub IsVisit : Visit → SourceState → SinkState → Type 0
 IsVisit visit source sink =
-    (source ≡ record { taken = []; left = visit.input; ended = false; faults = 0 }) × (sink ≡ record { contents = []; faults = 0 })
+    (source ≡ record { taken = []; left = visit.input; ended = false; faults = 0; plan = begun visit.failing_reads })
+    × (sink ≡ record { contents = []; faults = 0; plan = begun visit.failing_writes })
 
 -- an answer is the first of a list, of which these are left then; behind its end no connection comes
 abbrev pub StartsWith : List AcceptorAnswer → Accepted SourceState SinkState → List AcceptorAnswer → Type 0
@@ -41,3 +45,10 @@ StartsWith answers (accepted.Conn source sink) rest = (visit : Visit) × (answer
 StartsWith answers accepted.Idle rest = answers ≡ answer.Idle ∷ rest
 StartsWith answers accepted.Closed rest = (answers ≡ answer.Closed ∷ rest) ⊎ ((answers ≡ []) × (rest ≡ []))
 StartsWith answers accepted.Failed rest = rest ≡ answers
+
+-- the answer is a fault
+abbrev pub IsFailed : Accepted SourceState SinkState → Type 0
+IsFailed (accepted.Conn source sink) = ⊥
+IsFailed accepted.Idle = ⊥
+IsFailed accepted.Closed = ⊥
+IsFailed accepted.Failed = Unit {0}

@@ -1,5 +1,6 @@
 -- What contracts say of a disk in memory.
-use Rattle.std.specs.Prelude.{◌≡◌, ◌⊎◌, ℕ, List, [], ◌∷◌, reverse, Contains}
+use Rattle.std.specs.Prelude.{◌≡◌, ◌⊎◌, ℕ, List, [], ◌∷◌, reverse}
+use Rattle.side_memory.specs.Plan.{Plan, begun, plan_in, FailsNext}
 use Rattle.side_memory.specs.declared.memory_disk.MemoryDisk.{MemoryDisk}
 use Rattle.side_memory.specs.declared.note.Note.{Note}
 use Rattle.side_memory.specs.declared.note.Note.TheVariants.{Lost}
@@ -33,9 +34,17 @@ pub record HasNotedNothing (old new : MemoryDisk) : Type 0 where
 abbrev pub HasLost : ℕ → List ℕ → MemoryDisk → MemoryDisk → Type 0
 HasLost at piece old new = HasNoted (Lost at piece) old new ⊎ HasNotedNothing old new
 
+-- which calls are to fail
+abbrev pub plan_of : MemoryDisk → Plan
+plan_of disk = plan_in disk.schedule
+
 -- the next call is one that is to fail
 abbrev pub FailsNow : MemoryDisk → Type 0
-FailsNow disk = Contains disk.schedule.failing disk.schedule.calls
+FailsNow disk = FailsNext (plan_of disk)
+
+-- no call of it was made, and these are to fail
+abbrev pub IsToFail : List ℕ → MemoryDisk → Type 0
+IsToFail failing disk = plan_of disk ≡ begun failing
 
 -- a disk of these bytes, all of them on it, of which no call was noted and none has failed
 pub record IsOpened (bytes : List ℕ) (disk : MemoryDisk) : Type 0 where

@@ -1,8 +1,9 @@
 -- What contracts say of the whole outside in memory.
-use Rattle.std.specs.Prelude.{◌≡◌, ◌≢◌, ◌<◌, ℕ, zero, suc, if◌then◌else◌, List, [], ◌∷◌, length, map, bytes_eq, slice_index_or, Option, Some, None, option_map}
+use Rattle.std.specs.Prelude.{◌≡◌, ◌≢◌, ◌⊎◌, ◌<◌, ℕ, zero, suc, if◌then◌else◌, List, [], ◌∷◌, length, map, bytes_eq, slice_index_or, Option, Some, None, option_map}
 use Rattle.side_world.specs.declared.outside.WorkerParts.{WorkerParts}
 use Rattle.side_world.specs.declared.outside.OutsideCall.{OutsideCall}
 use Rattle.side_world.specs.Outside.{Disks, Backs, CameBack}
+use Rattle.side_memory.specs.Plan.{Plan, plan_in, FailsNext}
 use Rattle.side_memory.specs.MemoryAcceptor.{AcceptorState, told_of}
 use Rattle.side_memory.specs.MemoryLink.{LinkState}
 use Rattle.side_memory.specs.MemoryClock.{ClockState}
@@ -12,10 +13,19 @@ use Rattle.side_memory.specs.Scripts.{IsAt, IsBegun}
 use Rattle.side_memory.specs.declared.worker_script.WorkerScript.{WorkerScript}
 use Rattle.side_memory.specs.declared.memory_outside.MemoryOutside.{MemoryOutside}
 
+module _ {X : Type 0} (part : DiskPlace → X) (none : X) where
+  -- a part of the first disk of a path
+  abbrev pub part_at : List DiskPlace → List ℕ → X
+  part_at [] path = none
+  part_at (place ∷ places) path = if bytes_eq place.path path then part place else part_at places path
+
 -- what is held at a path: the bytes of the first disk of that path, where it is not taken
 abbrev pub held_at : List DiskPlace → List ℕ → Option (List ℕ)
-held_at [] path = None
-held_at (place ∷ places) path = if bytes_eq place.path path then option_map bytes_of place.disk else held_at places path
+held_at = part_at (λ (place : DiskPlace). option_map bytes_of place.disk) None
+
+-- the calls of the disk at a path that are to fail once it is taken
+abbrev pub failing_at : List DiskPlace → List ℕ → List ℕ
+failing_at = part_at (λ (place : DiskPlace). place.failing) []
 
 -- the place of the first disk of a path, where there is one
 abbrev pub IsPlaceOf : List DiskPlace → List ℕ → Option ℕ → Type 0
@@ -61,6 +71,23 @@ given_of outside = outside.given
 abbrev pub faults_of : MemoryOutside → ℕ
 faults_of outside = outside.schedule.faults
 
+-- which calls are to fail
+abbrev pub plan_of : MemoryOutside → Plan
+plan_of outside = plan_in outside.schedule
+
+-- the calls of each disk that are to fail once it is taken, by its path
+abbrev pub failing_of : MemoryOutside → List ℕ → List ℕ
+failing_of outside = failing_at outside.disks.items
+
+-- the numbers that it will give
+abbrev pub numbers_of : MemoryOutside → List ℕ
+numbers_of outside = outside.numbers
+
+-- the first of these numbers, and 0 behind their end
+abbrev pub first_number : List ℕ → ℕ
+first_number [] = 0
+first_number (number ∷ numbers) = number
+
 -- no call was made, none has failed, no disk is there, and nothing has come back
 pub record IsUnused (outside : MemoryOutside) : Type 0 where
   pub disks : (bare : Disks) × (disks_of outside ≡ Some bare) × ((path : List ℕ) → bare path ≡ None)
@@ -84,3 +111,11 @@ scripts_of outside = outside.scripts.items
 -- parts begin as it was prepared for this number
 abbrev pub BeginsAs : List (Option WorkerScript) → ℕ → Parts → Type 0
 BeginsAs scripts number parts = (script : WorkerScript) × IsAt scripts number script × IsBegun script parts
+
+-- nothing is prepared for this number, or it was taken
+abbrev pub IsMissing : List (Option WorkerScript) → ℕ → Type 0
+IsMissing scripts number = (script : WorkerScript) → IsAt scripts number script → ⊥
+
+-- a worker of this number can't begin now: the call is to fail, or there is no such worker
+abbrev pub WorkerFails : MemoryOutside → ℕ → Type 0
+WorkerFails outside number = FailsNext (plan_of outside) ⊎ IsMissing (scripts_of outside) number

@@ -1,5 +1,6 @@
 -- What contracts see of a source in memory.
 use Rattle.std.specs.Prelude.{ℕ, Bool, List}
+use Rattle.side_memory.specs.Plan.{Plan}
 
 pub record SourceState : Type 0 where
   -- all bytes that reads have given
@@ -9,3 +10,5 @@ pub record SourceState : Type 0 where
   -- whether a read has answered the end of the input
   pub ended : Bool
   pub faults : ℕ
+  -- which reads are to fail
+  pub plan : Plan

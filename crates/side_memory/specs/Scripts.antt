@@ -1,6 +1,7 @@
 -- What is prepared for the workers of an outside in memory.
 use Rattle.std.specs.Prelude.{◌≡◌, ◌<◌, ℕ, List, [], length, slice_index_or, Option, Some, None}
 use Rattle.side_world.specs.declared.outside.WorkerParts.{WorkerParts}
+use Rattle.side_memory.specs.Plan.{begun}
 use Rattle.side_memory.specs.MemoryAcceptor.{AcceptorState}
 use Rattle.side_memory.specs.MemoryLink.{LinkState}
 use Rattle.side_memory.specs.MemoryClock.{ClockState}
@@ -12,6 +13,6 @@ IsAt scripts number script = (number < length scripts) × (slice_index_or script
 
 -- the parts that a script makes
 pub record IsBegun (script : WorkerScript) (parts : WorkerParts AcceptorState LinkState ClockState) : Type 0 where
-  pub acceptor : parts.acceptor ≡ record { answers = script.answers; notes = Some []; faults = 0 }
-  pub link : parts.link ≡ record { answers = script.link_answers; calls = Some []; faults = 0; expiries = 0 }
+  pub acceptor : parts.acceptor ≡ record { answers = script.answers; notes = Some []; faults = 0; plan = begun script.failing_accepts }
+  pub link : parts.link ≡ record { answers = script.link_answers; calls = Some []; faults = 0; expiries = 0; plan = begun script.failing_calls }
   pub clock : parts.clock ≡ record { last = script.first; paused = 0; steps = script.steps; ticks = Some [] }

@@ -1,8 +1,8 @@
 ghost use Rattle.std.specs.Prelude.{◌≡◌, None, Some, IfOk, OnOk, OnErr, option_map};
 ghost use Rattle.std.specs.Bool.{OnTrue, OnFalse};
 ghost use Rattle.side_world.specs.Outside.{bytes_or_none};
-ghost use Rattle.side_memory.specs.MemoryDisk.{bytes_of, IsOpened};
-ghost use Rattle.side_memory.specs.MemoryOutside.{held_at, IsPlaceOf, SameElsewhere};
+ghost use Rattle.side_memory.specs.MemoryDisk.{bytes_of, IsOpened, IsToFail};
+ghost use Rattle.side_memory.specs.MemoryOutside.{held_at, failing_at, IsPlaceOf, SameElsewhere};
 
 use crate::memory_disk::MemoryDisk;
 use side_base::{Blob, NoMemory, Places};
@@ -38,6 +38,7 @@ pub(crate) fn put(
     failing: Places,
 ) -> Result<(), NoMemory>
     ensures held { OnOk result (held_at places.new.items path.now ≡ Some bytes.now) }
+    ensures failing { OnOk result (failing_at places.new.items path.now ≡ failing) }
     ensures others { OnOk result (SameElsewhere path.now places.old.items places.new.items) }
     ensures err { OnErr result (places.new.items ≡ places.old.items) }
 {
@@ -65,6 +66,7 @@ pub(crate) fn take(
     path: &[u8],
 ) -> Result<MemoryDisk, NoMemory>
     ensures disk { IfOk result (λ disk. IsOpened (bytes_or_none (held_at places.old.items path.now)) disk) }
+    ensures plan { IfOk result (IsToFail (failing_at places.old.items path.now)) }
     ensures gone { OnOk result (held_at places.new.items path.now ≡ None) }
     ensures others { OnOk result (SameElsewhere path.now places.old.items places.new.items) }
     ensures err { OnErr result (places.new.items ≡ places.old.items) }
@@ -89,6 +91,7 @@ pub(crate) fn take(
 
 fn take_from(alloc: Global, place: &mut DiskPlace) -> Result<MemoryDisk, NoMemory>
     ensures disk { IfOk result (IsOpened (bytes_or_none (option_map bytes_of place.old.disk))) }
+    ensures plan { IfOk result (IsToFail place.old.failing) }
     ensures path { place.new.path ≡ place.old.path }
     ensures gone { OnOk result (place.new.disk ≡ None) }
     ensures err { OnErr result (place.new ≡ place.old) }

@@ -1,13 +1,14 @@
 ghost use Rattle.std.specs.Prelude.{◌≡◌, [], Some, option_map};
 ghost use Rattle.side_world.specs.Answer.{answer_of};
 ghost use Rattle.side_memory.specs.MemoryAcceptor.{told_of};
+ghost use Rattle.side_memory.specs.Plan.{begun};
 
 use crate::memory_sink::MemorySink;
 use crate::memory_source::MemorySource;
 use crate::notes::Notes;
 use crate::schedule::{Schedule, Sizes};
 use side_base::{Blob, Places, Sequence};
-use side_world::{Accepted, Acceptor, Failed};
+use side_world::{Accepted, Acceptor, Failed, Sink, Source};
 use std::alloc::Global;
 use std::marker::Model;
 
@@ -63,16 +64,17 @@ pub struct MemoryAcceptor {
 
 impl Model for MemoryAcceptor {
     ghost use Rattle.side_memory.specs.MemoryAcceptor.{AcceptorState};
+    ghost use Rattle.side_memory.specs.Plan.{plan_in};
 
     ghost Value = { AcceptorState };
 
-    ghost view = { λ a. record { answers = a.answers; notes = a.notes; faults = a.schedule.faults } };
+    ghost view = { λ a. record { answers = a.answers; notes = a.notes; faults = a.schedule.faults; plan = plan_in a.schedule } };
 }
 
 impl MemoryAcceptor {
     /// An acceptor that answers from `answers`; `failing` are the calls of `accept` that fail, counted from 0.
     pub fn new(alloc: Global, answers: AcceptorAnswers, failing: Places) -> Self
-        ensures { result ≡ record { answers = answers; notes = Some []; faults = 0 } }
+        ensures { result ≡ record { answers = answers; notes = Some []; faults = 0; plan = begun failing } }
     {
         MemoryAcceptor {
             alloc,
@@ -98,13 +100,16 @@ impl MemoryAcceptor {
 }
 
 impl MemoryAcceptor {
-    ghost use Rattle.std.specs.Prelude.{◌≡◌, ◌≤◌, List, [], ◌∷◌};
+    ghost use Rattle.std.specs.Prelude.{◌≡◌, ◌≤◌, ◌↔◌};
     ghost use Rattle.side_world.specs.Answer.{CountsFault};
-    ghost use Rattle.side_memory.specs.MemoryAcceptor.{StartsWith};
+    ghost use Rattle.side_memory.specs.MemoryAcceptor.{StartsWith, IsFailed};
+    ghost use Rattle.side_memory.specs.Plan.{counted, FailsNext};
 
-    // Takes the next answer off the list.
+    // Takes the next answer off the list, but where the call is to fail.
     fn answer(&mut self) -> Accepted<MemorySource, MemorySink>
         ensures first { StartsWith self.old.answers result self.new.answers }
+        ensures listed { IsFailed result ↔ FailsNext self.old.plan }
+        ensures counted { self.new.plan ≡ counted self.old.plan }
         ensures notes { self.new.notes ≡ self.old.notes }
         ensures faults { CountsFault result self.old.faults self.new.faults }
         ensures no_fewer { self.old.faults ≤ self.new.faults }
@@ -137,20 +142,37 @@ impl Acceptor for MemoryAcceptor {
 
     type Into = MemorySink;
 
-    ghost use Rattle.std.specs.Prelude.{map, option_map};
-    ghost use Rattle.side_memory.specs.MemoryAcceptor.{told_of};
+    ghost use Rattle.std.specs.Prelude.{◌≡◌, ◌≤◌, ◌↔◌, [], ◌∷◌, map, option_map};
+    ghost use Rattle.side_world.specs.Told.{Tells};
+    ghost use Rattle.side_world.specs.Answer.{answer_of, IfConn, CountsFault, IsNew, ComesBack, Returns};
+    ghost use Rattle.side_memory.specs.MemoryAcceptor.{told_of, StartsWith, IsFailed};
+    ghost use Rattle.side_memory.specs.Plan.{counted, FailsNext};
 
     ghost told = { λ a. option_map (map told_of) a.notes };
 
     ghost faults = { λ a. a.faults };
 
-    fn accept(&mut self) -> Accepted<MemorySource, MemorySink> {
+    /// Fails exactly where it is a call that is to fail, and takes no answer off the list then.
+    fn accept(&mut self) -> Accepted<MemorySource, MemorySink>
+        ensures new { IfConn result (IsNew ⟦<MemorySource as Source>⟧ ⟦<MemorySink as Sink>⟧) }
+        ensures told { Tells (option_map (map told_of) self.old.notes) (option_map (map told_of) self.new.notes) (answer_of result ∷ []) }
+        ensures faults { CountsFault result self.old.faults self.new.faults }
+        ensures no_fewer { self.old.faults ≤ self.new.faults }
+        ensures first { StartsWith self.old.answers result self.new.answers }
+        ensures listed { IsFailed result ↔ FailsNext self.old.plan }
+        ensures counted { self.new.plan ≡ counted self.old.plan }
+    {
         let answer = self.answer();
         self.notes.add(note(&answer));
         answer
     }
 
-    fn end(&mut self, source: MemorySource, sink: MemorySink) {
+    fn end(&mut self, source: MemorySource, sink: MemorySink)
+        ensures told { Returns (option_map (map told_of) self.old.notes) (option_map (map told_of) self.new.notes) (ComesBack ⟦<MemorySource as Source>⟧ ⟦<MemorySink as Sink>⟧ source sink) }
+        ensures faults { self.new.faults ≡ self.old.faults }
+        ensures answers { self.new.answers ≡ self.old.answers }
+        ensures plan { self.new.plan ≡ self.old.plan }
+    {
         match self.notes.take_last() {
             Some(AcceptorNote::Conn(None)) => {
                 self.notes
@@ -159,6 +181,10 @@ impl Acceptor for MemoryAcceptor {
             _ => self.notes.stop(),
         }
     }
+
+    fn wake(&mut self)
+        ensures same { self.new ≡ self.old }
+    {}
 }
 
 fn note(answer: &Accepted<MemorySource, MemorySink>) -> AcceptorNote

@@ -28,11 +28,13 @@ pub struct MemoryDisk {
 impl MemoryDisk {
     ghost use Rattle.std.specs.Prelude.{◌≡◌, ◌≤◌, length, reverse, take, IfOk};
     ghost use Rattle.side_memory.specs.DiskNotes.{MayLeave};
-    ghost use Rattle.side_memory.specs.MemoryDisk.{opening_of, notes_of, bytes_of, faults_of, HasNotedNothing, IsOpened};
+    ghost use Rattle.side_memory.specs.MemoryDisk.{opening_of, notes_of, bytes_of, faults_of, plan_of, HasNotedNothing, IsOpened};
+    ghost use Rattle.side_memory.specs.Plan.{begun};
 
     /// A disk of `bytes`, all of them on it; `failing` are the calls that fail, counted from 0 over all calls.
     pub fn new(alloc: Global, bytes: &[u8], failing: Places) -> Result<Self, AllocError>
-        ensures { IfOk result (IsOpened bytes.now) }
+        ensures opened { IfOk result (IsOpened bytes.now) }
+        ensures plan { IfOk result (λ disk. plan_of disk ≡ begun failing) }
     {
         Ok(MemoryDisk {
             alloc,
@@ -48,6 +50,7 @@ impl MemoryDisk {
         ensures notes { HasNotedNothing self.old self.new }
         ensures bytes { bytes_of self.new ≡ bytes_of self.old }
         ensures faults { faults_of self.new ≡ faults_of self.old }
+        ensures plan { plan_of self.new ≡ begun failing }
     {
         self.schedule.failing = failing;
         self.schedule.calls = 0;
@@ -107,7 +110,7 @@ impl MemoryDisk {
     ghost use Rattle.std.specs.Prelude.{◌≡◌, ◌≤◌, ◌⊎◌, length, OnOk, OnErr};
     ghost use Rattle.side_world.specs.Faults.{Rose};
     ghost use Rattle.side_memory.specs.DiskNotes.{ChangesNoByte};
-    ghost use Rattle.side_memory.specs.MemoryDisk.{bytes_of, faults_of, HasNoted, HasNotedNothing};
+    ghost use Rattle.side_memory.specs.MemoryDisk.{bytes_of, faults_of, plan_of, HasNoted, HasNotedNothing};
     ghost use Rattle.side_memory.specs.declared.note.Note.TheVariants.{Written, Lost};
 
     // Writes, and notes it; a fault where there is no memory for the note.
@@ -118,6 +121,7 @@ impl MemoryDisk {
         ensures no_fault { OnOk result (faults_of self.new ≡ faults_of self.old) }
         ensures failed { OnErr result (Rose (faults_of self.old) (faults_of self.new)) }
         ensures no_fewer { faults_of self.old ≤ faults_of self.new }
+        ensures plan { plan_of self.new ≡ plan_of self.old }
     {
         match write(self.alloc, &mut self.bytes, &mut self.notes, at, piece) {
             Ok(()) => Ok(()),
@@ -135,6 +139,7 @@ impl MemoryDisk {
         ensures err { OnErr result (HasNotedNothing self.old self.new) }
         ensures bytes { bytes_of self.new ≡ bytes_of self.old }
         ensures faults { faults_of self.new ≡ faults_of self.old }
+        ensures plan { plan_of self.new ≡ plan_of self.old }
     {
         self.notes.push(note)?;
         Ok(())
@@ -145,6 +150,7 @@ impl MemoryDisk {
         ensures noted { HasNoted (Lost at piece.now) self.old self.new ⊎ HasNotedNothing self.old self.new }
         ensures bytes { bytes_of self.new ≡ bytes_of self.old }
         ensures faults { faults_of self.new ≡ faults_of self.old }
+        ensures plan { plan_of self.new ≡ plan_of self.old }
     {
         if let Ok(piece) = Blob::from_bytes(self.alloc, piece) {
             let _ = self.note(Note::Lost { at, piece });
@@ -158,7 +164,8 @@ impl Disk for MemoryDisk {
     ghost use Rattle.side_world.specs.Faults.{Rose};
     ghost use Rattle.side_world.specs.Disk.{overwritten, Torn, Becomes, ComesOf, NoNew, LeavesOnly, GoesOn};
     ghost use Rattle.side_memory.specs.DiskNotes.{MayLeave, MayHaveLeft, same_length, same_bytes, counts_now, only_now};
-    ghost use Rattle.side_memory.specs.MemoryDisk.{opening_of, notes_of, bytes_of, faults_of, FailsNow, HasNoted, HasNotedNothing, HasLost};
+    ghost use Rattle.side_memory.specs.MemoryDisk.{opening_of, notes_of, bytes_of, faults_of, plan_of, FailsNow, HasNoted, HasNotedNothing, HasLost};
+    ghost use Rattle.side_memory.specs.Plan.{counted};
     ghost use Rattle.side_memory.specs.declared.note.Note.TheVariants.{Written, Synced};
 
     ghost contents = { λ d. Some (bytes_of d) };
@@ -185,6 +192,7 @@ impl Disk for MemoryDisk {
         ensures no_fewer { faults_of self.old ≤ faults_of self.new }
         ensures noted { HasNotedNothing self.old self.new }
         ensures listed { IsErr result ↔ FailsNow self.old }
+        ensures counted { plan_of self.new ≡ counted (plan_of self.old) }
     {
         self.schedule.call()?;
         Ok(self.bytes.len() as u64)
@@ -204,6 +212,7 @@ impl Disk for MemoryDisk {
         ensures no_fewer { faults_of self.old ≤ faults_of self.new }
         ensures noted { HasNotedNothing self.old self.new }
         ensures listed { IsErr result ↔ FailsNow self.old }
+        ensures counted { plan_of self.new ≡ counted (plan_of self.old) }
     {
         self.schedule.call()?;
         let from = at as usize;
@@ -229,6 +238,7 @@ impl Disk for MemoryDisk {
         ensures noted { OnOk result (HasNoted (Written at piece.now) self.old self.new) }
         ensures lost { OnErr result (HasLost at piece.now self.old self.new) }
         ensures listed { FailsNow self.old → IsErr result }
+        ensures counted { plan_of self.new ≡ counted (plan_of self.old) }
     {
         match self.schedule.call() {
             Ok(()) => self.write(at as usize, piece),
@@ -252,6 +262,7 @@ impl Disk for MemoryDisk {
         ensures noted { OnOk result (HasNoted Synced self.old self.new) }
         ensures not_noted { OnErr result (HasNotedNothing self.old self.new) }
         ensures listed { FailsNow self.old → IsErr result }
+        ensures counted { plan_of self.new ≡ counted (plan_of self.old) }
     {
         self.schedule.call()?;
         match self.note(Note::Synced) {

@@ -1,5 +1,6 @@
 ghost use Rattle.std.specs.Prelude.{◌≡◌, ◌≤◌, [], Some, IfOk, IsTrue, ◌↔◌, option_map};
 ghost use Rattle.side_world.specs.Link.{IsReply, CountsFault, CountsExpiry};
+ghost use Rattle.side_memory.specs.Plan.{begun};
 
 use crate::copying::{copy_request, copy_response};
 use crate::notes::Notes;
@@ -27,16 +28,17 @@ pub struct MemoryLink {
 
 impl Model for MemoryLink {
     ghost use Rattle.side_memory.specs.MemoryLink.{LinkState};
+    ghost use Rattle.side_memory.specs.Plan.{plan_in};
 
     ghost Value = { LinkState };
 
-    ghost view = { λ l. record { answers = l.answers; calls = l.notes; faults = l.schedule.faults; expiries = l.expiries } };
+    ghost view = { λ l. record { answers = l.answers; calls = l.notes; faults = l.schedule.faults; expiries = l.expiries; plan = plan_in l.schedule } };
 }
 
 impl MemoryLink {
     /// A link that answers from `answers`; `failing` are the calls that fail, counted from 0.
     pub fn new(alloc: Global, answers: LinkAnswers, failing: Places) -> Self
-        ensures { result ≡ record { answers = answers; calls = Some []; faults = 0; expiries = 0 } }
+        ensures { result ≡ record { answers = answers; calls = Some []; faults = 0; expiries = 0; plan = begun failing } }
     {
         MemoryLink {
             alloc,
@@ -56,13 +58,18 @@ impl MemoryLink {
 }
 
 impl MemoryLink {
-    ghost use Rattle.std.specs.Prelude.{◌≡◌, ◌≤◌, [], ◌∷◌, IfOk};
-    ghost use Rattle.side_world.specs.Told.{Tells};
+    ghost use Rattle.std.specs.Prelude.{◌≡◌, ◌≤◌, IfOk, IsErrOf};
+    ghost use Rattle.side_world.specs.declared.link.LinkErr.TheVariants as refused;
+    ghost use Rattle.side_memory.specs.MemoryLink.{StartsWith};
+    ghost use Rattle.side_memory.specs.Plan.{counted, FailsNext};
 
-    // Takes the next answer off the list, and counts what it is.
+    // Takes the next answer off the list, and counts what it is; where the call is to fail, the list stays.
     fn answer(&mut self) -> Result<Response, LinkErr>
         ensures reply { IfOk result IsReply }
-        ensures first { IfOk result (λ reply. (rest : _) × (self.old.answers ≡ Ok reply ∷ rest) × (self.new.answers ≡ rest)) }
+        ensures first { (FailsNext self.old.plan → ⊥) → StartsWith self.old.answers result self.new.answers }
+        ensures listed { FailsNext self.old.plan → IsErrOf result refused.Failed }
+        ensures stays { FailsNext self.old.plan → self.new.answers ≡ self.old.answers }
+        ensures counted { self.new.plan ≡ counted self.old.plan }
         ensures calls { self.new.calls ≡ self.old.calls }
         ensures faults { CountsFault result self.old.faults self.new.faults }
         ensures no_fewer { self.old.faults ≤ self.new.faults }
@@ -88,13 +95,32 @@ impl MemoryLink {
 }
 
 impl Link for MemoryLink {
+    ghost use Rattle.std.specs.Prelude.{◌≡◌, ◌≤◌, [], ◌∷◌, IfOk, IsErrOf};
+    ghost use Rattle.side_world.specs.Told.{Tells};
+    ghost use Rattle.side_world.specs.Link.{IsReply, CountsFault, CountsExpiry};
+    ghost use Rattle.side_world.specs.declared.link.LinkErr.TheVariants as refused;
+    ghost use Rattle.side_memory.specs.MemoryLink.{StartsWith};
+    ghost use Rattle.side_memory.specs.Plan.{counted, FailsNext};
+
     ghost calls = { λ l. l.calls };
 
     ghost faults = { λ l. l.faults };
 
     ghost expiries = { λ l. l.expiries };
 
-    fn call(&mut self, request: &LinkRequest, limit_ms: u64) -> Result<Response, LinkErr> {
+    /// Fails where it is a call that is to fail, and takes no answer off the list then; else the first of the list decides.
+    fn call(&mut self, request: &LinkRequest, limit_ms: u64) -> Result<Response, LinkErr>
+        ensures reply { IfOk result IsReply }
+        ensures calls { Tells self.old.calls self.new.calls (record { request = request.now; limit_ms = limit_ms; answer = result } ∷ []) }
+        ensures faults { CountsFault result self.old.faults self.new.faults }
+        ensures no_fewer { self.old.faults ≤ self.new.faults }
+        ensures expiries { CountsExpiry result self.old.expiries self.new.expiries }
+        ensures no_fewer_expiries { self.old.expiries ≤ self.new.expiries }
+        ensures first { (FailsNext self.old.plan → ⊥) → StartsWith self.old.answers result self.new.answers }
+        ensures listed { FailsNext self.old.plan → IsErrOf result refused.Failed }
+        ensures stays { FailsNext self.old.plan → self.new.answers ≡ self.old.answers }
+        ensures counted { self.new.plan ≡ counted self.old.plan }
+    {
         let answer = self.answer();
         match note(self.alloc, request, limit_ms, &answer) {
             Ok(call) => self.notes.add(call),

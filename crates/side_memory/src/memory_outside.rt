@@ -1,3 +1,6 @@
+ghost use Rattle.std.specs.Prelude.{◌≡◌, drop};
+ghost use Rattle.side_memory.specs.MemoryOutside.{first_number};
+
 use crate::disk_places::{DiskPlace, give, place_of, put, take};
 use crate::memory_acceptor::MemoryAcceptor;
 use crate::memory_clock::MemoryClock;
@@ -34,12 +37,16 @@ impl MemoryOutside {
     ghost use Rattle.std.specs.Prelude.{◌≡◌, ◌≤◌, [], ◌∷◌, ◌++◌, ℕ, None, Some, OnOk, OnErr, option_map};
     ghost use Rattle.side_world.specs.Outside.{ChangesAt};
     ghost use Rattle.side_memory.specs.MemoryDisk.{bytes_of};
-    ghost use Rattle.side_memory.specs.MemoryOutside.{disks_of, held_of, backs_of, back_of, scripts_of, parts_told, calls_of, faults_of, IsUnused};
+    ghost use Rattle.side_memory.specs.MemoryOutside.{disks_of, held_of, failing_of, backs_of, back_of, scripts_of, parts_told, calls_of, faults_of, plan_of, numbers_of, IsUnused};
+    ghost use Rattle.side_memory.specs.Plan.{begun};
 
     /// An outside without disks and workers, which answers these numbers; `failing` are the calls of `take_disk` and `worker` that
     /// fail, counted from 0 over both.
     pub fn new(alloc: Global, numbers: Numbers, failing: Places) -> Self
-        ensures { IsUnused result }
+        ensures unused { IsUnused result }
+        ensures scripts { scripts_of result ≡ [] }
+        ensures left { numbers_of result ≡ numbers }
+        ensures plan { plan_of result ≡ begun failing }
     {
         MemoryOutside {
             alloc,
@@ -58,10 +65,14 @@ impl MemoryOutside {
     /// Puts a disk of these bytes at `path`; `failing` are its calls that fail, counted from 0, once it is taken.
     pub fn add_disk(&mut self, path: &[u8], bytes: &[u8], failing: Places) -> Result<(), NoMemory>
         ensures held { OnOk result (ChangesAt path.now (disks_of self.old) (disks_of self.new) (λ _ held. held ≡ Some bytes.now)) }
+        ensures failing { OnOk result (failing_of self.new path.now ≡ failing) }
         ensures err { OnErr result (disks_of self.new ≡ disks_of self.old) }
         ensures backs { backs_of self.new ≡ backs_of self.old }
         ensures calls { calls_of self.new ≡ calls_of self.old }
         ensures faults { faults_of self.new ≡ faults_of self.old }
+        ensures scripts { scripts_of self.new ≡ scripts_of self.old }
+        ensures left { numbers_of self.new ≡ numbers_of self.old }
+        ensures plan { plan_of self.new ≡ plan_of self.old }
     {
         put(self.alloc, &mut self.disks, path, bytes, failing)
     }
@@ -82,6 +93,8 @@ impl MemoryOutside {
         ensures disks { disks_of self.new ≡ disks_of self.old }
         ensures calls { calls_of self.new ≡ calls_of self.old }
         ensures faults { faults_of self.new ≡ faults_of self.old }
+        ensures left { numbers_of self.new ≡ numbers_of self.old }
+        ensures plan { plan_of self.new ≡ plan_of self.old }
     {
         self.backs.push(None)?;
         if let Err(error) = self.scripts.push(Some(script)) {
@@ -100,10 +113,12 @@ impl MemoryOutside {
 }
 
 impl MemoryOutside {
-    ghost use Rattle.std.specs.Prelude.{◌≡◌, ◌≤◌, IfOk, OnOk, OnErr, IsNone};
+    ghost use Rattle.std.specs.Prelude.{◌≡◌, ◌≤◌, ◌↔◌, set, None, IfOk, OnOk, OnErr, IsErr};
     ghost use Rattle.side_world.specs.Faults.{Rose};
     ghost use Rattle.side_world.specs.Outside.{IsTaken, IsNewDisk, AreNew};
-    ghost use Rattle.side_memory.specs.MemoryOutside.{disks_of, backs_of, scripts_of, BeginsAs, calls_of, given_of, faults_of};
+    ghost use Rattle.side_memory.specs.MemoryDisk.{IsToFail};
+    ghost use Rattle.side_memory.specs.MemoryOutside.{disks_of, failing_of, backs_of, scripts_of, BeginsAs, calls_of, given_of, faults_of, plan_of, numbers_of, WorkerFails};
+    ghost use Rattle.side_memory.specs.Plan.{counted, FailsNext};
 
     // Takes a disk, and counts a fault where the call is to fail, or there is no memory.
     fn open_disk(&mut self, path: &[u8]) -> Result<MemoryDisk, Failed>
@@ -116,6 +131,11 @@ impl MemoryOutside {
         ensures failed { OnErr result (Rose (faults_of self.old) (faults_of self.new)) }
         ensures untouched { OnErr result (disks_of self.new ≡ disks_of self.old) }
         ensures no_fewer { faults_of self.old ≤ faults_of self.new }
+        ensures prepared { IfOk result (IsToFail (failing_of self.old path.now)) }
+        ensures listed { FailsNext (plan_of self.old) → IsErr result }
+        ensures counted { plan_of self.new ≡ counted (plan_of self.old) }
+        ensures scripts { scripts_of self.new ≡ scripts_of self.old }
+        ensures left { numbers_of self.new ≡ numbers_of self.old }
     {
         self.schedule.call()?;
         match take(self.alloc, &mut self.disks, path) {
@@ -138,6 +158,11 @@ impl MemoryOutside {
         ensures no_fault { OnOk result (faults_of self.new ≡ faults_of self.old) }
         ensures failed { OnErr result (Rose (faults_of self.old) (faults_of self.new)) }
         ensures no_fewer { faults_of self.old ≤ faults_of self.new }
+        ensures listed { IsErr result ↔ WorkerFails self.old number }
+        ensures counted { plan_of self.new ≡ counted (plan_of self.old) }
+        ensures once { OnOk result (scripts_of self.new ≡ set (scripts_of self.old) number None) }
+        ensures stays { OnErr result (scripts_of self.new ≡ scripts_of self.old) }
+        ensures left { numbers_of self.new ≡ numbers_of self.old }
     {
         self.schedule.call()?;
         match take_script(&mut self.scripts, number) {
@@ -159,10 +184,14 @@ impl Outside for MemoryOutside {
 
     type Clock = MemoryClock;
 
-    ghost use Rattle.std.specs.Prelude.{◌≡◌, ◌≤◌};
-    ghost use Rattle.side_world.specs.Faults.{RoseWith};
-    ghost use Rattle.side_world.specs.Outside.{IsBack};
-    ghost use Rattle.side_memory.specs.MemoryOutside.{disks_of, backs_of, calls_of, given_of, faults_of};
+    ghost use Rattle.std.specs.Prelude.{◌≡◌, ◌≤◌, ◌↔◌, [], ◌∷◌, drop, set, None, IfOk, OnOk, OnErr, IsErr};
+    ghost use Rattle.side_world.specs.Faults.{Rose, RoseWith};
+    ghost use Rattle.side_world.specs.Told.{Tells};
+    ghost use Rattle.side_world.specs.Outside.{IsNewDisk, IsTaken, IsGiven, AreNew, IsBack};
+    ghost use Rattle.side_world.specs.declared.outside.OutsideCall.TheVariants as call;
+    ghost use Rattle.side_memory.specs.MemoryDisk.{IsToFail};
+    ghost use Rattle.side_memory.specs.MemoryOutside.{disks_of, failing_of, backs_of, calls_of, given_of, faults_of, scripts_of, BeginsAs, plan_of, numbers_of, first_number, WorkerFails};
+    ghost use Rattle.side_memory.specs.Plan.{counted, FailsNext};
 
     ghost disks = { disks_of };
 
@@ -174,7 +203,24 @@ impl Outside for MemoryOutside {
 
     ghost faults = { faults_of };
 
-    fn take_disk(&mut self, path: &[u8]) -> Result<MemoryDisk, Failed> {
+    /// Fails where it is a call that is to fail, and where there is no memory.
+    fn take_disk(&mut self, path: &[u8]) -> Result<MemoryDisk, Failed>
+        ensures new { IfOk result (IsNewDisk ⟦<MemoryDisk as Disk>⟧) }
+        ensures taken { IfOk result (λ disk. IsTaken ⟦<MemoryDisk as Disk>⟧ disk path.now (disks_of self.old) (disks_of self.new)) }
+        ensures calls { Tells (calls_of self.old) (calls_of self.new) (call.TakeDisk path.now ∷ []) }
+        ensures backs { backs_of self.new ≡ backs_of self.old }
+        ensures numbers { given_of self.new ≡ given_of self.old }
+        ensures no_fault { OnOk result (faults_of self.new ≡ faults_of self.old) }
+
+        ensures failed { OnErr result (Rose (faults_of self.old) (faults_of self.new)) }
+        ensures untouched { OnErr result (disks_of self.new ≡ disks_of self.old) }
+        ensures no_fewer { faults_of self.old ≤ faults_of self.new }
+        ensures prepared { IfOk result (IsToFail (failing_of self.old path.now)) }
+        ensures listed { FailsNext (plan_of self.old) → IsErr result }
+        ensures counted { plan_of self.new ≡ counted (plan_of self.old) }
+        ensures scripts { scripts_of self.new ≡ scripts_of self.old }
+        ensures left { numbers_of self.new ≡ numbers_of self.old }
+    {
         let taken = self.open_disk(path);
         match Blob::from_bytes(self.alloc, path) {
             Ok(path) => self.notes.add(OutsideCall::TakeDisk { path }),
@@ -183,14 +229,41 @@ impl Outside for MemoryOutside {
         taken
     }
 
-    fn give_disk(&mut self, path: &[u8], disk: MemoryDisk) {
+    fn give_disk(&mut self, path: &[u8], disk: MemoryDisk)
+        ensures given { IsGiven ⟦<MemoryDisk as Disk>⟧ disk path.now (disks_of self.old) (disks_of self.new) }
+        ensures calls { calls_of self.new ≡ calls_of self.old }
+        ensures backs { backs_of self.new ≡ backs_of self.old }
+        ensures numbers { given_of self.new ≡ given_of self.old }
+        ensures faults { RoseWith disk.schedule.faults (faults_of self.old) (faults_of self.new) }
+        ensures no_fewer { faults_of self.old ≤ faults_of self.new }
+        ensures scripts { scripts_of self.new ≡ scripts_of self.old }
+        ensures left { numbers_of self.new ≡ numbers_of self.old }
+        ensures plan { plan_of self.new ≡ plan_of self.old }
+    {
         self.schedule.count_back(disk.faults());
         if !give(&mut self.disks, path, disk) {
             self.disks_told = false;
         }
     }
 
-    fn worker(&mut self, port: u16, number: u32) -> Result<MemoryParts, Failed> {
+    /// Fails exactly where it is a call that is to fail, or there is no such worker that was not begun.
+    fn worker(&mut self, port: u16, number: u32) -> Result<MemoryParts, Failed>
+        ensures new { IfOk result (AreNew ⟦<MemoryAcceptor as Acceptor>⟧ ⟦<MemoryLink as Link>⟧) }
+        ensures disks { disks_of self.new ≡ disks_of self.old }
+        ensures calls { Tells (calls_of self.old) (calls_of self.new) (call.Worker port number ∷ []) }
+        ensures backs { backs_of self.new ≡ backs_of self.old }
+        ensures numbers { given_of self.new ≡ given_of self.old }
+        ensures no_fault { OnOk result (faults_of self.new ≡ faults_of self.old) }
+
+        ensures failed { OnErr result (Rose (faults_of self.old) (faults_of self.new)) }
+        ensures no_fewer { faults_of self.old ≤ faults_of self.new }
+        ensures begun { IfOk result (BeginsAs (scripts_of self.old) number) }
+        ensures listed { IsErr result ↔ WorkerFails self.old number }
+        ensures counted { plan_of self.new ≡ counted (plan_of self.old) }
+        ensures once { OnOk result (scripts_of self.new ≡ set (scripts_of self.old) number None) }
+        ensures stays { OnErr result (scripts_of self.new ≡ scripts_of self.old) }
+        ensures left { numbers_of self.new ≡ numbers_of self.old }
+    {
         let parts = self.begin_worker(number);
         self.notes.add(OutsideCall::Worker { port, number });
         parts
@@ -203,6 +276,9 @@ impl Outside for MemoryOutside {
         ensures numbers { given_of self.new ≡ given_of self.old }
         ensures faults { RoseWith parts.acceptor.faults (faults_of self.old) (faults_of self.new) }
         ensures no_fewer { faults_of self.old ≤ faults_of self.new }
+        ensures scripts { scripts_of self.new ≡ scripts_of self.old }
+        ensures left { numbers_of self.new ≡ numbers_of self.old }
+        ensures plan { plan_of self.new ≡ plan_of self.old }
     {
         self.schedule.count_back(parts.acceptor.faults());
         if !keep_back(&mut self.backs, number, parts) {
@@ -210,12 +286,30 @@ impl Outside for MemoryOutside {
         }
     }
 
-    fn start_number(&mut self) -> u64 {
-        let number = match self.numbers.take_first() {
-            Some(number) => number,
-            None => 0,
-        };
+    /// The next of its numbers, and 0 behind their end.
+    fn start_number(&mut self) -> u64
+        ensures disks { disks_of self.new ≡ disks_of self.old }
+        ensures calls { calls_of self.new ≡ calls_of self.old }
+        ensures backs { backs_of self.new ≡ backs_of self.old }
+        ensures numbers { Tells (given_of self.old) (given_of self.new) (result ∷ []) }
+        ensures faults { faults_of self.new ≡ faults_of self.old }
+        ensures first { result ≡ first_number (numbers_of self.old) }
+        ensures rest { numbers_of self.new ≡ drop 1 (numbers_of self.old) }
+        ensures scripts { scripts_of self.new ≡ scripts_of self.old }
+        ensures plan { plan_of self.new ≡ plan_of self.old }
+    {
+        let number = take_number(&mut self.numbers);
         self.given.add(number);
         number
+    }
+}
+
+fn take_number(numbers: &mut Numbers) -> u64
+    ensures first { result ≡ first_number numbers.old }
+    ensures rest { numbers.new ≡ drop 1 numbers.old }
+{
+    match numbers.take_first() {
+        Some(number) => number,
+        None => 0,
     }
 }

@@ -1,5 +1,6 @@
 ghost use Rattle.std.specs.Prelude.{◌≡◌, ◌<◌, ◌≤◌, ◌↔◌, IsTrue, IsErr, IfOk, OnOk, OnErr, Contains};
 ghost use Rattle.side_world.specs.Faults.{Rose, RoseWith};
+ghost use Rattle.side_memory.specs.Plan.{begun, counted, plan_in, FailsNext};
 
 use side_base::{Places, Sequence};
 use side_world::Failed;
@@ -21,7 +22,8 @@ pub(crate) struct Schedule {
 impl Schedule {
     /// No call was made yet; `failing` are the calls that fail, counted from 0.
     pub(crate) fn new(sizes: Sizes, failing: Places) -> Self
-        ensures { result.faults ≡ 0 }
+        ensures faults { result.faults ≡ 0 }
+        ensures plan { plan_in result ≡ begun failing }
     {
         Schedule {
             sizes,
@@ -34,7 +36,8 @@ impl Schedule {
     /// Counts a call, and answers how many of the `possible` bytes it moves.
     pub(crate) fn next(&mut self, possible: usize) -> Result<usize, Failed>
         requires { 0 < possible }
-        ensures listed { IsErr result ↔ Contains self.old.failing self.old.calls }
+        ensures listed { IsErr result ↔ FailsNext (plan_in self.old) }
+        ensures counted { plan_in self.new ≡ counted (plan_in self.old) }
         ensures some { IfOk result (λ n. 0 < n) }
         ensures within { IfOk result (λ n. n ≤ possible) }
         ensures ok { OnOk result (self.new.faults ≡ self.old.faults) }
@@ -50,7 +53,8 @@ impl Schedule {
 
     /// Counts a call, which fails where it is listed.
     pub(crate) fn call(&mut self) -> Result<(), Failed>
-        ensures listed { IsErr result ↔ Contains self.old.failing self.old.calls }
+        ensures listed { IsErr result ↔ FailsNext (plan_in self.old) }
+        ensures counted { plan_in self.new ≡ counted (plan_in self.old) }
         ensures ok { OnOk result (self.new.faults ≡ self.old.faults) }
         ensures failed { OnErr result (Rose self.old.faults self.new.faults) }
         ensures no_fewer { self.old.faults ≤ self.new.faults }
@@ -67,6 +71,7 @@ impl Schedule {
     /// Counts a fault where what came back has some.
     pub(crate) fn count_back(&mut self, faults: u64)
         ensures rose { RoseWith faults self.old.faults self.new.faults }
+        ensures plan { plan_in self.new ≡ plan_in self.old }
         ensures no_fewer { self.old.faults ≤ self.new.faults }
     {
         if faults > 0 {
@@ -77,6 +82,7 @@ impl Schedule {
     /// Counts a fault of the device itself.
     pub(crate) fn fail(&mut self)
         ensures failed { Rose self.old.faults self.new.faults }
+        ensures plan { plan_in self.new ≡ plan_in self.old }
         ensures no_fewer { self.old.faults ≤ self.new.faults }
     {
         self.faults = self.faults.saturating_add(1);

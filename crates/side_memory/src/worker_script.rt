@@ -1,4 +1,6 @@
-ghost use Rattle.std.specs.Prelude.{◌≡◌, [], Some, None, IfSome, OnSome, set};
+ghost use Rattle.std.specs.Prelude.{◌≡◌, [], Some, None, IfSome, IfNone, OnSome, set};
+ghost use Rattle.side_memory.specs.MemoryOutside.{IsMissing};
+ghost use Rattle.side_memory.specs.Plan.{begun};
 ghost use Rattle.side_memory.specs.Scripts.{IsAt};
 
 use crate::memory_acceptor::{AcceptorAnswers, MemoryAcceptor};
@@ -25,8 +27,8 @@ pub struct WorkerScript {
 impl WorkerScript {
     // The parts, of which nothing was used. Takes no memory.
     pub(crate) fn into_parts(self, alloc: Global) -> MemoryParts
-        ensures acceptor { result.acceptor ≡ record { answers = self.answers; notes = Some []; faults = 0 } }
-        ensures link { result.link ≡ record { answers = self.link_answers; calls = Some []; faults = 0; expiries = 0 } }
+        ensures acceptor { result.acceptor ≡ record { answers = self.answers; notes = Some []; faults = 0; plan = begun self.failing_accepts } }
+        ensures link { result.link ≡ record { answers = self.link_answers; calls = Some []; faults = 0; expiries = 0; plan = begun self.failing_calls } }
         ensures clock { result.clock ≡ record { last = self.first; paused = 0; steps = self.steps; ticks = Some [] } }
     {
         let WorkerScript {
@@ -52,6 +54,8 @@ pub(crate) fn take_script(
 ) -> Option<WorkerScript>
     ensures at { IfSome result (IsAt scripts.old.items number) }
     ensures taken { OnSome result (scripts.new.items ≡ set scripts.old.items number None) }
+    ensures missing { IfNone result (IsMissing scripts.old.items number) }
+    ensures unchanged { IfNone result (scripts.new.items ≡ scripts.old.items) }
 {
     let place = number as usize;
     if place < scripts.len() {

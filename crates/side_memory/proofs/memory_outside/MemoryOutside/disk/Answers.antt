@@ -14,9 +14,9 @@ returns-in-Some c =
     let here = subst (λ (z : List DiskPlace). IsPlaceOf z path (Some c.in-Some.place)) c.deref.ensures.value c.in-Some.ensures in
     lent_option bytes_of c.as_ref.result
     ∙ (ap (option_map bytes_of) c.as_ref.ensures.value
-    ∙ (ap held_in c.index.ensures ∙ sym (found places path c.in-Some.place c.index.result.now here)))
+    ∙ (ap held_in c.index.ensures ∙ sym (found held_in None places path c.in-Some.place c.index.result.now here)))
 
 pub returns-in-None : goal.returns-in-None
 returns-in-None c =
     let nowhere = subst (λ (z : List DiskPlace). IsPlaceOf z c.args.path.now None) c.deref.ensures.value c.in-None.ensures in
-    sym (absent c.args.self.now.disks.items c.args.path.now nowhere)
+    sym (absent held_in None c.args.self.now.disks.items c.args.path.now nowhere)
