@@ -18,7 +18,8 @@ pub enum Pending {
     Digits { high: u16, more: u8, unit: u16 },
 }
 
-fn no_bytes() -> Piece
+/// No bytes of a text.
+pub(crate) fn no_bytes() -> Piece
     ensures { piece_bytes result ≡ [] }
 {
     Piece {
