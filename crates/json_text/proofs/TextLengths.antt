@@ -55,6 +55,9 @@ text_short state (byte ∷ bytes) =
 pub unescaped_short : (bytes : List ℕ) → length (unescaped bytes) ≤ length bytes
 unescaped_short bytes = omega (arith, text_short (between 0) bytes)
 
+pub too_long : (bytes text : List ℕ) → length bytes < length text → unescaped bytes ≡ text → ⊥
+too_long bytes text longer e = omega (arith, longer, ap length e, unescaped_short bytes)
+
 -- one more piece
 pub length_step : (bytes : List ℕ) (k : ℕ) (state next : Pending) (piece : Piece) → k < length bytes → piece_bytes piece ≡ completed state (get_or bytes k 0) → next ≡ after_byte state (get_or bytes k 0) → length (unescaped_from state (drop k bytes)) ≡ piece.len + length (unescaped_from next (drop (k + 1) bytes))
 length_step bytes k state next piece lt p n =

@@ -60,12 +60,7 @@ fn run_end(inside: &[u8], at: usize, pending: Pending) -> usize
             Some(place) => place,
             None => inside.len(),
         },
-        Pending::Backslash { high: _ } => at,
-        Pending::Digits {
-            high: _,
-            more: _,
-            unit: _,
-        } => at,
+        _ => at,
     }
 }
 

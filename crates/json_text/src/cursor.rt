@@ -7,7 +7,7 @@ ghost use Rattle.json_text.specs.Doc.{bytes_read, IsNode, OfNode};
 use crate::doc::{Doc, Node};
 use crate::piece::Piece;
 use crate::shown::{name_inside, text_inside};
-use crate::unescape::{Pending, pending_after, piece_after};
+use crate::unescape::{Pending, no_bytes, pending_after, piece_after};
 use std::marker::Model;
 
 /// The bytes of a text of a document that are still to come, one after the other. Contracts see it as the list of these
@@ -40,7 +40,7 @@ impl<'a> TextBytes<'a> {
         TextBytes {
             inside,
             pending: Pending::Between { high: 0 },
-            piece: no_piece(),
+            piece: no_bytes(),
             given: 0,
         }
     }
@@ -113,15 +113,6 @@ struct Found<'a> {
     piece: Piece,
     pending: Pending,
     rest: &'a [u8],
-}
-
-fn no_piece() -> Piece
-    ensures { piece_bytes result ≡ [] }
-{
-    Piece {
-        bytes: [0; 4],
-        len: 0,
-    }
 }
 
 // The next piece that is not empty.

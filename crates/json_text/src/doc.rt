@@ -39,7 +39,6 @@ impl<'a> Doc<'a> {
         ensures node { IsNode self.now result }
         ensures read { ∥ Shows self.now (bytes_read self.now) ∥₁ }
     {
-        let _nodes = &self.nodes;
         Node { number: 0 }
     }
 

@@ -71,10 +71,8 @@ pub(crate) fn is_closed_by(level: Option<Bracket>, here: Part, byte: u8) -> bool
     ensures { result ≡ closes level here byte }
 {
     match (level, here) {
-        (Some(Bracket::List), Part::Start) => byte == b']',
-        (Some(Bracket::List), Part::Rest) => byte == b']',
-        (Some(Bracket::Map), Part::Start) => byte == b'}',
-        (Some(Bracket::Map), Part::Rest) => byte == b'}',
+        (Some(Bracket::List), Part::Start | Part::Rest) => byte == b']',
+        (Some(Bracket::Map), Part::Start | Part::Rest) => byte == b'}',
         _ => false,
     }
 }
@@ -113,8 +111,7 @@ pub(crate) fn may_be_named(level: Option<Bracket>, here: Part) -> bool
     ensures { result ≡ takes_name level here }
 {
     match (level, here) {
-        (Some(Bracket::Map), Part::Start) => true,
-        (Some(Bracket::Map), Part::Next) => true,
+        (Some(Bracket::Map), Part::Start | Part::Next) => true,
         _ => false,
     }
 }

@@ -61,12 +61,13 @@ fn is_low_at(bytes: &[u8], at: usize) -> bool
 
 /// Whether the escape of a lone surrogate begins at place `at` of a string; `high` says whether the escape of a high
 /// surrogate stands right before.
+#[tactic(auto, using(crate::proofs::Escapes::lone_high))]
 pub(crate) fn is_lone_at(bytes: &[u8], at: usize, high: bool) -> bool
     requires { at ≤ length bytes.now }
     ensures { result ≡ is_lone high bytes.now at }
 {
     if is_high_at(bytes, at) {
-        return !is_low_at(bytes, at + NUMBERED) || (is_low_at(bytes, at) && !high);
+        return !is_low_at(bytes, at + NUMBERED);
     }
     is_low_at(bytes, at) && !high
 }

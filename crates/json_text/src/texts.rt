@@ -22,9 +22,14 @@ pub(crate) fn content_of(bytes: &[u8], span: Span) -> &[u8]
 }
 
 /// Whether the inside of a string spells this text.
+#[tactic(auto, using(crate::proofs::TextLengths::too_long))]
 pub(crate) fn spells(inside: &[u8], text: &[u8]) -> bool
     ensures { IsTrue result ↔ (unescaped inside.now ≡ text.now) }
 {
+    // A text is no longer than what spells it.
+    if inside.len() < text.len() {
+        return false;
+    }
     if stands_for_itself(inside) {
         inside == text
     } else {
@@ -33,13 +38,11 @@ pub(crate) fn spells(inside: &[u8], text: &[u8]) -> bool
 }
 
 // Whether no escape stands inside a string.
+#[tactic(auto, using(crate::proofs::CopiedRuns::all_stand))]
 fn stands_for_itself(inside: &[u8]) -> bool
     ensures { IsTrue result → unescaped inside.now ≡ inside.now }
 {
-    match first_special(inside, 0) {
-        Some(_) => false,
-        None => true,
-    }
+    first_special(inside, 0).is_none()
 }
 
 // The same as `spells`, byte by byte.

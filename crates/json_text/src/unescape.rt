@@ -3,7 +3,7 @@ ghost use Rattle.std.specs.Prelude.{◌≡◌, ◌≤◌, [], ◌∷◌, length}
 ghost use Rattle.json_text.specs.Piece.{piece_bytes};
 ghost use Rattle.json_text.specs.Unescape.{after_byte, completed, short_value, character, character_bytes, unit_with, after_unit, unit_bytes};
 
-use crate::hex::{is_high, is_low, value_of};
+use crate::hex::{FIRST_HIGH, FIRST_LOW, is_high, is_low, value_of};
 use crate::piece::Piece;
 use byte_lanes::BACKSLASH;
 
@@ -18,7 +18,8 @@ pub enum Pending {
     Digits { high: u16, more: u8, unit: u16 },
 }
 
-fn no_bytes() -> Piece
+/// No bytes of a text.
+pub(crate) fn no_bytes() -> Piece
     ensures { piece_bytes result ≡ [] }
 {
     Piece {
@@ -101,7 +102,7 @@ fn character_of(high: u16, unit: u16) -> u32
     ensures { result ≡ character high unit }
 {
     if is_low(unit as u32) && high > 0 {
-        0x10000 + (high as u32).saturating_sub(0xd800) * 1024 + (unit as u32 - 0xdc00)
+        0x10000 + (high as u32).saturating_sub(FIRST_HIGH) * 1024 + (unit as u32 - FIRST_LOW)
     } else {
         unit as u32
     }

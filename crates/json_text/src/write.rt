@@ -1,7 +1,8 @@
-ghost use Rattle.std.specs.Prelude.{◌≡◌, ◌++◌, ◌<◌, length, take, OnOk, OnErr};
-ghost use Rattle.byte_lanes.specs.Spelling.{spelled, spelled_byte, short_letter, hex_digit};
+ghost use Rattle.std.specs.Prelude.{◌≡◌, ◌++◌, length, take, OnOk, OnErr};
+ghost use Rattle.byte_lanes.specs.Spelling.{spelled, spelled_byte, short_letter};
 ghost use Rattle.json_text.specs.Spelling.{string_of};
 
+use crate::hex::digit_of;
 use byte_lanes::{BACKSLASH, FIRST_PRINTABLE, QUOTE, escaped_len, first_special};
 use side_base::{Blob, NoMemory, Text};
 use std::alloc::AllocError;
@@ -93,7 +94,14 @@ fn push_escape(out: &mut Blob, byte: u8) -> Result<(), NoMemory>
     }
     let letter = letter_of(byte);
     if letter == 0 {
-        return out.push(&[BACKSLASH, b'u', b'0', b'0', hex(byte / 16), hex(byte % 16)]);
+        return out.push(&[
+            BACKSLASH,
+            b'u',
+            b'0',
+            b'0',
+            digit_of(byte / 16),
+            digit_of(byte % 16),
+        ]);
     }
     out.push(&[BACKSLASH, letter])
 }
@@ -108,16 +116,5 @@ fn letter_of(byte: u8) -> u8
         0x0c => b'f',
         b'\r' => b'r',
         _ => 0,
-    }
-}
-
-fn hex(value: u8) -> u8
-    requires { value < 16 }
-    ensures { result ≡ hex_digit value }
-{
-    if value < 10 {
-        value + b'0'
-    } else {
-        value + (b'a' - 10)
     }
 }

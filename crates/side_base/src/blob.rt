@@ -18,8 +18,9 @@ enum Bytes {
 
 /// A byte string that can grow. Contracts see it as the list of its bytes.
 ///
-/// Copies of one of 4 KiB or more share its bytes, so that a copy of it costs the same whatever its length; a change of one that is
-/// shared copies the bytes first. One that was written by pushes has its bytes alone, up to `shared`.
+/// One of 4 KiB or more that `from_bytes`, `copy` or `shared` made shares its bytes with its copies, so that a copy costs the same
+/// whatever its length; a change of one that is shared copies the bytes first. One that was written by pushes has its bytes alone, and
+/// each copy of it is a copy of the bytes, up to `shared`.
 #[derive(Debug, Drop)]
 pub struct Blob {
     bytes: Bytes,

@@ -21,6 +21,14 @@ fn add_end(lines: &mut Lines, bytes: &[u8]) {
     add_bytes(lines, " ", &bytes[bytes.len().saturating_sub(3)..]);
 }
 
+// Those of a copy, if it is still there.
+fn add_copy_end(lines: &mut Lines, copy: &Option<Blob>) {
+    match copy {
+        Some(copy) => add_end(lines, copy.bytes()),
+        None => lines.add(" none"),
+    }
+}
+
 fn add_grown(mut text: Text, lines: &mut Lines) -> Result<(), NoMemory> {
     let copy = text.copy()?;
     text.push("!")?;
@@ -44,22 +52,30 @@ fn add_text(blob: Blob, lines: &mut Lines) -> Result<(), NoMemory> {
 
 fn add_copies_of(alloc: Global, given: &[u8], lines: &mut Lines) -> Result<(), NoMemory> {
     let mut blob = letters(alloc, number_in(given))?;
-    let copy = blob.copy()?;
+    let mut copy = Some(blob.copy()?);
     let mut words = given.split(|byte| *byte == b' ');
     let _ = words.next();
     for word in words {
-        step(&mut blob, word, lines)?;
+        if word == b"-".as_slice() {
+            copy = None;
+        } else {
+            step(&mut blob, word, lines)?;
+        }
     }
     add_end(lines, blob.bytes());
-    add_end(lines, copy.bytes());
-    let third = blob.copy()?;
+    add_copy_end(lines, &copy);
+    let third = match copy {
+        Some(_) => Some(blob.copy()?),
+        None => None,
+    };
     add_text(blob, lines)?;
-    add_end(lines, third.bytes());
+    add_copy_end(lines, &third);
     Ok(())
 }
 
 /// What so many letters `a` are after these steps, and what a copy from before is, each with its length and its last three bytes; then what
 /// they are as a text with `!` behind it, the text's copy from before, this as a blob, and a copy of the blob from before it was a text.
+/// The step `-` drops the copies, so that the bytes are held once.
 pub(crate) fn add_copies(alloc: Global, given: &[u8], lines: &mut Lines) {
     lines.add("steps:");
     let added = add_copies_of(alloc, given, lines);
