@@ -8,7 +8,8 @@ pub fn count_values(alloc: Global, doc: &Doc<'_>) -> Result<u64, AllocError> {
     let mut count: u64 = 0;
     let mut left: Vec<Node> = Vec::new(alloc);
     left.push(doc.root())?;
-    for _ in 0..u64::MAX {
+    // A text has no more values than bytes.
+    for _ in 0..doc.bytes().len() {
         match left.pop() {
             Some(node) => {
                 count = count.wrapping_add(1);

@@ -1,3 +1,4 @@
+-- Contracts of other crates may cite all of these but `Scan`, `Between`, `Reader`, `Packed` and `Piece`, which are of the functions inside.
 pub mod Forest
 pub mod Lexeme
 pub mod Grammar
