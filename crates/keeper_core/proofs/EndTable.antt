@@ -16,7 +16,7 @@ use Rattle.std.proofs.Math.Seq.{take-append_seam}
 use Rattle.keeper_core.specs.Rows.{Entry, byte_order}
 use Rattle.keeper_core.specs.Ends.{end_alone}
 use Rattle.keeper_core.specs.Tree.{with_end, without}
-use Rattle.keeper_core.specs.Shapes.{Shape, none, slots, times, left_in, right_in, parent_in, until_in, left_at, right_at, parent_at, until_at, key_in, key_at, entry_at, entries_at, Holds, Proper, Retimed, IsTree, Ordered, Finds, with_slot}
+use Rattle.keeper_core.specs.Shapes.{Shape, none, slots, times, left_in, right_in, parent_in, until_in, left_at, right_at, parent_at, until_at, key_in, key_at, entry_at, entries_at, Holds, Proper, Retimed, IsTree, IsBalanced, Inserted, Finds, with_slot}
 use Rattle.keeper_core.specs.Shapes.Shape.{Bare, Fork}
 use Rattle.keeper_core.specs.Fields.{Rewritten, with_parent}
 use Rattle.keeper_core.specs.EndTable.{shape_in, slots_in, ending, ends_in, IsWhole, IsTop, IsPlaced}
@@ -50,6 +50,7 @@ record Stands (keys : Keys) (links : List Link) (root : ℕ) (shape : Shape) : T
   pub top : parent_at links root ≡ none
   pub keyed : length keys ≡ length links
   pub sorted : IsTrue (is_sorted byte_order (entries_at keys links (slots shape)))
+  pub balanced : IsBalanced shape
 
 -- the entries of a list depend on its own places alone
 entries_alike : (keys others : Keys) (old new : List Link) (list : List ℕ) → ((q : ℕ) → 0 < times q list → entry_at others new q ≡ entry_at keys old q) → entries_at others new list ≡ entries_at keys old list
@@ -99,13 +100,13 @@ pub record Shows (keys : Keys) (links : List Link) (root : ℕ) (ends : List Ent
   pub shown : ends_in keys links root ≡ ends
 
 -- of a tree that stands, with one entry changed
-changed : (keys : Keys) (links : List Link) (root : ℕ) (shape : Shape) (es : List Entry) (key : Key) (until : ℕ) → length links ≤ none → is_sorted byte_order es ≡ true → Holds links shape root → Proper (length links) (slots shape) → ((slot : ℕ) → slot < length links → 0 < times slot (slots shape)) → parent_at links root ≡ none → length keys ≡ length links → entries_at keys links (slots shape) ≡ put byte_order key (end_alone until) es → Shows keys links root (with_end key until (ending es))
-changed keys links root shape es key until small sorted holds proper all top keyed is =
+changed : (keys : Keys) (links : List Link) (root : ℕ) (shape : Shape) (es : List Entry) (key : Key) (until : ℕ) → length links ≤ none → is_sorted byte_order es ≡ true → Holds links shape root → Proper (length links) (slots shape) → ((slot : ℕ) → slot < length links → 0 < times slot (slots shape)) → parent_at links root ≡ none → length keys ≡ length links → IsBalanced shape → entries_at keys links (slots shape) ≡ put byte_order key (end_alone until) es → Shows keys links root (with_end key until (ending es))
+changed keys links root shape es key until small sorted holds proper all top keyed balanced is =
     let read = shape_is links (length links) shape root small holds proper.few in
-    let stands : Stands keys links root shape = record { holds = holds; proper = proper; all = all; top = top; keyed = keyed; sorted = ap (is_sorted byte_order) is ∙ sorted_put es key (end_alone until) sorted } in
+    let stands : Stands keys links root shape = record { holds = holds; proper = proper; all = all; top = top; keyed = keyed; sorted = ap (is_sorted byte_order) is ∙ sorted_put es key (end_alone until) sorted; balanced = balanced } in
     let there = subst (Stands keys links root) (sym read) stands in
     record {
-      stands = record { holds = there.holds; proper = there.proper; all = there.all; top = there.top; keyed = there.keyed; sorted = there.sorted };
+      stands = record { holds = there.holds; proper = there.proper; all = there.all; top = there.top; keyed = there.keyed; sorted = there.sorted; balanced = there.balanced };
       shown = ap (λ s. ending (entries_at keys links (slots s))) read ∙ ap ending is ∙ ending-put es key until sorted;
     }
 
@@ -114,7 +115,7 @@ retimed keys old new root at until small before m is =
     changed keys new root (shape_in (length old) old root) (entries_at keys old (slots_in old root)) (key_at keys at) until (omega (arith, is.len)) before.sorted is.holds
     (subst (λ n. Proper n (slots_in old root)) (sym is.len) before.proper)
     (λ slot h. before.all slot (omega (arith, is.len, h)))
-    is.top (before.keyed ∙ sym is.len)
+    is.top (before.keyed ∙ sym is.len) before.balanced
     (put_at keys old new (slots_in old root) at until before.sorted m (before.proper.distinct at) is.here is.others)
 
 -- a node becomes the root
@@ -166,12 +167,13 @@ hinted keys links root hint key there before is same = record {
 }
 
 -- the root of a tree with one node more has no parent
-pub placed_top : (old mid new : List Link) (list : List ℕ) (root : ℕ) → Ordered old mid list root → Proper (length mid) list → ((shape : Shape) → Holds mid shape root → Proper (length mid) (slots shape) → IsTop mid new shape root) → IsPlaced old new list root
-placed_top old mid new list root tree proper tops =
-    let top = tops tree.shape tree.built.holds (subst (Proper (length mid)) (sym tree.ordered) proper) in
+pub placed_top : (old mid new : List Link) (before : Shape) (list : List ℕ) (root : ℕ) → Inserted old mid before list root → Proper (length mid) list → ((shape : Shape) → Holds mid shape root → Proper (length mid) (slots shape) → IsTop mid new shape root) → IsPlaced old new before list root
+placed_top old mid new before list root tree proper tops =
+    let top = tops tree.grown tree.built.holds (subst (Proper (length mid)) (sym tree.ordered) proper) in
     record {
-      shape = tree.shape;
+      shape = tree.grown;
       ordered = tree.ordered;
+      balanced = λ was. (tree.risen was).balanced;
       placed = record { holds = top.holds; top = top.top; untils = λ q. top.untils q ∙ tree.built.untils q; len = top.len ∙ tree.built.len };
     }
 
@@ -228,7 +230,7 @@ pushed keys links root key link before =
 -- what a call says that puts a node into a tree
 abbrev Places : List Link → Keys → ℕ → ℕ → List Link → ℕ → Type 0
 Places links keys root slot new result =
-    (shape : Shape) → Holds links shape root → Proper (length links) (slot ∷ slots shape) → left_at links slot ≡ none → right_at links slot ≡ none → IsTrue (is_sorted byte_order (entries_at keys links (slots shape))) → IsPlaced links new (with_slot keys slot (slots shape)) result
+    (shape : Shape) → Holds links shape root → Proper (length links) (slot ∷ slots shape) → left_at links slot ≡ none → right_at links slot ≡ none → IsTrue (is_sorted byte_order (entries_at keys links (slots shape))) → IsPlaced links new shape (with_slot keys slot (slots shape)) result
 
 -- a tree stands with one node more
 record Adds (keys : Keys) (links : List Link) (root : ℕ) (ends : List Entry) (most : ℕ) : Type 0 where
@@ -243,7 +245,7 @@ added_one keys links new root result key link before small left right lacks plac
     let longer : List Link = links ++ link ∷ [] in
     let beside = pushed keys links root key link before in
     let last = get_last links link in
-    let placed : IsPlaced longer new (with_slot more slot (slots shape)) result = places shape beside.holds beside.proper (ap left_in last ∙ left) (ap right_in last ∙ right) (ap (is_sorted byte_order) beside.kept ∙ before.sorted) in
+    let placed : IsPlaced longer new shape (with_slot more slot (slots shape)) result = places shape beside.holds beside.proper (ap left_in last ∙ left) (ap right_in last ∙ right) (ap (is_sorted byte_order) beside.kept ∙ before.sorted) in
     let top = placed.placed in
     let list = with_slot more slot (slots shape) in
     let its : key_at more slot ≡ key.items = ap (key_at more) (sym before.keyed) ∙ ap key_in (get_last keys key) in
@@ -261,7 +263,7 @@ added_one keys links new root result key link before small left right lacks plac
       | inr e ↦ omega (arith, times-with_slot more slot (slots shape) q, before.all q (omega (arith, count, h, e.1)))
     ]) in
     record {
-      shows = changed more new result placed.shape (entries_at keys links (slots shape)) key.items link.until (omega (arith, count, small)) before.sorted top.holds proper all top.top (length_push keys key ∙ ap (λ n. n + 1) before.keyed ∙ sym count) entries;
+      shows = changed more new result placed.shape (entries_at keys links (slots shape)) key.items link.until (omega (arith, count, small)) before.sorted top.holds proper all top.top (length_push keys key ∙ ap (λ n. n + 1) before.keyed ∙ sym count) (placed.balanced before.balanced) entries;
       len = top.len;
     }
 

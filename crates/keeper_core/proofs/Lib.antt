@@ -1,3 +1,4 @@
+pub mod Balance
 pub mod Commits
 pub mod Counted
 pub mod EndTable

@@ -5,7 +5,7 @@ use Rattle.std.proofs.lemmas.Bool.{cases_lt}
 use Rattle.std.proofs.lemmas.Bool.Decides.{eqb_tells}
 use Rattle.std.proofs.lemmas.List.Sums.{sum_by-append, sum_by-cons}
 use Rattle.std.proofs.lemmas.Option.{slice_get_past, slice_get_cases}
-use Rattle.keeper_core.specs.Shapes.{Shape, none, slots, height_of, times, left_in, right_in, parent_in, until_in, least_in, height_in, left_at, right_at, parent_at, until_at, least_at, height_at, least_below, HasParent, Holds, Proper, Built, Ordered}
+use Rattle.keeper_core.specs.Shapes.{Shape, none, slots, height_of, times, left_in, right_in, parent_in, until_in, least_in, height_in, left_at, right_at, parent_at, until_at, least_at, height_at, least_below, HasParent, Holds, Proper, Built}
 use Rattle.keeper_core.specs.Shapes.Shape.{Bare, Fork}
 use Rattle.keeper_core.specs.Fields.{Rewritten, with_left, with_right, with_parent}
 use Rattle.keeper_core.specs.declared.links.Link.{Link}
@@ -256,13 +256,9 @@ rewritten_kept change f old new at list r w = record {
   len = r.len;
 }
 
--- the same nodes, and their order, after a change of nodes among them
-pub ordered_after : (old mid new : List Link) (list : List ℕ) (at : ℕ) → Kept old mid list → Ordered mid new list at → Ordered old new list at
-ordered_after old mid new list at kept o = record {
-  shape = o.shape;
-  ordered = o.ordered;
-  built = built old mid new o.shape at (subst (Kept old mid) (sym o.ordered) kept) (built_kept mid new o.shape at o.built) o.built.holds;
-}
+-- a tree that is built after a change of nodes among them
+pub built_after : (old mid new : List Link) (shape : Shape) (at : ℕ) → Kept old mid (slots shape) → Built mid new shape at → Built old new shape at
+built_after old mid new shape at kept b = built old mid new shape at kept (built_kept mid new shape at b) b.holds
 
 -- a tree with nodes has a height
 pub height_some : (shape : Shape) → 0 < length (slots shape) → 0 < height_of shape

@@ -7,7 +7,7 @@ use Rattle.std.specs.declared.alloc.Global.{Global}
 use Rattle.std.specs.declared.vec.Vec.{Vec}
 use Rattle.keeper_core.specs.Rows.{Entry, row_code, byte_order}
 use Rattle.keeper_core.specs.Ends.{end_alone}
-use Rattle.keeper_core.specs.Shapes.{Shape, slots, times, none, left_at, right_at, parent_at, until_at, entries_at, Holds, Proper}
+use Rattle.keeper_core.specs.Shapes.{Shape, slots, times, none, left_at, right_at, parent_at, until_at, entries_at, Holds, Proper, IsBalanced}
 use Rattle.keeper_core.specs.Shapes.Shape.{Bare, Fork}
 use Rattle.keeper_core.specs.declared.links.Link.{Link}
 
@@ -45,6 +45,8 @@ pub record IsWhole (keys : List (Vec ℕ Global)) (links : List Link) (root : �
   pub top : parent_at links root ≡ none
   pub keyed : length keys ≡ length links
   pub sorted : IsTrue (is_sorted byte_order (entries_at keys links (slots_in links root)))
+  -- so that no way down is long: at most twice a logarithm of the nodes
+  pub balanced : IsBalanced (shape_in (length links) links root)
 
 -- whether a node's row has an end
 abbrev pub has_end : Link → Bool
@@ -57,11 +59,12 @@ pub record IsTop (old new : List Link) (shape : Shape) (root : ℕ) : Type 0 whe
   pub untils : (slot : ℕ) → until_at new slot ≡ until_at old slot
   pub len : length new ≡ length old
 
--- a tree stands whose nodes are these in order, and its root has no parent
-pub record IsPlaced (old new : List Link) (list : List ℕ) (root : ℕ) : Type 0 where
+-- a tree stands whose nodes are these in order, balanced where the one before it was, and its root has no parent
+pub record IsPlaced (old new : List Link) (before : Shape) (list : List ℕ) (root : ℕ) : Type 0 where
   pub shape : Shape
   pub ordered : slots shape ≡ list
   pub placed : IsTop old new shape root
+  pub balanced : IsBalanced before → IsBalanced shape
 
 -- ends with that of one more node, where it has one
 abbrev pub with_link : Vec ℕ Global → Link → List Entry → List Entry

@@ -1,5 +1,5 @@
 -- A search tree whose nodes stand in one list and name each other by their places in it.
-use Rattle.std.specs.Prelude.{◌≡◌, ◌≢◌, ℕ, suc, ◌-◌, ◌^◌, ◌<◌, ◌≤◌, ◌==◌, min, max, cond, List, [], ◌∷◌, ◌++◌, length, map, slice_get, Option, Some, None}
+use Rattle.std.specs.Prelude.{◌≡◌, ◌≢◌, ℕ, suc, ◌+◌, ◌-◌, ◌*◌, ◌^◌, ◌<◌, ◌≤◌, ◌==◌, nat_lt, min, max, cond, List, [], ◌∷◌, ◌++◌, length, map, slice_get, Option, Some, None}
 use Rattle.std.specs.List.{sum_by}
 use Rattle.std.specs.Ordering.{is_lt}
 use Rattle.std.specs.FinMap.{find}
@@ -28,6 +28,33 @@ slots (Fork before slot behind) = slots before ++ slot ∷ slots behind
 abbrev pub height_of : Shape → ℕ
 height_of Bare = 0
 height_of (Fork before slot behind) = suc (max (height_of before) (height_of behind))
+
+-- the sides of each node differ in height by one at most
+abbrev pub IsBalanced : Shape → Type 0
+IsBalanced Bare = Unit {0}
+IsBalanced (Fork before slot behind) = (height_of before ≤ height_of behind + 1) × ((height_of behind ≤ height_of before + 1) × (IsBalanced before × IsBalanced behind))
+
+-- the height is twice a logarithm of the nodes at most
+abbrev pub IsLow : Shape → Type 0
+IsLow shape = (k : ℕ) → 2 * k ≤ height_of shape → 2 ^ k ≤ length (slots shape) + 1
+
+-- a tree whose left child, or right child, takes the place of its root, with the root on the other side
+abbrev pub left_lifted : Shape → ℕ → Shape → Shape
+left_lifted Bare at behind = Fork Bare at behind
+left_lifted (Fork before top middle) at behind = Fork before top (Fork middle at behind)
+
+abbrev pub right_lifted : Shape → ℕ → Shape → Shape
+right_lifted before at Bare = Fork before at Bare
+right_lifted before at (Fork middle top behind) = Fork (Fork before at middle) top behind
+
+-- a tree whose left side, or right side, is not the lower one: where it was, the child on the other side is lifted
+abbrev pub left_outward : Shape → Shape
+left_outward Bare = Bare
+left_outward (Fork before slot behind) = cond (nat_lt (height_of before) (height_of behind)) (right_lifted before slot behind) (Fork before slot behind)
+
+abbrev pub right_outward : Shape → Shape
+right_outward Bare = Bare
+right_outward (Fork before slot behind) = cond (nat_lt (height_of behind) (height_of before)) (left_lifted before slot behind) (Fork before slot behind)
 
 -- how often a place stands in a list
 abbrev pub times : ℕ → List ℕ → ℕ
@@ -125,11 +152,33 @@ pub record Built (old new : List Link) (shape : Shape) (at : ℕ) : Type 0 where
   pub untils : (slot : ℕ) → until_at new slot ≡ until_at old slot
   pub len : length new ≡ length old
 
--- the same of some tree with these nodes in this order
-pub record Ordered (old new : List Link) (list : List ℕ) (at : ℕ) : Type 0 where
+-- a tree is balanced, and as high as the higher of two sides, or one higher
+pub record IsLevel (before behind : Shape) (shape : Shape) : Type 0 where
+  pub balanced : IsBalanced shape
+  pub least : max (height_of before) (height_of behind) ≤ height_of shape
+  pub most : height_of shape ≤ suc (max (height_of before) (height_of behind))
+
+-- The same nodes in order below a node with two sides: where these are balanced and differ in height by two at most, the tree is balanced, and where they differ by one at
+-- most, it is the node with its sides
+pub record Rebalanced (old new : List Link) (before : Shape) (slot : ℕ) (behind : Shape) (at : ℕ) : Type 0 where
   pub shape : Shape
-  pub ordered : slots shape ≡ list
+  pub ordered : slots shape ≡ slots (Fork before slot behind)
   pub built : Built old new shape at
+  pub level : IsBalanced before → IsBalanced behind → height_of before ≤ height_of behind + 2 → height_of behind ≤ height_of before + 2 → IsLevel before behind shape
+  pub stays : height_of before ≤ height_of behind + 1 → height_of behind ≤ height_of before + 1 → shape ≡ Fork before slot behind
+
+-- a tree that was balanced is so with one node more, and as high as before, or one higher
+pub record IsRisen (shape grown : Shape) : Type 0 where
+  pub balanced : IsBalanced grown
+  pub least : height_of shape ≤ height_of grown
+  pub most : height_of grown ≤ height_of shape + 1
+
+-- the nodes of a tree and one more, in this order
+pub record Inserted (old new : List Link) (shape : Shape) (list : List ℕ) (at : ℕ) : Type 0 where
+  pub grown : Shape
+  pub ordered : slots grown ≡ list
+  pub built : Built old new grown at
+  pub risen : IsBalanced shape → IsRisen shape grown
 
 -- the node at a place has this end now; the shape, and all other ends, are as they were
 pub record Retimed (old new : List Link) (shape : Shape) (root at until : ℕ) : Type 0 where

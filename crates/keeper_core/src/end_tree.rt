@@ -233,7 +233,7 @@ fn place(links: &mut [Link], keys: &[Vec<u8>], root: usize, slot: usize) -> usiz
     requires tree { IsTree links.old root }
     requires keys { length keys.now ≡ length links.old }
     requires slot { slot < length links.old }
-    ensures { (shape : Shape) → Holds links.old shape root → Proper (length links.old) (slot ∷ slots shape) → left_at links.old slot ≡ none → right_at links.old slot ≡ none → IsTrue (is_sorted byte_order (entries_at keys.now links.old (slots shape))) → IsPlaced links.old links.new (with_slot keys.now slot (slots shape)) result }
+    ensures { (shape : Shape) → Holds links.old shape root → Proper (length links.old) (slot ∷ slots shape) → left_at links.old slot ≡ none → right_at links.old slot ≡ none → IsTrue (is_sorted byte_order (entries_at keys.now links.old (slots shape))) → IsPlaced links.old links.new shape (with_slot keys.now slot (slots shape)) result }
 {
     let root = insert(links, keys, root, slot);
     set_top(links, root);

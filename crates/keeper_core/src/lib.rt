@@ -8,6 +8,7 @@ mod growth;
 mod hashed_rows;
 mod insertion;
 mod keeper;
+pub mod laws;
 mod links;
 mod memory_keeper;
 mod prepared;

@@ -18,7 +18,7 @@ use std::marker::Model;
 
 /// Rows by their keys, and the room for further keys. Contracts see the rows as a finite map.
 ///
-/// A look-up costs the same among few rows and among many. A change of a row that has an end, or that gets one, and the look for a
+/// A look-up goes to one place of a table, and among many rows waits longer for memory. A change of a row that has an end, or that gets one, and the look for a
 /// lapsed row cost a logarithm of the rows that have an end.
 #[derive(Drop)]
 pub struct RowTable {

@@ -9,4 +9,4 @@ returns c = λ shape holds proper left right sorted.
     let tree = c.insert-root.ensures shape holds proper left right sorted in
     let list = with_slot c.args.keys.now c.args.slot (slots shape) in
     let same = subst (λ n. Proper n list) (sym tree.built.len) (with_slot-proper c.args.keys.now c.args.slot (slots shape) (length c.args.links.now) proper) in
-    placed_top _ _ _ _ _ tree same c.set_top.ensures
+    placed_top _ _ _ _ _ _ tree same c.set_top.ensures

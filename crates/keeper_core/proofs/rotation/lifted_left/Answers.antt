@@ -1,5 +1,5 @@
 use Rattle.std.proofs.Common.{◌≡◌, ℕ, ◌<◌, List, ◌∷◌, length, refl, sym, ap, ◌∙◌, subst, arith, append_assoc}
-use Rattle.keeper_core.specs.Shapes.{Shape, slots, Proper, left_in, left_at, right_at, Holds, Built, Ordered}
+use Rattle.keeper_core.specs.Shapes.{Shape, slots, Proper, left_in, left_at, right_at, Holds, Built, left_lifted}
 use Rattle.keeper_core.specs.Shapes.Shape.{Bare, Fork}
 use Rattle.keeper_core.specs.Fields.{Rewritten, with_left, with_right}
 use Rattle.keeper_core.specs.declared.links.Link.{Link}
@@ -53,8 +53,8 @@ module _ (old first second third new : List Link) (at top : ℕ) (before middle 
   kept_first : Kept old first (slots whole)
   kept_first = kept_more old first (slots inner) (slots whole) (λ slot w. omega (arith, times_fork slot before top inner)) grown.kept
 
-  lifted : Ordered old new (slots (Fork (Fork before top middle) at behind)) top
-  lifted = record { shape = whole; ordered = sym order; built = built old third new whole top (kept_trans old first third (slots whole) kept_first grown_top.kept) (built_kept third new whole top top_built) top_built.holds }
+  lifted : Built old new whole top
+  lifted = built old third new whole top (kept_trans old first third (slots whole) kept_first grown_top.kept) (built_kept third new whole top top_built) top_built.holds
 
 pub returns : goal.returns
 returns c Bare behind tall proper l h b = absurd (omega arith)
@@ -62,7 +62,7 @@ returns c (Fork before top middle) behind tall proper l h b =
     let old = c.args.links.now in
     let at = c.args.at in
     let is_top : c.left_at-top.result ≡ top = c.left_at-top.ensures ∙ h.0 in
-    subst (Ordered old c.mark-2.new.links (slots (Fork (Fork before top middle) at behind))) (sym is_top)
+    subst (Built old c.mark-2.new.links (left_lifted (Fork before top middle) at behind)) (sym is_top)
     (lifted old c.set_left.new.links c.mark.new.links c.set_right.new.links c.mark-2.new.links at top before middle behind proper l h b
     (subst (λ place. Rewritten (with_left place) old c.set_left.new.links at) (c.right_at-middle.ensures ∙ ap (right_at old) is_top) c.set_left.ensures)
     c.mark.ensures

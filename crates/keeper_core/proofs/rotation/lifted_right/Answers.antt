@@ -1,5 +1,5 @@
 use Rattle.std.proofs.Common.{◌≡◌, ℕ, ◌<◌, List, ◌∷◌, length, refl, sym, ap, ◌∙◌, subst, arith, append_assoc}
-use Rattle.keeper_core.specs.Shapes.{Shape, slots, Proper, right_in, left_at, right_at, Holds, Built, Ordered}
+use Rattle.keeper_core.specs.Shapes.{Shape, slots, Proper, right_in, left_at, right_at, Holds, Built, right_lifted}
 use Rattle.keeper_core.specs.Shapes.Shape.{Bare, Fork}
 use Rattle.keeper_core.specs.Fields.{Rewritten, with_left, with_right}
 use Rattle.keeper_core.specs.declared.links.Link.{Link}
@@ -53,8 +53,8 @@ module _ (old first second third new : List Link) (at top : ℕ) (before middle 
   kept_first : Kept old first (slots whole)
   kept_first = kept_more old first (slots inner) (slots whole) (λ slot w. omega (arith, times_fork slot inner top behind)) grown.kept
 
-  lifted : Ordered old new (slots (Fork before at (Fork middle top behind))) top
-  lifted = record { shape = whole; ordered = order; built = built old third new whole top (kept_trans old first third (slots whole) kept_first grown_top.kept) (built_kept third new whole top top_built) top_built.holds }
+  lifted : Built old new whole top
+  lifted = built old third new whole top (kept_trans old first third (slots whole) kept_first grown_top.kept) (built_kept third new whole top top_built) top_built.holds
 
 pub returns : goal.returns
 returns c before Bare tall proper l b h = absurd (omega arith)
@@ -62,7 +62,7 @@ returns c before (Fork middle top behind) tall proper l b h =
     let old = c.args.links.now in
     let at = c.args.at in
     let is_top : c.right_at-top.result ≡ top = c.right_at-top.ensures ∙ h.0 in
-    subst (Ordered old c.mark-2.new.links (slots (Fork before at (Fork middle top behind)))) (sym is_top)
+    subst (Built old c.mark-2.new.links (right_lifted before at (Fork middle top behind))) (sym is_top)
     (lifted old c.set_right.new.links c.mark.new.links c.set_left.new.links c.mark-2.new.links at top before middle behind proper l b h
     (subst (λ place. Rewritten (with_right place) old c.set_right.new.links at) (c.left_at-middle.ensures ∙ ap (left_at old) is_top) c.set_right.ensures)
     c.mark.ensures
