@@ -2,6 +2,7 @@ pub mod ByteLemmas
 pub mod ChunkStepLemmas
 pub mod ContentLemmas
 pub mod DataLemmas
+pub mod FieldLemmas
 pub mod FrontLemmas
 pub mod InChunksLemmas
 pub mod LengthLemmas
@@ -9,3 +10,4 @@ pub mod LineLemmas
 pub mod LinePlaceLemmas
 pub mod SplitLemmas
 pub mod TrailerLemmas
+pub mod TrailerPlaceLemmas

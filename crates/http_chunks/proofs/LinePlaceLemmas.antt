@@ -1,29 +1,37 @@
--- How far a chunk line was read, and a part of it that goes on.
-use Rattle.std.proofs.Common.{◌≡◌, ℕ, ◌+◌, ◌-◌, ◌<◌, ◌≤◌, true, false, ◌==◌, List, [], ◌∷◌, ◌++◌, length, take, drop, Option, Some, None, inl, inr, refl, sym, ap, ◌∙◌, subst, arith, append_assoc, append-nil, length-append, length-drop, take-append-drop}
+-- How far a line was read, and a part of it that goes on.
+use Rattle.std.proofs.Common.{◌≡◌, ℕ, ◌+◌, ◌-◌, ◌<◌, ◌≤◌, true, false, ◌==◌, List, [], ◌∷◌, ◌++◌, length, take, drop, Option, Some, None, inl, inr, refl, sym, ap, ◌∙◌, subst, arith, append_assoc, append-nil, length-append, take-append-drop}
 use Rattle.std.specs.Char.{is_ascii_hexdigit}
 use Rattle.std.specs.List.{list_all, list_any}
 use Rattle.std.proofs.lemmas.List.{take_all, take-append-le, take_rest}
 use Rattle.std.proofs.lemmas.List.Elements.{All-append}
 use Rattle.std.proofs.lemmas.List.Sums.{AllPass-from_list_all}
-use Rattle.httparse.specs.Grammar.{ChunkLine, IsChunkLine, print_chunk_line, print_extension, IsExtension, is_ows, is_extension_byte}
-use Rattle.http_chunks.specs.Chunked.{LINE_LIMIT}
-use Rattle.http_chunks.specs.ChunkReading.{HasNoLine, MayBecomeLine}
-use Rattle.http_chunks.specs.ChunkSteps.{IsStuck, MayEnd}
+use Rattle.httparse.specs.Grammar.{ChunkLine, IsChunkLine, print_chunk_line, print_extension, IsExtension, is_ows, is_extension_byte, HasNoSection, MayBecomeSection}
+use Rattle.http_chunks.specs.Chunked.{LINE_LIMIT, BODY_LIMIT}
+use Rattle.http_chunks.specs.ChunkReading.{HasNoLine, MayBecomeLine, IsLineOf}
+use Rattle.http_chunks.specs.ChunkSteps.{IsStuck, MayEnd, IsOnAt}
 use Rattle.http_chunks.specs.ContentSteps.{IsInChunks, IsCalm}
-use Rattle.http_chunks.specs.LinePlaces.{IsInSize, IsInExtension, IsLinePart, IsLinePlace, IsLooked, beginning_of_line, is_part_byte}
+use Rattle.http_chunks.specs.LinePlaces.{IsInSize, IsInExtension, IsInField, is_field_byte, AreTrailers, IsLinePart, IsLinePlace, IsLooked, HasRoom, beginning_of_line, last_line, is_part_byte}
+use Rattle.http_chunks.specs.declared.fields.FieldPart.{FieldPart}
 use Rattle.http_chunks.specs.declared.line_place.LinePart.{LinePart}
-use Rattle.http_chunks.specs.declared.line_place.LinePart.TheVariants.{Size, Extension}
+use Rattle.http_chunks.specs.declared.line_place.LinePart.TheVariants.{Size, Extension, Trailer}
 use Rattle.http_chunks.specs.declared.line_place.LinePlace.{LinePlace}
 use Rattle.http_chunks.proofs.ByteLemmas.{No, no_of, no_append, no_cons, no_nil, no_none, no_found, found_not}
 use Rattle.http_chunks.proofs.SplitLemmas.{split_append}
 use Rattle.http_chunks.proofs.LineLemmas.{body, print_body, cut_body}
 use Rattle.http_chunks.proofs.ChunkStepLemmas.{first_line, stuck_no_line, may_end_line}
+use Rattle.http_chunks.proofs.FieldLemmas.{field_none, field_may, field_more, same_all}
 use Rattle.http_chunks.proofs.InChunksLemmas.{content_calm, content_may}
+use Rattle.http_chunks.proofs.TrailerPlaceLemmas.{trailers_stuck, trailers_may, trailers_more, no_trailers, slice_is}
 
--- a part of a line is a line without its end
-part_body : (part : LinePart) (text : List ℕ) → IsLinePart part text → (k : ChunkLine) × IsChunkLine k × (text ≡ body k)
-part_body Size text is = (_, is.valid, is.is ∙ ap (λ (t : List ℕ). is.digits ++ t) (sym (append-nil is.pad)))
-part_body Extension text is = (_, is.valid, is.is)
+-- the text is a line without its end
+abbrev IsBody : List ℕ → Type 0
+IsBody text = (k : ChunkLine) × IsChunkLine k × (text ≡ body k)
+
+size_body : (text : List ℕ) → IsInSize text → IsBody text
+size_body text is = (_, is.valid, is.is ∙ ap (λ (t : List ℕ). is.digits ++ t) (sym (append-nil is.pad)))
+
+extension_body : (text : List ℕ) → IsInExtension text → IsBody text
+extension_body text is = (_, is.valid, is.is)
 
 -- which holds no line feed
 body_no_feed : (k : ChunkLine) → IsChunkLine k → No 10 (body k)
@@ -35,60 +43,74 @@ body_no_feed k is =
     in_extension None is = no_nil 10
     in_extension (Some bytes) is = no_cons 10 59 bytes (λ e. omega (arith, e)) (no_of 10 is_extension_byte refl bytes is)
 
-part_none : (part : LinePart) (text : List ℕ) → IsLinePart part text → HasNoLine text
-part_none part text is line after reads =
-    let (k, valid, same) = part_body part text is in
+body_none : (text : List ℕ) → IsBody text → HasNoLine text
+body_none text (k, valid, same) line after reads =
     no_none 10 (body k) (body line ++ 13 ∷ []) after (body_no_feed k valid)
     (sym same ∙ reads.1 ∙ ap (λ (t : List ℕ). t ++ after) (print_body line) ∙ regroup (body line) after)
   where
     regroup : (a b : List ℕ) → (a ++ 13 ∷ 10 ∷ []) ++ b ≡ (a ++ 13 ∷ []) ++ 10 ∷ b
     regroup a b = simp append_assoc
 
-part_may : (part : LinePart) (text : List ℕ) → IsLinePart part text → length text + 2 ≤ LINE_LIMIT → MayBecomeLine text
-part_may part text is short =
-    let (k, valid, same) = part_body part text is in
+body_may : (text : List ℕ) → IsBody text → length text + 2 ≤ LINE_LIMIT → MayBecomeLine text
+body_may text (k, valid, same) short =
     let line : text ++ 13 ∷ 10 ∷ [] ≡ print_chunk_line k = ap (λ (t : List ℕ). t ++ 13 ∷ 10 ∷ []) same ∙ sym (print_body k) in
     (13 ∷ 10 ∷ [], k, record { valid = valid; short = omega (arith, ap length line, length-append text (13 ∷ 10 ∷ [])) }, line)
 
--- where the text is a part of a line, neither a chunk nor the end of the chunks begins it, and content may go on
-pub part_need : (part : LinePart) (text : List ℕ) (sum : ℕ) → IsLinePart part text → length text + 2 ≤ LINE_LIMIT → IsStuck text sum × MayEnd text
-part_need part text sum is short = (
-  stuck_no_line text sum (part_none part text is),
-  may_end_line text (part_may part text is short),
-)
+-- where the text is a part, neither a chunk nor the end of the chunks begins it, and content may go on
+part_stuck : (part : LinePart) (text : List ℕ) (start sum : ℕ) → IsLinePart part start text → sum ≤ BODY_LIMIT → IsStuck text sum
+part_stuck Size text start sum is small = stuck_no_line text sum (body_none text (size_body text is.1))
+part_stuck Extension text start sum is small = stuck_no_line text sum (body_none text (extension_body text is.1))
+part_stuck (Trailer part) text start sum is small = trailers_stuck text start is.0 sum is.1 (field_none part is.1.rest is.2) small
+
+part_may : (part : LinePart) (text : List ℕ) (start : ℕ) → IsLinePart part start text → HasRoom text start → MayEnd text
+part_may Size text start is room = may_end_line text (body_may text (size_body text is.1) (omega (arith, room.1, is.0)))
+part_may Extension text start is room = may_end_line text (body_may text (extension_body text is.1) (omega (arith, room.1, is.0)))
+part_may (Trailer part) text start is room = trailers_may text start is.0 is.1 room (field_may part is.1.rest is.2)
 
 -- a part goes on
-part_more : (part : LinePart) (text more : List ℕ) → IsLinePart part text → list_all (is_part_byte part) more ≡ true → IsLinePart part (text ++ more)
-part_more Size text more is all = record {
-  digits = is.digits;
-  pad = is.pad ++ more;
-  valid = record {
-    digits = is.valid.digits;
-    pad = All-append (λ (b : ℕ). is_ows b ≡ true) is.pad more is.valid.pad (AllPass-from_list_all is_ows more all);
-    extension = tt;
-  };
-  is = ap (λ (t : List ℕ). t ++ more) is.is ∙ append_assoc is.digits is.pad more;
-}
-part_more Extension text more is all = record {
-  digits = is.digits;
-  pad = is.pad;
-  bytes = is.bytes ++ more;
-  valid = record {
-    digits = is.valid.digits;
-    pad = is.valid.pad;
-    extension = All-append (λ (b : ℕ). is_extension_byte b ≡ true) is.bytes more is.valid.extension (AllPass-from_list_all is_extension_byte more all);
-  };
-  is = ap (λ (t : List ℕ). t ++ more) is.is ∙ regroup is.digits is.pad is.bytes more;
-}
+part_more : (part : LinePart) (start : ℕ) (text more : List ℕ) → IsLinePart part start text → list_all (is_part_byte part) more ≡ true → IsLinePart part start (text ++ more)
+part_more Size start text more (none, is) all = (
+  none,
+  record {
+    digits = is.digits;
+    pad = is.pad ++ more;
+    valid = record {
+      digits = is.valid.digits;
+      pad = All-append (λ (b : ℕ). is_ows b ≡ true) is.pad more is.valid.pad (AllPass-from_list_all is_ows more all);
+      extension = tt;
+    };
+    is = ap (λ (t : List ℕ). t ++ more) is.is ∙ append_assoc is.digits is.pad more;
+  },
+)
+part_more Extension start text more (none, is) all = (
+  none,
+  record {
+    digits = is.digits;
+    pad = is.pad;
+    bytes = is.bytes ++ more;
+    valid = record {
+      digits = is.valid.digits;
+      pad = is.valid.pad;
+      extension = All-append (λ (b : ℕ). is_extension_byte b ≡ true) is.bytes more is.valid.extension (AllPass-from_list_all is_extension_byte more all);
+    };
+    is = ap (λ (t : List ℕ). t ++ more) is.is ∙ regroup is.digits is.pad is.bytes more;
+  },
+)
   where
     regroup : (a b c d : List ℕ) → (a ++ (b ++ 59 ∷ c)) ++ d ≡ a ++ (b ++ 59 ∷ (c ++ d))
     regroup a b c d = simp append_assoc
+part_more (Trailer part) start text more (lines, are, is) all = (
+  lines,
+  trailers_more text more start lines are,
+  field_more part are.rest more is (sym (same_all (is_part_byte (Trailer part)) (is_field_byte part) (λ b. refl) more) ∙ all),
+)
 
 pub part_on : (text : List ℕ) (place : LinePlace) → 0 < place.end
-    → list_all (is_part_byte place.part) (take (length text - place.end) (drop place.end text)) ≡ true → IsLinePlace text place → IsLinePart place.part text
+    → list_all (is_part_byte place.part) (take (length text - place.end) (drop place.end text)) ≡ true → IsLinePlace text place
+    → IsLinePart place.part place.trailers text
 part_on text place some all is =
-    subst (IsLinePart place.part) (take-append-drop place.end text)
-    (part_more place.part (take place.end text) (drop place.end text) (is.part some)
+    subst (IsLinePart place.part place.trailers) (take-append-drop place.end text)
+    (part_more place.part place.trailers (take place.end text) (drop place.end text) (is.part some)
     (ap (list_all (is_part_byte place.part)) (sym (take_rest text place.end)) ∙ all))
 
 -- ---- what a line that may go on begins with
@@ -148,42 +170,85 @@ take_whole : (text : List ℕ) → take (length text) text ≡ text
 take_whole text = take_all (length text) text (omega arith)
 
 pub place_extension : (text : List ℕ) → MayEnd text → list_any (λ b. b == 13) text ≡ false → list_any (λ b. b == 59) text ≡ true
-    → IsLinePlace text (record { end = length text; part = Extension })
+    → IsLinePlace text (record { trailers = 0; lines = 0; end = length text; part = Extension })
 place_extension text may none found = record {
   within = omega arith;
+  lines = λ wrong. absurd (omega arith);
   part = λ some.
       let (k, is, same) = line_front text may (no_found 13 text none) some in
-      subst IsInExtension (sym (take_whole text)) (in_extension k text is same found);
+      (refl, subst IsInExtension (sym (take_whole text)) (in_extension k text is same found));
 }
 
 pub place_size : (text : List ℕ) → MayEnd text → list_any (λ b. b == 13) text ≡ false → list_any (λ b. b == 59) text ≡ false
-    → IsLinePlace text (record { end = length text; part = Size })
+    → IsLinePlace text (record { trailers = 0; lines = 0; end = length text; part = Size })
 place_size text may none found = record {
   within = omega arith;
+  lines = λ wrong. absurd (omega arith);
   part = λ some.
       let (k, is, same) = line_front text may (no_found 13 text none) some in
-      subst IsInSize (sym (take_whole text)) (in_size k text is same found);
+      (refl, subst IsInSize (sym (take_whole text)) (in_size k text is same found));
 }
 
 -- ---- places
 
+behind_last : (text : List ℕ) (len : ℕ) → IsLineOf text len 0 → IsLinePlace text (last_line len)
+behind_last text len is = record { within = omega arith; lines = λ _. no_trailers text len is; part = λ wrong. absurd (omega arith) }
+
+pub place_last : (text : List ℕ) (place : LinePlace) (len : ℕ) → place ≡ last_line len → IsLineOf text len 0 → IsLinePlace text place
+place_last text place len is line = let P : LinePlace → Type 0 = λ p. IsLinePlace text p in subst P (sym is) (behind_last text len line)
+
 pub place_beginning : (text : List ℕ) → IsLinePlace text beginning_of_line
-place_beginning text = record { within = omega arith; part = λ wrong. absurd (omega arith) }
+place_beginning text = record { within = omega arith; lines = λ wrong. absurd (omega arith); part = λ wrong. absurd (omega arith) }
 
 pub place_start : (text : List ℕ) (place : LinePlace) → place ≡ beginning_of_line → IsLinePlace text place
 place_start text place is = let P : LinePlace → Type 0 = λ p. IsLinePlace text p in subst P (sym is) (place_beginning text)
 
-pub place_whole : (text : List ℕ) (place : LinePlace) → place.end ≡ length text → IsLinePart place.part text → IsLinePlace text place
-place_whole text place all is = record {
-  within = omega (arith, all);
-  part = λ some. subst (IsLinePart place.part) (sym (ap (λ (n : ℕ). take n text) all ∙ take_whole text)) is;
+-- the part that the text ended in goes on
+pub on_part : (text : List ℕ) (place : LinePlace) → IsLinePart place.part place.trailers text → HasRoom text place.trailers → IsLinePlace text place
+    → IsOnAt text (record { trailers = place.trailers; lines = place.lines; end = length text; part = place.part })
+on_part text place part room is = record {
+  place = record {
+    within = omega arith;
+    lines = is.lines;
+    part = λ _. subst (IsLinePart place.part place.trailers) (sym (take_whole text)) part;
+  };
+  stuck = λ sum small. part_stuck place.part text place.trailers sum part small;
+  may = part_may place.part text place.trailers part room;
 }
+
+-- behind whole trailers the text ends in a part of one
+pub on_trailer : (text : List ℕ) (start lines : ℕ) (field : FieldPart) → HasRoom text start → IsInField field (take (length text - lines) (drop lines text))
+    → AreTrailers text start lines → IsOnAt text (record { trailers = start; lines = lines; end = length text; part = Trailer field })
+on_trailer text start lines field room is are =
+    let part : IsLinePart (Trailer field) start text = (lines, are, subst (IsInField field) (slice_is text start lines are) is) in
+    record {
+      place = record {
+        within = omega arith;
+        lines = λ _. are;
+        part = λ _. subst (IsLinePart (Trailer field) start) (sym (take_whole text)) part;
+      };
+      stuck = λ sum small. part_stuck (Trailer field) text start sum part small;
+      may = part_may (Trailer field) text start part room;
+    }
+
+-- or in something that may become one
+pub on_partial : (text : List ℕ) (start lines : ℕ) → HasRoom text start
+    → HasNoSection (take (length text - lines) (drop lines text)) × MayBecomeSection (take (length text - lines) (drop lines text))
+    → AreTrailers text start lines → IsOnAt text (record { trailers = start; lines = lines; end = 0; part = Size })
+on_partial text start lines room read are =
+    let same = slice_is text start lines are in
+    record {
+      place = record { within = omega arith; lines = λ _. are; part = λ wrong. absurd (omega arith) };
+      stuck = λ sum small. trailers_stuck text start lines sum are (subst HasNoSection same read.0) small;
+      may = trailers_may text start lines are room (subst MayBecomeSection same read.1);
+    }
 
 -- a place is one in a text that goes on
 pub place_more : (text more : List ℕ) (place : LinePlace) → IsLinePlace text place → IsLinePlace (text ++ more) place
 place_more text more place is = record {
   within = omega (arith, is.within, length-append text more);
-  part = λ some. subst (IsLinePart place.part) (sym (take-append-le place.end text more is.within)) (is.part some);
+  lines = λ some. trailers_more text more place.trailers place.lines (is.lines some);
+  part = λ some. subst (IsLinePart place.part place.trailers) (sym (take-append-le place.end text more is.within)) (is.part some);
 }
 
 pub looked_more : (left : Option ℕ) (text more : List ℕ) (place : LinePlace) → IsLooked text left place → IsLooked (text ++ more) left place
@@ -207,26 +272,22 @@ slice_of_place text at left place between is =
     let Q : List ℕ → Type 0 = λ t. IsLinePlace t place in
     subst Q (sym (take_rest text at)) (subst P between is)
 
-pub part_looked : (text : List ℕ) (at : ℕ) (left : Option ℕ) (place : LinePlace) → left ≡ None
-    → (IsLinePlace (slice text at) place → IsLinePart place.part (slice text at))
-    → IsLooked (drop at text) left place → IsLooked (drop at text) left (record { end = length text - at; part = place.part })
-part_looked text at left place between on is =
-    let there : LinePlace = record { end = length text - at; part = place.part } in
-    place_of_slice text at left there between
-    (place_whole (slice text at) there (sym (length-drop at text) ∙ ap length (sym (take_rest text at))) (on (slice_of_place text at left place between is)))
+pub on_looked : (text : List ℕ) (at : ℕ) (left : Option ℕ) (place next : LinePlace) → left ≡ None
+    → (IsLinePlace (slice text at) place → IsOnAt (slice text at) next) → IsLooked (drop at text) left place → IsLooked (drop at text) left next
+on_looked text at left place next between on is =
+    place_of_slice text at left next between (on (slice_of_place text at left place between is)).place
 
-pub part_step : (all text : List ℕ) (at : ℕ) (content : List ℕ) (left : Option ℕ) (place : LinePlace) → left ≡ None
-    → (IsLinePlace (slice text at) place → IsLinePart place.part (slice text at)) → length (slice text at) + 2 ≤ LINE_LIMIT
+pub on_step : (all text : List ℕ) (at : ℕ) (content : List ℕ) (left : Option ℕ) (place next : LinePlace) → left ≡ None
+    → (IsLinePlace (slice text at) place → IsOnAt (slice text at) next)
     → IsInChunks all (drop at text) content left → IsLooked (drop at text) left place → IsCalm all × MayEnd all
-part_step all text at content left place between on short was is =
-    let part : IsLinePart place.part (drop at text) = subst (IsLinePart place.part) (take_rest text at) (on (slice_of_place text at left place between is)) in
-    let need = part_need place.part (drop at text) (length content) part (omega (arith, short, ap length (take_rest text at))) in
+on_step all text at content left place next between on was is =
+    let onward = subst (λ (t : List ℕ). IsOnAt t next) (take_rest text at) (on (slice_of_place text at left place between is)) in
     let I : Option ℕ → Type 0 = λ l. IsInChunks all (drop at text) content l in
     let chunks = subst I between was in
-    (content_calm all (drop at text) content chunks need.0, content_may all (drop at text) content chunks need.1)
+    (content_calm all (drop at text) content chunks (onward.stuck (length content) chunks.short), content_may all (drop at text) content chunks onward.may)
 
-pub part_short : (text : List ℕ) (at : ℕ) → length (slice text at) + 2 ≤ LINE_LIMIT → length (drop at text) < LINE_LIMIT + LINE_LIMIT
-part_short text at short = omega (arith, short, ap length (take_rest text at))
+pub slice_short : (text : List ℕ) (at : ℕ) → length (slice text at) < LINE_LIMIT + LINE_LIMIT → length (drop at text) < LINE_LIMIT + LINE_LIMIT
+slice_short text at short = omega (arith, short, ap length (take_rest text at))
 
 -- within a chunk nothing is said
 pub looked_within : (rest : List ℕ) (left : Option ℕ) (place : LinePlace) (due : ℕ) → left ≡ Some due → IsLooked rest left place

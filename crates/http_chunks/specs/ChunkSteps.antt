@@ -4,6 +4,8 @@ use Rattle.httparse.specs.Ascii.{crlf_bytes}
 use Rattle.httparse.specs.Grammar.{ChunkLine, chunk_size}
 use Rattle.http_chunks.specs.Chunked.{LINE_LIMIT, BODY_LIMIT, Chunk, print_chunk, IsChunk, Ending, print_ending, IsEnding, ReadsChunked, NeverChunked}
 use Rattle.http_chunks.specs.ChunkReading.{ReadsLine, IsLineOf}
+use Rattle.http_chunks.specs.LinePlaces.{IsLinePlace}
+use Rattle.http_chunks.specs.declared.line_place.LinePlace.{LinePlace}
 use Rattle.http_chunks.specs.declared.chunks.DataRead.{DataRead}
 use Rattle.http_chunks.specs.declared.chunks.DataRead.TheVariants as kinds
 use Rattle.http_chunks.specs.declared.chunks.ChunkStep.{ChunkStep}
@@ -35,6 +37,12 @@ pub record MayEnd (text : List ℕ) : Type 0 where
   pub ending : Ending
   pub reads : ReadsChunked (text ++ more) chunks ending []
 
+-- the place is one of the text, in which nothing is whole and content may go on
+pub record IsOnAt (text : List ℕ) (next : LinePlace) : Type 0 where
+  pub place : IsLinePlace text next
+  pub stuck : (sum : ℕ) → sum ≤ BODY_LIMIT → IsStuck text sum
+  pub may : MayEnd text
+
 -- a chunk's line begins the text, takes len bytes and counts size bytes of content
 pub record IsChunkAt (text : List ℕ) (sum len size : ℕ) : Type 0 where
   pub line : IsLineOf text len size
@@ -59,6 +67,6 @@ pub record IsOverflowAt (text : List ℕ) (sum : ℕ) : Type 0 where
 abbrev pub IsChunkStep : List ℕ → ℕ → ChunkStep → Type 0
 IsChunkStep text sum (step.Chunk len size) = IsChunkAt text sum len size
 IsChunkStep text sum (step.End len) = IsEndAt text len
-IsChunkStep text sum step.Need = IsStuck text sum × MayEnd text × (length text < LINE_LIMIT + LINE_LIMIT)
+IsChunkStep text sum (step.Need place) = IsStuck text sum × MayEnd text × (length text < LINE_LIMIT + LINE_LIMIT) × IsLinePlace text place
 IsChunkStep text sum step.TooLong = IsOverflowAt text sum
 IsChunkStep text sum step.Bad = IsStuck text sum × NeverChunked text

@@ -5,6 +5,7 @@ ghost use Rattle.http_chunks.specs.ChunkSteps.{IsDataRead, IsChunkStep};
 use crate::BODY_LIMIT;
 use crate::chunk_line::{LineRead, read_line};
 use crate::front::after_front;
+use crate::line_place::{LinePlace, behind_last, place_of};
 use crate::trailers::{TrailersRead, read_trailers};
 use side_base::NoMemory;
 use std::alloc::Global;
@@ -18,8 +19,8 @@ pub(crate) enum ChunkStep {
     Chunk { len: usize, size: usize },
     /// The last chunk with the trailers: how many bytes they take.
     End { len: usize },
-    /// Bytes that may become one of these.
-    Need,
+    /// Bytes that may become one of these, which were read so far.
+    Need(LinePlace),
     /// A line whose chunk makes the content too long.
     TooLong,
     /// Bytes that cannot become one of these.
@@ -42,7 +43,7 @@ pub(crate) fn read_chunk(alloc: Global, rest: &[u8], sum: u64) -> Result<ChunkSt
     let read = read_line(alloc, rest)?;
     match read {
         LineRead::Whole { len, size } => after_line(alloc, rest, sum, len, size),
-        LineRead::Partial => Ok(ChunkStep::Need),
+        LineRead::Partial => Ok(ChunkStep::Need(place_of(rest))),
         LineRead::Invalid => Ok(ChunkStep::Bad),
     }
 }
@@ -82,7 +83,7 @@ fn after_last(alloc: Global, rest: &[u8], sum: u64, len: usize) -> Result<ChunkS
         TrailersRead::Whole { len: trailers } => Ok(ChunkStep::End {
             len: len + trailers,
         }),
-        TrailersRead::Partial => Ok(ChunkStep::Need),
+        TrailersRead::Partial => Ok(ChunkStep::Need(behind_last(len))),
         TrailersRead::Invalid => Ok(ChunkStep::Bad),
     }
 }

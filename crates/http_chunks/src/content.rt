@@ -3,7 +3,8 @@ ghost use Rattle.http_chunks.specs.ContentSteps.{IsInChunks, IsBounded, IsTaken,
 ghost use Rattle.http_chunks.specs.LinePlaces.{IsLooked};
 
 use crate::chunks::{ChunkStep, DataRead, read_chunk, read_line_end};
-use crate::line_place::{LinePlace, goes_on, place_of, start_of_line};
+use crate::line_place::{LinePlace, start_of_line};
+use crate::trailer_place::place_on;
 use side_base::{Blob, NoMemory};
 use std::alloc::Global;
 
@@ -16,7 +17,7 @@ pub struct Body {
     pub bytes: Blob,
     /// The bytes that have not come of the chunk that was begun, or of content of a known length; `None` between chunks.
     pub left: Option<usize>,
-    /// Between chunks, how far the line was read that stands there.
+    /// Between chunks, how far the line or the trailers were read that stand there.
     pub looked: LinePlace,
 }
 
@@ -34,7 +35,8 @@ pub enum ContentStep {
 }
 
 /// Reads chunks from the place `at` on and moves it behind what it has read, and appends their bytes to the body. Each
-/// byte is read once, however the text goes on, but for those of an end that is not whole; of a line that is not whole only bytes that are new are read.
+/// byte is read once, however the text goes on, but for those of a line or of trailers that are not whole: of these only bytes that are new are read, and
+/// those of one trailer that ends in a carriage return; near their limit they are read anew.
 pub fn read_content(
     alloc: Global,
     text: &[u8],
@@ -99,8 +101,8 @@ fn take_line(
     ensures ends { IfOk result (λ found. IfSome found (λ step. EndsIn (drop at.new text.now) step)) }
     ensures step { IfOk result (λ found. IfSome found (λ step. (all : List ℕ) → IsInChunks all (drop at.old text.now) body.old.bytes body.old.left → IsLooked (drop at.old text.now) body.old.left body.old.looked → IsContentStep all (drop at.new text.now) body.new.bytes step)) }
 {
-    if goes_on(&text[*at..], body.looked) {
-        body.looked.end = text.len() - *at;
+    if let Some(place) = place_on(&text[*at..], body.looked) {
+        body.looked = place;
         return Ok(Some(ContentStep::Need));
     }
     let step = read_chunk(alloc, &text[*at..], body.bytes.len() as u64)?;
@@ -111,8 +113,8 @@ fn take_line(
             Ok(None)
         }
         ChunkStep::End { len } => Ok(Some(ContentStep::Whole { len })),
-        ChunkStep::Need => {
-            body.looked = place_of(&text[*at..]);
+        ChunkStep::Need(place) => {
+            body.looked = place;
             Ok(Some(ContentStep::Need))
         }
         ChunkStep::TooLong => Ok(Some(ContentStep::TooLong)),

@@ -3,6 +3,7 @@ use Rattle.std.proofs.lemmas.List.{take_rest}
 use Rattle.http_chunks.specs.ChunkReading.{HasNoTrailers, AreTrailersRead}
 use Rattle.http_chunks.specs.declared.trailers.TrailersRead.{TrailersRead}
 use Rattle.http_chunks.proofs.ChunkStepLemmas.{after_line_is, stuck_last, end_whole, end_partial, end_invalid, last_short}
+use Rattle.http_chunks.proofs.LinePlaceLemmas.{place_last}
 use Rattle.http_chunks.proofs.chunks.after_last.Goals as goal
 
 pub returns-in-Whole : goal.returns-in-Whole
@@ -25,6 +26,7 @@ returns-in-Partial c =
       stuck_last c.args.rest.now c.args.len c.args.sum c.requires.sum is read.1,
       end_partial c.args.rest.now c.args.len is read.2,
       last_short c.args.rest.now c.args.len is read.0,
+      place_last c.args.rest.now c.behind_last.result c.args.len c.behind_last.ensures is,
     )
 
 pub returns-in-Invalid : goal.returns-in-Invalid

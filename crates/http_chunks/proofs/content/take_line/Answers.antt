@@ -4,7 +4,7 @@ use Rattle.http_chunks.specs.ChunkSteps.{IsChunkStep}
 use Rattle.http_chunks.specs.ContentSteps.{IsInChunks}
 use Rattle.http_chunks.specs.declared.chunks.ChunkStep.{ChunkStep}
 use Rattle.http_chunks.proofs.InChunksLemmas.{line_inside, line_kept, content_calm, content_may, content_never, content_flooded}
-use Rattle.http_chunks.proofs.LinePlaceLemmas.{place_of_slice, part_looked, part_step, part_short}
+use Rattle.http_chunks.proofs.LinePlaceLemmas.{place_of_slice, on_looked, on_step, slice_short}
 use Rattle.http_chunks.proofs.content.take_line.Goals as goal
 
 pub returns-in-Chunk-clause-on : goal.returns-in-Chunk-clause-on
@@ -71,23 +71,19 @@ returns-in-Bad-clause-step c = λ all was seen.
     let found = rw c.in-Bad.is at step in
     (content_calm all _ c.args.body.now.bytes chunks found.0, content_never all _ c.args.body.now.bytes chunks found.1)
 
-pub returns-then-goes_on-clause-looked : goal.returns-then-goes_on-clause-looked
-returns-then-goes_on-clause-looked c = λ seen.
-    part_looked c.args.text.now c.args.at.now c.args.body.now.left c.args.body.now.looked c.requires.between (c.goes_on.ensures.part c.if-goes_on.true) seen
+pub returns-in-Some-clause-looked : goal.returns-in-Some-clause-looked
+returns-in-Some-clause-looked c = λ seen.
+    on_looked c.args.text.now c.args.at.now c.args.body.now.left c.args.body.now.looked c.in-Some.place c.requires.between c.in-Some.ensures.next seen
 
-pub returns-then-goes_on-clause-step : goal.returns-then-goes_on-clause-step
-returns-then-goes_on-clause-step c = λ all was seen.
-    part_step all c.args.text.now c.args.at.now c.args.body.now.bytes c.args.body.now.left c.args.body.now.looked c.requires.between
-    (c.goes_on.ensures.part c.if-goes_on.true) (c.goes_on.ensures.short c.if-goes_on.true) was seen
+pub returns-in-Some-clause-step : goal.returns-in-Some-clause-step
+returns-in-Some-clause-step c = λ all was seen.
+    on_step all c.args.text.now c.args.at.now c.args.body.now.bytes c.args.body.now.left c.args.body.now.looked c.in-Some.place c.requires.between
+    c.in-Some.ensures.next was seen
 
-pub returns-then-goes_on-clause-ends : goal.returns-then-goes_on-clause-ends
-returns-then-goes_on-clause-ends c = part_short c.args.text.now c.args.at.now (c.goes_on.ensures.short c.if-goes_on.true)
-
-pub place_of-body-requires : goal.place_of-body-requires
-place_of-body-requires c =
-    let found = rw c.in-Need.is at c.in_ok-step.ensures in
-    found.1
+pub returns-in-Some-clause-ends : goal.returns-in-Some-clause-ends
+returns-in-Some-clause-ends c = slice_short c.args.text.now c.args.at.now c.in-Some.ensures.short
 
 pub returns-in-Need-clause-looked : goal.returns-in-Need-clause-looked
 returns-in-Need-clause-looked c = λ seen.
-    place_of_slice c.args.text.now c.args.at.now c.args.body.now.left c.place_of-body.result c.requires.between c.place_of-body.ensures
+    let found = rw c.in-Need.is at c.in_ok-step.ensures in
+    place_of_slice c.args.text.now c.args.at.now c.args.body.now.left c.in-Need.place c.requires.between found.3
