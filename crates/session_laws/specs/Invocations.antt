@@ -1,10 +1,9 @@
 -- Calls of an app at its sidecar, and messages that are published, written out.
-use Rattle.std.specs.Prelude.{ℕ, List, [], ◌∷◌, ◌++◌, codes, Some, None, Result, Ok, Err}
+use Rattle.std.specs.Prelude.{ℕ, List, [], ◌∷◌, ◌++◌, codes, None, Result, Ok, Err}
 use Rattle.side_base.specs.declared.method.Method.TheVariants.{Post}
 use Rattle.side_base.specs.declared.message.LinkRequest.{LinkRequest}
 use Rattle.side_base.specs.declared.message.Request.{Request}
 use Rattle.side_base.specs.declared.message.Response.{Response}
-use Rattle.side_world.specs.declared.link.LinkCall.{LinkCall}
 use Rattle.side_world.specs.declared.link.LinkErr.{LinkErr}
 use Rattle.side_world.specs.declared.link.LinkErr.TheVariants as link
 use Rattle.turn_cell.specs.declared.error.ApiErr.{ApiErr}
