@@ -58,7 +58,7 @@ module _ (rules : List Rule) (drawn : ℕ) (event : List ℕ) where
   asks = record { now = 5; step = breaker_step (Admit 5) (Admitted 0 false); answers = record { cmd = refl; reply = refl; fits = tt }; whole = refl }
 
   reports : Reports 0 false report
-  reports = record { now = 9; step = breaker_step (Report 0 9 false) Counted; told = refl; whole = refl }
+  reports = record { now = 9; step = breaker_step (Report 0 9 false) Counted; reply = Counted; answers = record { cmd = refl; reply = refl; fits = tt }; whole = refl }
 
   failed_sent : Sent (guarded_shop rules) row 0 missed (admission ++ call)
   failed_sent = record { admission = admission; post = call; answer = Err Failed; late = false; admitted = (false, asks); posted = free refl refl refl; is_heard = refl; whole = refl }

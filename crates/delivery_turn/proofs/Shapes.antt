@@ -91,7 +91,7 @@ let_through true generation events h = asking _ admission events refl h.1
 let_through false generation events h = ap kinds_of h
 
 reported : (guard : Bool) (generation : ℕ) (good : Bool) (events : List (Event Own)) → IsReported guard generation good events → kinds_of events ≡ behind guard
-reported true generation good events h = ap kinds_of h.whole ∙ ap (λ c. breaker_kind c h.step.reply ∷ []) h.told
+reported true generation good events h = ap kinds_of h.whole ∙ ap (λ c. breaker_kind c h.step.reply ∷ []) h.answers.cmd
 reported false generation good events h = ap kinds_of h
 
 sent : (setting : Setting) (row : Row) (generation : ℕ) (what : Heard) (events : List (Event Own)) → Sent setting row generation what events → kinds_of events ≡ before (guarded setting) ++ call ∷ []

@@ -53,7 +53,7 @@ module _ {E : Type 0} (held : List Step → Type 0) (clock clock' : Clocked) (no
   pub reported : (there : Bool) (generation : ℕ) (good : Bool) (reply : BreakerReply) → there ≡ true → ((step : Step) × Answers step (Report generation now good) reply × held (step ∷ []))
       → (events : List (Event E)) × IsReport there generation good (Ok tt) events × Effects events (λ xs. xs ≡ []) held clock clock' (λ xs. xs ≡ [])
   reported there generation good reply is-there did =
-      (moment now ∷ guarded did.0 ∷ [], subst (λ z. IsReport {E = E} z generation good (Ok tt) (moment now ∷ guarded did.0 ∷ [])) (sym is-there) (record { now = now; step = did.0; told = did.1.cmd; whole = refl }), asked_once did.0 did.2)
+      (moment now ∷ guarded did.0 ∷ [], subst (λ z. IsReport {E = E} z generation good (Ok tt) (moment now ∷ guarded did.0 ∷ [])) (sym is-there) (record { now = now; step = did.0; reply = reply; answers = did.1; whole = refl }), asked_once did.0 did.2)
 
   pub unreported : (there : Bool) (generation : ℕ) (good : Bool) (exhausted : Exhausted) → there ≡ true → held []
       → (events : List (Event E)) × IsReport there generation good (Err exhausted) events × Effects events (λ xs. xs ≡ []) held clock clock' (λ xs. xs ≡ [])

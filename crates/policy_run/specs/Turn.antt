@@ -46,11 +46,12 @@ pub record Asks {E : Type 0} (answer : BreakerReply) (events : List (Event E)) :
   pub answers : Answers step (Admit now) answer
   pub whole : events ≡ moment now ∷ guarded step ∷ []
 
--- the breaker is told how an attempt of this generation ended, at the moment that was read just before
+-- the breaker is told how an attempt of this generation ended, at the moment that was read just before, and answers as it may
 pub record Reports {E : Type 0} (generation : ℕ) (good : Bool) (events : List (Event E)) : Type 0 where
   pub now : ℕ
   pub step : Step
-  pub told : step.cmd ≡ Report generation now good
+  pub reply : BreakerReply
+  pub answers : Answers step (Report generation now good) reply
   pub whole : events ≡ moment now ∷ guarded step ∷ []
 
 module _ {E : Type 0} where

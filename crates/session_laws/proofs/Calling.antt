@@ -5,8 +5,10 @@ use Rattle.side_world.specs.declared.link.LinkCall.{LinkCall}
 use Rattle.side_world.specs.declared.link.LinkErr.{LinkErr}
 use Rattle.side_world.specs.declared.link.LinkErr.TheVariants as link
 use Rattle.breaker_core.specs.declared.command.BreakerCmd.TheVariants.{Admit, Report}
-use Rattle.breaker_core.specs.declared.command.BreakerReply.TheVariants.{Admitted, Opened, Counted}
+use Rattle.breaker_core.specs.declared.command.BreakerReply.TheVariants.{Admitted, Opened, TooMany, Counted, Stale}
+use Rattle.breaker_core.specs.declared.command.BreakerReply.{BreakerReply}
 use Rattle.breaker_core.specs.Course.{says_good}
+use Rattle.breaker_core.specs.Fits.{Fits}
 use Rattle.policy_run.specs.declared.operation.Attempt.{Attempt}
 use Rattle.policy_run.specs.declared.operation.Attempt.TheVariants as attempt
 use Rattle.policy_run.specs.declared.outcome.Outcome.{Outcome}
@@ -15,7 +17,7 @@ use Rattle.policy_run.specs.declared.outcome.Refusal.TheVariants as refusal
 use Rattle.policy_run.specs.Event.{Event, own, guarded, word, moment, pause}
 use Rattle.policy_run.specs.Turn.{Asks, Reports, Turn, CutOff, unasked, unreported}
 use Rattle.policy_run.specs.Attempts.{Attempts, Tried, Ends}
-use Rattle.session_laws.specs.Calls.{AsksOnce, agrees, app_call, asks_breaker, breaker_step, calls_app, failing_call, forced_call, guarded_only, hasty_call, misreported_call, one_more, refused_call, repeated_call, retried_call, retried_only, tells_breaker, unasked_call, unreported_call}
+use Rattle.session_laws.specs.Calls.{AsksOnce, agrees, app_call, asks_breaker, breaker_step, calls_app, failing_call, forced_call, guarded_only, hasty_call, misanswered_call, misreported_call, one_more, refused_call, repeated_call, retried_call, retried_only, tells_breaker, unasked_call, unreported_call}
 
 -- ---- calls
 
@@ -23,7 +25,7 @@ asked : Asks (Admitted 0 false) (asks_breaker (Admitted 0 false))
 asked = record { now = 0; step = breaker_step (Admit 0) (Admitted 0 false); answers = record { cmd = refl; reply = refl; fits = tt }; whole = refl }
 
 told : Reports 0 false (tells_breaker false)
-told = record { now = 0; step = breaker_step (Report 0 0 false) Counted; told = refl; whole = refl }
+told = record { now = 0; step = breaker_step (Report 0 0 false) Counted; reply = Counted; answers = record { cmd = refl; reply = refl; fits = tt }; whole = refl }
 
 fails : AsksOnce 0 (attempt.Bad link.Failed) (calls_app (Err link.Failed))
 fails = record { call = app_call (Err link.Failed); limits = refl; answers = refl; whole = refl }
@@ -154,11 +156,40 @@ turn_tells : (error : LinkErr) (events : List (Event LinkCall)) → Turn true (A
 turn_tells error events t =
     ap fifth (t.whole ∙ ap (λ l. (l ++ t.attempt) ++ t.report) t.admitted.1.whole ∙ ap (λ l. ((moment t.admitted.1.now ∷ guarded t.admitted.1.step ∷ []) ++ l) ++ t.report) t.made.whole
     ∙ ap (λ l. ((moment t.admitted.1.now ∷ guarded t.admitted.1.step ∷ []) ++ (own t.made.call ∷ [])) ++ l) t.reported.whole)
-    ∙ ap says_good t.reported.told
+    ∙ ap says_good t.reported.answers.cmd
 
 pub not_good : Attempts guarded_only AsksOnce (Bad link.Failed) misreported_call → ⊥
 not_good call =
     let failing : fifth misreported_call ≡ false = subst (λ l. fifth l ≡ false) (sym (call.whole ∙ ap (λ l. l ++ call.last) (nothing_before call.words call.before call.tried))) (turn_tells link.Failed call.last call.ends) in
+    let bad : ⊥ = cc in bad
+
+abbrev is_told : BreakerReply → Bool
+is_told (Admitted generation half) = false
+is_told (Opened until) = false
+is_told (TooMany out) = false
+is_told Counted = true
+is_told (Stale current) = true
+
+abbrev fifth_told : List (Event LinkCall) → Bool
+fifth_told (a ∷ b ∷ c ∷ d ∷ guarded step ∷ events) = is_told step.reply
+fifth_told _ = false
+
+fits_told : (generation now : ℕ) (good : Bool) (reply : BreakerReply) → Fits (Report generation now good) reply → is_told reply ≡ true
+fits_told generation now good (Admitted other half) fits = absurd fits
+fits_told generation now good (Opened until) fits = absurd fits
+fits_told generation now good (TooMany out) fits = absurd fits
+fits_told generation now good Counted fits = refl
+fits_told generation now good (Stale current) fits = refl
+
+turn_is_told : (error : LinkErr) (events : List (Event LinkCall)) → Turn true (AsksOnce 0) (attempt.Bad error) events → fifth_told events ≡ true
+turn_is_told error events t =
+    ap fifth_told (t.whole ∙ ap (λ l. (l ++ t.attempt) ++ t.report) t.admitted.1.whole ∙ ap (λ l. ((moment t.admitted.1.now ∷ guarded t.admitted.1.step ∷ []) ++ l) ++ t.report) t.made.whole
+    ∙ ap (λ l. ((moment t.admitted.1.now ∷ guarded t.admitted.1.step ∷ []) ++ (own t.made.call ∷ [])) ++ l) t.reported.whole)
+    ∙ ap is_told t.reported.answers.reply ∙ fits_told t.generation t.reported.now false t.reported.reply t.reported.answers.fits
+
+pub not_answered : Attempts guarded_only AsksOnce (Bad link.Failed) misanswered_call → ⊥
+not_answered call =
+    let told : fifth_told misanswered_call ≡ true = subst (λ l. fifth_told l ≡ true) (sym (call.whole ∙ ap (λ l. l ++ call.last) (nothing_before call.words call.before call.tried))) (turn_is_told link.Failed call.last call.ends) in
     let bad : ⊥ = cc in bad
 
 -- ---- a wait between two attempts

@@ -2,15 +2,16 @@
 use Rattle.std.proofs.Common.{◌≡◌, ℕ, ◌≤◌, suc, true, false, List, [], ◌++◌, length, take, None, refl, ap, subst, arith}
 use Rattle.std.specs.Fmt.{digits}
 use Rattle.byte_lanes.specs.Spelling.{spelled_byte}
-use Rattle.http_frames.specs.declared.refusal.FrameErr.TheVariants.{BothLengths}
+use Rattle.http_frames.specs.declared.refusal.FrameErr.TheVariants.{BothLengths, TooLong}
 use Rattle.http_frames.specs.Written.{written, phrase}
 use Rattle.conn_serve.specs.declared.ended.Ended.TheVariants.{Done, Asked, Closed, ClosedByPeer, Refused, SourceFailed, SinkFailed}
 use Rattle.conn_serve.specs.Session.{refused_bytes}
 use Rattle.sidecar_core.specs.declared.config.Config.{Config}
 use Rattle.sidecar_core.specs.Responses.{no_route}
 use Rattle.state_api.specs.Response.{done}
-use Rattle.session_laws.specs.Sessions.{Plays, asks_health, asks_nowhere, asks_shutdown, asks_once, breaks_off, has_two_lengths, last_no_content, no_content, no_route_answer, two_lengths_answer}
+use Rattle.session_laws.specs.Sessions.{Plays, asks_health, asks_nowhere, asks_shutdown, asks_once, breaks_off, has_long_body, has_two_lengths, last_no_content, no_content, no_route_answer, too_long_answer, two_lengths_answer}
 use Rattle.session_laws.proofs.Composing.{Said, Goes, Stops, goes_none, goes_more, stops_last, plays_done, plays_cut, plays_asked, plays_closed, plays_refused, plays_broken, plays_unread}
+use Rattle.session_laws.proofs.Overlong.{long_body, long_quiet, long_whole}
 use Rattle.session_laws.proofs.Heads.{health_request, nowhere_request, shutdown_request, once_request, health_one, nowhere_one, shutdown_one, once_one, two_lengths, two_whole, two_quiet, broken_whole, broken_accepted, broken_quiet, empty_whole, empty_accepted, empty_quiet}
 use Rattle.session_laws.proofs.Paths.{health_ran, shutdown_ran, nowhere_ran, health_goes, nowhere_goes, shutdown_stops, once_stops}
 
@@ -31,6 +32,10 @@ no_route_bytes = refl
 two_lengths_bytes : refused_bytes BothLengths ≡ two_lengths_answer
 unfolding written phrase digits spelled_byte
 two_lengths_bytes = refl
+
+long_body_bytes : refused_bytes TooLong ≡ too_long_answer
+unfolding written phrase digits spelled_byte
+long_body_bytes = refl
 
 -- ---- sessions
 
@@ -76,6 +81,9 @@ module _ (config : Config) where
 
   pub two_lengths_play : (later : List ℕ) → Plays config (has_two_lengths ++ later) [] two_lengths_answer (Refused BothLengths)
   two_lengths_play later = subst (λ out. Plays config (has_two_lengths ++ later) [] out (Refused BothLengths)) two_lengths_bytes (plays_refused config (has_two_lengths ++ later) BothLengths (two_lengths later) (two_whole later) (two_quiet later))
+
+  pub long_body_play : (later : List ℕ) → Plays config (has_long_body ++ later) [] too_long_answer (Refused TooLong)
+  long_body_play later = subst (λ out. Plays config (has_long_body ++ later) [] out (Refused TooLong)) long_body_bytes (plays_refused config (has_long_body ++ later) TooLong (long_body later) (long_whole later) (long_quiet later))
 
   pub cut_plays : Plays config breaks_off [] [] ClosedByPeer
   cut_plays = plays_broken config breaks_off broken_whole broken_accepted broken_quiet (λ e. let bad : ⊥ = cc in bad)

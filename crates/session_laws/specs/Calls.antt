@@ -117,6 +117,10 @@ unasked_call = calls_app (Err link.Failed)
 abbrev pub misreported_call : List (Event LinkCall)
 misreported_call = asks_breaker (Admitted 0 false) ++ calls_app (Err link.Failed) ++ tells_breaker true
 
+-- a report that the breaker answers as if it was asked to let an attempt through
+abbrev pub misanswered_call : List (Event LinkCall)
+misanswered_call = asks_breaker (Admitted 0 false) ++ calls_app (Err link.Failed) ++ moment 0 ∷ guarded (breaker_step (Report 0 0 false) (Admitted 0 false)) ∷ []
+
 -- an attempt that the breaker refused, and that was made
 abbrev pub forced_call : List (Event LinkCall)
 forced_call = asks_breaker (Opened 60000) ++ calls_app (Ok agrees)

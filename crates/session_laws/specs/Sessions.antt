@@ -66,6 +66,10 @@ asks_once = line (codes "GET /v1.0/healthz HTTP/1.1") ++ line (codes "Host: a") 
 abbrev pub has_two_lengths : List ℕ
 has_two_lengths = line (codes "POST /v1.0/state/statestore HTTP/1.1") ++ line (codes "Host: a") ++ line (codes "Content-Length: 5") ++ line (codes "Transfer-Encoding: chunked") ++ line []
 
+-- the head of a request whose body would have one byte more than 4,194,304
+abbrev pub has_long_body : List ℕ
+has_long_body = line (codes "POST /v1.0/state/statestore HTTP/1.1") ++ line (codes "Host: a") ++ line (codes "Content-Length: 4194305") ++ line []
+
 -- a front of a head
 abbrev pub breaks_off : List ℕ
 breaks_off = codes "GET /v1.0/hea"
@@ -85,6 +89,10 @@ no_route_answer = line (codes "HTTP/1.1 404 Not Found") ++ line (codes "Content-
 abbrev pub two_lengths_answer : List ℕ
 two_lengths_answer = line (codes "HTTP/1.1 400 Bad Request") ++ line (codes "Content-Type: application/json") ++ line (codes "Content-Length: 55") ++ line (codes "Connection: close") ++ line []
     ++ codes "{\"errorCode\":\"ERR_BAD_REQUEST\",\"message\":\"BothLengths\"}"
+
+abbrev pub too_long_answer : List ℕ
+too_long_answer = line (codes "HTTP/1.1 413 Payload Too Large") ++ line (codes "Content-Type: application/json") ++ line (codes "Content-Length: 51") ++ line (codes "Connection: close") ++ line []
+    ++ codes "{\"errorCode\":\"ERR_BAD_REQUEST\",\"message\":\"TooLong\"}"
 
 -- a cell was exhausted at 2^62 calls
 abbrev pub spent_answer : List ℕ

@@ -9,7 +9,7 @@ ghost use Rattle.policy_run.specs.declared.outcome.Refusal.TheVariants.{Opened};
 ghost use Rattle.policy_run.specs.Event.{own_of, step_of};
 ghost use Rattle.policy_run.specs.Attempts.{Attempts};
 ghost use Rattle.session_laws.specs.Calls.{AreStepsAfter, AsksOnce, agrees, failing_call, guarded_only, refused_call, retried_call, retried_only, trips_at_once};
-ghost use Rattle.session_laws.specs.Calls.{forced_call, hasty_call, misreported_call, repeated_call, unasked_call, unreported_call};
+ghost use Rattle.session_laws.specs.Calls.{forced_call, hasty_call, misanswered_call, misreported_call, repeated_call, unasked_call, unreported_call};
 
 /// An app has a breaker that one failing call opens for 60 seconds. A call fails; the next, at the same moment, is refused, and the
 /// app is not called. The breaker answers both so.
@@ -27,12 +27,13 @@ pub fn a_failing_call_is_made_again()
 
 /// Some lists of events are no calls, whatever they come to: an attempt that the breaker let through and is not told of, one for
 /// which it was not asked, one that it refused and that was made, and a further one where no policy is bound. A failing attempt is
-/// not reported as good, and none is made again without a wait.
+/// not reported as good, a report is not answered as an admission, and no attempt is made again without a wait.
 pub fn wrong_calls_are_refused()
     ensures unreported { (outcome : Outcome Response LinkErr) → ¬ Attempts guarded_only AsksOnce outcome unreported_call }
     ensures unasked { (outcome : Outcome Response LinkErr) → ¬ Attempts guarded_only AsksOnce outcome unasked_call }
     ensures forced { (outcome : Outcome Response LinkErr) → ¬ Attempts guarded_only AsksOnce outcome forced_call }
     ensures repeated { (outcome : Outcome Response LinkErr) → ¬ Attempts guarded_only AsksOnce outcome repeated_call }
     ensures misreported { ¬ Attempts guarded_only AsksOnce (Bad Failed) misreported_call }
+    ensures misanswered { ¬ Attempts guarded_only AsksOnce (Bad Failed) misanswered_call }
     ensures hasty { (drawn : ℕ) → ¬ Attempts retried_only AsksOnce (Good agrees) (hasty_call drawn) }
 {}

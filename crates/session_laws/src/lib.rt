@@ -4,6 +4,8 @@
 #![tactic(auto)]
 
 pub mod calls;
+pub mod deliveries;
+pub mod routes;
 pub mod sessions;
 pub mod stores;
 pub mod workers;

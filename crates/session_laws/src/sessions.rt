@@ -1,12 +1,12 @@
 //! Sessions of connections, by the bytes that are read and written.
 ghost use Rattle.std.specs.Prelude.{◌≢◌, ◌≤◌, ◌++◌, ℕ, List, [], length, take};
-ghost use Rattle.http_frames.specs.declared.refusal.FrameErr.TheVariants.{BothLengths};
+ghost use Rattle.http_frames.specs.declared.refusal.FrameErr.TheVariants.{BothLengths, TooLong};
 ghost use Rattle.http_frames.specs.Streams.{Whole, IsStream};
 ghost use Rattle.conn_serve.specs.declared.ended.Ended.TheVariants.{Done, Closed, Asked, ClosedByPeer, Refused, SourceFailed, SinkFailed};
 ghost use Rattle.sidecar_core.specs.declared.config.Config.{Config};
 ghost use Rattle.sidecar_core.specs.declared.doing.Doing.{Doing};
 ghost use Rattle.session_laws.specs.Sessions.{NoWishForgotten, NoneAnsweredBehind, NoneEarlyBehind, Plays};
-ghost use Rattle.session_laws.specs.Sessions.{asks_health, asks_nowhere, asks_shutdown, asks_once, breaks_off, has_two_lengths, last_no_content, no_content, no_route_answer, two_lengths_answer};
+ghost use Rattle.session_laws.specs.Sessions.{asks_health, asks_nowhere, asks_shutdown, asks_once, breaks_off, has_long_body, has_two_lengths, last_no_content, no_content, no_route_answer, too_long_answer, two_lengths_answer};
 
 use http_frames::laws::streams_are_unique;
 
@@ -27,6 +27,11 @@ pub fn later_bytes_are_not_answered()
 /// A request with a length and chunks is refused, whatever follows its head.
 pub fn two_lengths_are_refused()
     ensures { (config : Config) (later : List ℕ) → Plays config (has_two_lengths ++ later) [] two_lengths_answer (Refused BothLengths) }
+{}
+
+/// A request that says that its body has one byte more than 4,194,304 is refused, whatever follows its head.
+pub fn a_body_over_the_limit_is_refused()
+    ensures { (config : Config) (later : List ℕ) → Plays config (has_long_body ++ later) [] too_long_answer (Refused TooLong) }
 {}
 
 /// Bytes that end inside a head are not answered, and no bytes are a session; a read may fail at either, and of the response a front is

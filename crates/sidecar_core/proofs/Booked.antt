@@ -46,6 +46,8 @@ module _ {O : Type 0} (kinds : Kinds O) (cells : CellsAt O) (seats : SeatsAt O) 
         ledgers = growing.each_none kinds.ledger cells.ledgers seats.ledgers (λ k. []) (λ k. refl);
         breakers = growing.each_none kinds.breaker cells.breakers seats.breakers (λ k. []) (λ k. refl);
         notes = growing.called kinds.notes cells.notes.first seats.notes cmd reply after did;
+        queued = refl;
+        rang = refl;
         times = le_refl clock.last;
         pauses = rises_nothing clock.paused;
         ticks = tells_nothing clock.ticks;
@@ -64,6 +66,8 @@ module _ {O : Type 0} (kinds : Kinds O) (cells : CellsAt O) (seats : SeatsAt O) 
         ledgers = growing.each_none kinds.ledger cells.ledgers seats.ledgers (λ k. []) (λ k. refl);
         breakers = growing.each_none kinds.breaker cells.breakers seats.breakers (λ k. []) (λ k. refl);
         notes = growing.exhausted kinds.notes cells.notes.first seats.notes count after did;
+        queued = refl;
+        rang = refl;
         times = le_refl clock.last;
         pauses = rises_nothing clock.paused;
         ticks = tells_nothing clock.ticks;
@@ -87,6 +91,8 @@ module _ {O : Type 0} (kinds : Kinds O) (cells : CellsAt O) (seats : SeatsAt O) 
             (λ k far. (λ i. (at_place place place k step).1 far i ++ []));
         breakers = growing.each_none kinds.breaker cells.breakers seats.breakers (λ k. []) (λ k. refl);
         notes = growing.grew_none kinds.notes cells.notes.first seats.notes;
+        queued = refl;
+        rang = refl;
         times = le_refl clock.last;
         pauses = rises_nothing clock.paused;
         ticks = tells_nothing clock.ticks;
@@ -105,6 +111,8 @@ module _ {O : Type 0} (kinds : Kinds O) (cells : CellsAt O) (seats : SeatsAt O) 
         ledgers = growing.each_one kinds.ledger cells.ledgers seats.ledgers (λ k. []) place cell seat after at here (growing.exhausted kinds.ledger cell.first seat e.count after did) (λ k far. refl);
         breakers = growing.each_none kinds.breaker cells.breakers seats.breakers (λ k. []) (λ k. refl);
         notes = growing.grew_none kinds.notes cells.notes.first seats.notes;
+        queued = refl;
+        rang = refl;
         times = le_refl clock.last;
         pauses = rises_nothing clock.paused;
         ticks = tells_nothing clock.ticks;

@@ -24,7 +24,7 @@ use Rattle.breaker_core.specs.Course.{Step as BreakerStep}
 use Rattle.policy_run.specs.Event.{Event, own, guarded, word, moment, pause, own_of, step_of, word_of, pause_of, tick_of}
 use Rattle.policy_run.specs.Event.{moment_in as moment_of_call}
 use Rattle.policy_run.specs.Effects.{Clocked, Effects}
-use Rattle.sidecar_core.specs.Doing.{one_at, placed, stored_at, entered_at, broke_at, noted_in, asked_in, word_in, moment_in, pause_in, tick_in}
+use Rattle.sidecar_core.specs.Doing.{one_at, placed, stored_at, entered_at, broke_at, noted_in, queued_in, rang_in, asked_in, word_in, moment_in, pause_in, tick_in}
 use Rattle.std.specs.Prelude.{unwrap_or, ◌<◌}
 use Rattle.std.specs.Option.{ForSome}
 use Rattle.turn_cell.specs.declared.error.ApiErr.{ApiErr}
@@ -116,6 +116,22 @@ module _ (i j : ℕ) where
   noted_nowhere (moment m ∷ events) = noted_nowhere events
   noted_nowhere (pause ms ∷ events) = noted_nowhere events
 
+  pub queued_nowhere : (events : List (Event StoreStep)) → flat_map queued_in (map (placed i j) events) ≡ []
+  queued_nowhere [] = refl
+  queued_nowhere (own step ∷ events) = queued_nowhere events
+  queued_nowhere (guarded step ∷ events) = queued_nowhere events
+  queued_nowhere (word w ∷ events) = queued_nowhere events
+  queued_nowhere (moment m ∷ events) = queued_nowhere events
+  queued_nowhere (pause ms ∷ events) = queued_nowhere events
+
+  pub rang_nowhere : (events : List (Event StoreStep)) → flat_map rang_in (map (placed i j) events) ≡ []
+  rang_nowhere [] = refl
+  rang_nowhere (own step ∷ events) = rang_nowhere events
+  rang_nowhere (guarded step ∷ events) = rang_nowhere events
+  rang_nowhere (word w ∷ events) = rang_nowhere events
+  rang_nowhere (moment m ∷ events) = rang_nowhere events
+  rang_nowhere (pause ms ∷ events) = rang_nowhere events
+
   pub asked_nowhere : (events : List (Event StoreStep)) → flat_map asked_in (map (placed i j) events) ≡ []
   asked_nowhere [] = refl
   asked_nowhere (own step ∷ events) = asked_nowhere events
@@ -171,6 +187,8 @@ module _ {O : Type 0} (kinds : Kinds O) (cells : CellsAt O) (seats : SeatsAt O) 
       ledgers = each_none kinds.ledger cells.ledgers seats.ledgers (λ k. flat_map (entered_at k) (map (placed i j) events)) (λ k. entered_nowhere i j k events);
       breakers = grew;
       notes = subst (λ l. Grew kinds.notes cells.notes.first seats.notes l seats.notes) (sym (noted_nowhere i j events)) (grew_none kinds.notes cells.notes.first seats.notes);
+      queued = queued_nowhere i j events;
+      rang = rang_nowhere i j events;
       times = subst (λ l. Between clock.last l clock'.last) (sym (moments_there i j events)) e.times;
       pauses = subst (λ l. Rises clock.paused (sum_by (λ (n : ℕ). n) l) clock'.paused) (sym (pauses_there i j events)) e.pauses;
       ticks = subst (λ l. Tells clock.ticks clock'.ticks l) (sym (ticks_there i j events)) e.ticks;

@@ -14,7 +14,7 @@ use Rattle.turn_cell.proofs.Growing.{grew_none, grew_more, each_none, each_on, e
 use Rattle.turn_cell.proofs.Passes.{still_seated, still_roots, still_sound}
 use Rattle.policy_run.specs.Effects.{Clocked}
 use Rattle.sidecar_core.specs.declared.doing.Doing.{Doing}
-use Rattle.sidecar_core.specs.Doing.{stored_at, entered_at, broke_at, noted_in, asked_in, word_in, moment_in, pause_in, tick_in}
+use Rattle.sidecar_core.specs.Doing.{stored_at, entered_at, broke_at, noted_in, queued_in, rang_in, asked_in, word_in, moment_in, pause_in, tick_in}
 use Rattle.sidecar_core.specs.Did.{Kinds, CellsAt, SeatsAt, Did, IsPassOf, IsLone, IsSoundPass, Standing, Went, Does}
 
 -- one part after another
@@ -26,6 +26,8 @@ did_on kinds cells seats first between second seats' clock middle clock' calls t
   ledgers = each_same kinds.ledger cells.ledgers seats.ledgers _ (λ k. flat_map (entered_at k) (first ++ second)) seats'.ledgers (λ k. sym (flat_map-append (entered_at k) first second)) (each_on kinds.ledger cells.ledgers seats.ledgers (λ k. flat_map (entered_at k) first) between.ledgers (λ k. flat_map (entered_at k) second) seats'.ledgers d.ledgers e.ledgers);
   breakers = each_same kinds.breaker cells.breakers seats.breakers _ (λ k. flat_map (broke_at k) (first ++ second)) seats'.breakers (λ k. sym (flat_map-append (broke_at k) first second)) (each_on kinds.breaker cells.breakers seats.breakers (λ k. flat_map (broke_at k) first) between.breakers (λ k. flat_map (broke_at k) second) seats'.breakers d.breakers e.breakers);
   notes = subst (λ l. Grew kinds.notes cells.notes.first seats.notes l seats'.notes) (sym (flat_map-append noted_in first second)) (grew_more kinds.notes cells.notes.first seats.notes (flat_map noted_in first) between.notes (flat_map noted_in second) seats'.notes d.notes e.notes);
+  queued = flat_map-append queued_in first second ∙ ap (λ l. l ++ flat_map queued_in second) d.queued ∙ e.queued;
+  rang = flat_map-append rang_in first second ∙ ap (λ l. l ++ flat_map rang_in second) d.rang ∙ e.rang;
   times = subst (λ ms. Between clock.last ms clock'.last) (sym (flat_map-append moment_in first second)) (between_on clock.last (flat_map moment_in first) middle.last (flat_map moment_in second) clock'.last d.times e.times);
   pauses = subst (λ ms. Rises clock.paused (sum_by (λ (n : ℕ). n) ms) clock'.paused) (sym (flat_map-append pause_in first second))
       (subst (λ n. Rises clock.paused n clock'.paused) (sym (sum_by-append (λ (n : ℕ). n) (flat_map pause_in first) (flat_map pause_in second)))
@@ -42,6 +44,8 @@ did_none kinds cells seats clock calls drawn none-drawn = record {
   ledgers = each_none kinds.ledger cells.ledgers seats.ledgers (λ k. []) (λ k. refl);
   breakers = each_none kinds.breaker cells.breakers seats.breakers (λ k. []) (λ k. refl);
   notes = grew_none kinds.notes cells.notes.first seats.notes;
+  queued = refl;
+  rang = refl;
   times = le_refl clock.last;
   pauses = rises_nothing clock.paused;
   ticks = tells_nothing clock.ticks;

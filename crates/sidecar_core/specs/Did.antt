@@ -1,5 +1,5 @@
 -- What events did: to the seats of a pass, to the clock, the link and the random words.
-use Rattle.std.specs.Prelude.{◌≡◌, ℕ, List, Option, Some}
+use Rattle.std.specs.Prelude.{◌≡◌, ℕ, List, [], Option, Some}
 use Rattle.std.specs.List.{sum_by, flat_map}
 use Rattle.std.specs.Option.{option_or}
 use mathlib.Core.Option.{some}
@@ -26,7 +26,7 @@ use Rattle.meta_api.specs.declared.command.NotesCmd.{NotesCmd}
 use Rattle.meta_api.specs.declared.command.NotesReply.{NotesReply}
 use Rattle.policy_run.specs.Effects.{Clocked}
 use Rattle.sidecar_core.specs.declared.doing.Doing.{Doing}
-use Rattle.sidecar_core.specs.Doing.{stored_at, entered_at, broke_at, noted_in, asked_in, word_in, moment_in, pause_in, tick_in}
+use Rattle.sidecar_core.specs.Doing.{stored_at, entered_at, broke_at, noted_in, queued_in, rang_in, asked_in, word_in, moment_in, pause_in, tick_in}
 
 -- what the objects of each kind are, by their traits
 pub record Kinds (O : Type 0) : Type 1 where
@@ -50,12 +50,15 @@ pub record SeatsAt (O : Type 0) : Type 0 where
   pub notes : Sitting Notes NotesCmd NotesReply
 
 -- Each kind of event in order is what was done there: at each place the steps of the seat there, the calls of the link, the random words, and what the clock was
--- asked. Moments don't fall, and lie between what the clock told last before and after
+-- asked. Moments don't fall, and lie between what the clock told last before and after. A pass has no seat for the turns of actors and none for the ticks of cron
+-- components, so of them nothing is done
 pub record Did {O : Type 0} (kinds : Kinds O) (cells : CellsAt O) (seats : SeatsAt O) (events : List Doing) (seats' : SeatsAt O) (clock clock' : Clocked) (calls calls' : Option (List LinkCall)) (drawn : List ℕ → Type 0) : Type 0 where
   pub stores : EachGrew kinds.store cells.stores seats.stores (λ k. flat_map (stored_at k) events) seats'.stores
   pub ledgers : EachGrew kinds.ledger cells.ledgers seats.ledgers (λ k. flat_map (entered_at k) events) seats'.ledgers
   pub breakers : EachGrew kinds.breaker cells.breakers seats.breakers (λ k. flat_map (broke_at k) events) seats'.breakers
   pub notes : Grew kinds.notes cells.notes.first seats.notes (flat_map noted_in events) seats'.notes
+  pub queued : flat_map queued_in events ≡ []
+  pub rang : flat_map rang_in events ≡ []
   pub times : Between clock.last (flat_map moment_in events) clock'.last
   pub pauses : Rises clock.paused (sum_by (λ (ms : ℕ). ms) (flat_map pause_in events)) clock'.paused
   pub ticks : Tells clock.ticks clock'.ticks (flat_map tick_in events)

@@ -129,7 +129,7 @@ pub data SetsNote (name value : List ℕ) (events : List Doing) (reply : Result 
 
 -- ---- all routes
 
--- what a route's request is answered
+-- What a route's request is answered. Calls of apps, messages and requests to output bindings are not served yet; what the first and the last of them will do stands in Invoking.antt and Binding.antt
 abbrev pub Answered : Config → Request → Result Route RouteErr → List Doing → Result Response ApiErr → Type 0
 Answered config request (Ok (route.Save store)) events reply = AtStore config request (route.Save store) store events reply
 Answered config request (Ok (route.Get store key)) events reply = AtStore config request (route.Get store key) store events reply

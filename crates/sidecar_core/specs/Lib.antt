@@ -7,6 +7,10 @@ pub mod Site
 pub mod Sites
 pub mod Responses
 pub mod Exchange
+pub mod Linked
+pub mod Passed
+pub mod Invoking
+pub mod Binding
 pub mod Desk
 pub mod Started
 pub mod Delivery

@@ -1,4 +1,6 @@
+use actor_turns::{TurnsCmd, TurnsReply};
 use breaker_core::{BreakerCmd, BreakerReply};
+use cron_bind::{TicksCmd, TicksReply};
 use ledger_core::{LedgerCmd, LedgerReply};
 use meta_api::{NotesCmd, NotesReply};
 use side_world::LinkCall;
@@ -16,6 +18,10 @@ pub enum Doing {
     Broke(usize, Entry<BreakerCmd, BreakerReply>),
     /// A step of the book of metadata.
     Noted(Entry<NotesCmd, NotesReply>),
+    /// A step of the turns of actors.
+    Queued(Entry<TurnsCmd, TurnsReply>),
+    /// A step of the ticks of cron components.
+    Rang(Entry<TicksCmd, TicksReply>),
     /// A call of the link, with its answer.
     Asked(LinkCall),
     /// A random word that was drawn.

@@ -1,4 +1,4 @@
-use Rattle.session_laws.proofs.Calling.{no_report, not_asked, not_let_through, not_bound, not_good, not_hasty}
+use Rattle.session_laws.proofs.Calling.{no_report, not_asked, not_let_through, not_bound, not_answered, not_good, not_hasty}
 use Rattle.session_laws.proofs.calls.wrong_calls_are_refused.Goals as goal
 
 pub returns-clause-unreported : goal.returns-clause-unreported
@@ -15,6 +15,9 @@ returns-clause-repeated c outcome = not_bound outcome
 
 pub returns-clause-misreported : goal.returns-clause-misreported
 returns-clause-misreported c = not_good
+
+pub returns-clause-misanswered : goal.returns-clause-misanswered
+returns-clause-misanswered c = not_answered
 
 pub returns-clause-hasty : goal.returns-clause-hasty
 returns-clause-hasty c drawn = not_hasty drawn
