@@ -1,4 +1,5 @@
 mod AnswerLemmas
+mod BlankLemmas
 mod EndLemmas
 mod FeedLemmas
 mod FramerLemmas

@@ -1,14 +1,16 @@
 -- The whole lines of a head, and what stands behind them.
-use Rattle.std.proofs.Common.{◌≡◌, ℕ, ◌+◌, ◌-◌, ◌<◌, ◌≤◌, Bool, true, false, not, ◌==◌, List, [], ◌∷◌, ◌++◌, length, take, drop, ◌⊎◌, inl, inr, refl, sym, ap, ◌∙◌, subst, arith, append_assoc, append-nil, get_or, get_or-drop, length-take, length-drop, take-append-drop}
-use Rattle.std.specs.List.{All, flat_map, list_all}
+use Rattle.std.proofs.Common.{◌≡◌, ℕ, ◌+◌, ◌-◌, ◌<◌, ◌≤◌, true, false, not, ◌==◌, List, [], ◌∷◌, ◌++◌, length, take, drop, ◌⊎◌, inl, inr, refl, sym, ap, ◌∙◌, subst, arith, append_assoc, append-nil, get_or, get_or-drop, length-take, length-drop, take-append-drop}
+use Rattle.std.specs.List.{All, list_all}
 use Rattle.std.proofs.lemmas.Bool.{false≢true, eqb-true}
 use Rattle.std.proofs.lemmas.List.{append_cancel_right, take-append-le, take_more, drop_more, take_rest}
-use Rattle.std.proofs.lemmas.List.Elements.{All-nil, All-cons, All-head, All-tail, All-append}
+use Rattle.std.proofs.lemmas.List.Elements.{All-nil, All-append}
 use Rattle.std.proofs.lemmas.List.Sums.{AllPass-from_list_all}
-use Rattle.httparse.specs.Grammar.{RequestHead, IsRequestHead, ReadsRequest, HasNoRequest, NeverHasRequest, MayBecomeRequest, Field, IsField, print_field, print_section, ReadsSection, HasNoSection, NeverHasSection, MayBecomeSection, LineEnd, crlf, lf, print_end, print_blank, print_version, IsToken, AllPass, is_token_byte, is_uri_byte, is_value_byte}
+use Rattle.httparse.specs.Grammar.{RequestHead, IsRequestHead, ReadsRequest, HasNoRequest, NeverHasRequest, MayBecomeRequest, Field, IsField, print_field, print_section, ReadsSection, HasNoSection, NeverHasSection, MayBecomeSection, LineEnd, crlf, lf, print_end, print_blank, print_version, IsToken, AllPass, is_token_byte, is_uri_byte}
 use Rattle.httparse.specs.Pieces.{RequestStart, is_newline}
 use Rattle.httparse.proofs.GrammarLemmas.{request_tree, request_pieces, request_from_pieces, print_request-append, cons-append}
 use Rattle.httparse.proofs.PieceLemmas.{RequestStart_deterministic, Section_skip, Stops_token}
+use Rattle.http_chunks.proofs.ByteLemmas.{No, no_of, no_append, no_cons, no_none}
+use Rattle.http_chunks.proofs.FieldLemmas.{lines_of, cut_line, before_feed, before_no_feed, end_is, line_no_feed, EndsFields, HasSection, token_stops, token_no_feed, cut_section}
 use Rattle.http_frames.specs.HeadRules.{HEAD_LIMIT}
 use Rattle.http_frames.specs.Lines.{OpensHead, AreLines}
 
@@ -33,9 +35,6 @@ start_reads h is rest = (
     (_, ((is.target.0, is.target.1, refl), is.target_text), (_, (is.minor, refl), refl)),
   ),
 )
-
-abbrev pub lines_of : List Field → List ℕ
-lines_of fields = flat_map print_field fields
 
 -- whole lines are a start line and fields
 open_is : (front : List ℕ) (is : OpensHead front) → front ≡ start_on is.head [] ++ lines_of is.head.fields
@@ -112,59 +111,6 @@ never_behind front text is never more k rest reads =
 
 -- ---- where lines end
 
-abbrev pub NoFeed : List ℕ → Type 0
-NoFeed bytes = All (λ (b : ℕ). b ≡ 10 → ⊥) bytes
-
-no_feed_of : (test : ℕ → Bool) → test 10 ≡ false → (bytes : List ℕ) → All (λ b. test b ≡ true) bytes → NoFeed bytes
-no_feed_of test stop [] all = All-nil (λ (b : ℕ). b ≡ 10 → ⊥)
-no_feed_of test stop (b ∷ bytes) all =
-    let here : test b ≡ true = All-head (λ v. test v ≡ true) b bytes all in
-    All-cons (λ (x : ℕ). x ≡ 10 → ⊥) b bytes (λ e. false≢true (sym stop ∙ ap test (sym e) ∙ here))
-    (no_feed_of test stop bytes (All-tail (λ v. test v ≡ true) b bytes all))
-
-no_feed_append : (a b : List ℕ) → NoFeed a → NoFeed b → NoFeed (a ++ b)
-no_feed_append a b x y = All-append (λ (v : ℕ). v ≡ 10 → ⊥) a b x y
-
-no_feed_cons : (b : ℕ) (bytes : List ℕ) → (b ≡ 10 → ⊥) → NoFeed bytes → NoFeed (b ∷ bytes)
-no_feed_cons b bytes here rest = All-cons (λ (v : ℕ). v ≡ 10 → ⊥) b bytes here rest
-
-pub no_feed_none : (body l m : List ℕ) → NoFeed body → body ≡ l ++ 10 ∷ m → ⊥
-no_feed_none [] [] m none e = cc
-no_feed_none [] (y ∷ l) m none e = cc
-no_feed_none (b ∷ body) [] m none e = All-head (λ (v : ℕ). v ≡ 10 → ⊥) b body none (cc)
-no_feed_none (b ∷ body) (y ∷ l) m none e = no_feed_none body l m (All-tail (λ (v : ℕ). v ≡ 10 → ⊥) b body none) (cc)
-
--- a line feed stands at the end of the first line or behind it
-abbrev Cut : List ℕ → List ℕ → List ℕ → List ℕ → Type 0
-Cut body rest l m = ((l ≡ body) × (rest ≡ m)) ⊎ ((k : List ℕ) × (l ≡ body ++ 10 ∷ k) × (rest ≡ k ++ 10 ∷ m))
-
-cut_line : (body rest l m : List ℕ) → NoFeed body → body ++ 10 ∷ rest ≡ l ++ 10 ∷ m → Cut body rest l m
-cut_line [] rest [] m none e = inl (refl, cc)
-cut_line [] rest (y ∷ l) m none e = inr (l, cc, cc)
-cut_line (b ∷ body) rest [] m none e = absurd (All-head (λ (v : ℕ). v ≡ 10 → ⊥) b body none (cc))
-cut_line (b ∷ body) rest (y ∷ l) m none e =
-    let same : b ≡ y = cc in
-    elim (cut_line body rest l m (All-tail (λ (v : ℕ). v ≡ 10 → ⊥) b body none) (cc)) [
-      | inl (is, at) ↦ inl (λ i. sym same i ∷ is i, at)
-      | inr (k, is, at) ↦ inr (k, λ i. sym same i ∷ is i, at)
-    ]
-
--- a line end is a line feed, which a carriage return may stand before
-abbrev pub before_feed : LineEnd → List ℕ
-before_feed crlf = 13 ∷ []
-before_feed lf = []
-
-before_no_feed : (end : LineEnd) → NoFeed (before_feed end)
-before_no_feed crlf = no_feed_cons 13 [] (λ e. omega (arith, e)) (All-nil (λ (v : ℕ). v ≡ 10 → ⊥))
-before_no_feed lf = All-nil (λ (v : ℕ). v ≡ 10 → ⊥)
-
-pub end_is : (body : List ℕ) (end : LineEnd) (rest : List ℕ) → body ++ (print_end end ++ rest) ≡ (body ++ before_feed end) ++ 10 ∷ rest
-end_is body crlf rest = sym (append_assoc body (13 ∷ []) (10 ∷ rest))
-end_is body lf rest = ap (λ (t : List ℕ). t ++ 10 ∷ rest) (sym (append-nil body))
-
-line_no_feed : (body : List ℕ) (end : LineEnd) → NoFeed body → NoFeed (body ++ before_feed end)
-line_no_feed body end none = no_feed_append body (before_feed end) none (before_no_feed end)
-
 -- the empty lines in front are line ends alone
 pub cut_blank : (ends : List LineEnd) (rest l m : List ℕ) → print_blank ends ++ rest ≡ l ++ 10 ∷ m → list_all is_newline l ≡ false
     → (k : List ℕ) × (l ≡ print_blank ends ++ k) × (rest ≡ k ++ 10 ∷ m)
@@ -182,90 +128,23 @@ cut_blank (crlf ∷ ends) rest l m e some = elim (cut_line (13 ∷ []) (print_bl
       (others.0, is ∙ ap (λ (t : List ℕ). 13 ∷ 10 ∷ t) others.1, others.2)
 ]
 
--- in a section a line feed ends a field, or comes with the end of the section or behind it
-record EndsFields (l : List ℕ) : Type 0 where
-  fields : List Field
-  valid : All IsField fields
-  is : l ++ 10 ∷ [] ≡ lines_of fields
-
-record HasSection (fields : List Field) (last : LineEnd) (l : List ℕ) : Type 0 where
-  more : List ℕ
-  is : l ++ 10 ∷ [] ≡ print_section fields last ++ more
-
-token_stops : is_token_byte 10 ≡ false
-unfolding is_token_byte
-token_stops = refl
-
-pub field_no_feed : (f : Field) → IsField f → NoFeed (f.name ++ 58 ∷ f.raw)
-field_no_feed f is =
-    no_feed_append f.name (58 ∷ f.raw) (no_feed_of is_token_byte token_stops f.name is.name.1)
-    (no_feed_cons 58 f.raw (λ e. omega (arith, e)) (no_feed_of is_value_byte refl f.raw is.raw))
-
-field_on : (f : Field) (rest : List ℕ) → print_field f ++ rest ≡ ((f.name ++ 58 ∷ f.raw) ++ before_feed f.end) ++ 10 ∷ rest
-field_on f rest = regroup f.name f.raw (print_end f.end) rest ∙ end_is (f.name ++ 58 ∷ f.raw) f.end rest
-  where
-    regroup : (a b e r : List ℕ) → (a ++ 58 ∷ b ++ e) ++ r ≡ (a ++ 58 ∷ b) ++ (e ++ r)
-    regroup a b e r = simp append_assoc
-
-cut_section : (fields : List Field) (last : LineEnd) (rest l m : List ℕ) → All IsField fields → print_section fields last ++ rest ≡ l ++ 10 ∷ m
-    → EndsFields l ⊎ HasSection fields last l
-cut_section [] last rest l m all e =
-    elim (cut_line (before_feed last) rest l m (before_no_feed last) (sym (end_is [] last rest) ∙ e)) [
-      | inl (is, at) ↦ inr (record { more = []; is = ap (λ (t : List ℕ). t ++ 10 ∷ []) is ∙ sym (end_is [] last []) })
-      | inr (k, is, at) ↦ inr (record {
-        more = k ++ 10 ∷ [];
-        is = ap (λ (t : List ℕ). t ++ 10 ∷ []) is ∙ append_assoc (before_feed last) (10 ∷ k) (10 ∷ []) ∙ sym (end_is [] last (k ++ 10 ∷ []));
-      })
-    ]
-cut_section (f ∷ fields) last rest l m all e =
-    let valid = All-head IsField f fields all in
-    let body = (f.name ++ 58 ∷ f.raw) ++ before_feed f.end in
-    let line = line_no_feed (f.name ++ 58 ∷ f.raw) f.end (field_no_feed f valid) in
-    elim (cut_line body (print_section fields last ++ rest) l m line (sym (field_on f (print_section fields last ++ rest)) ∙ opened f fields last rest ∙ e)) [
-      | inl (is, at) ↦ inl (record {
-        fields = f ∷ [];
-        valid = All-cons IsField f [] valid (All-nil IsField);
-        is = ap (λ (t : List ℕ). t ++ 10 ∷ []) is ∙ sym (field_on f []);
-      })
-      | inr (k, is, at) ↦ elim (cut_section fields last rest k m (All-tail IsField f fields all) at) [
-        | inl ends ↦ inl (record {
-          fields = f ∷ ends.fields;
-          valid = All-cons IsField f ends.fields valid ends.valid;
-          is = ap (λ (t : List ℕ). t ++ 10 ∷ []) is ∙ append_assoc body (10 ∷ k) (10 ∷ []) ∙ sym (field_on f (k ++ 10 ∷ []))
-              ∙ ap (λ (t : List ℕ). print_field f ++ t) ends.is;
-        })
-        | inr has ↦ inr (record {
-          more = has.more;
-          is = ap (λ (t : List ℕ). t ++ 10 ∷ []) is ∙ append_assoc body (10 ∷ k) (10 ∷ []) ∙ sym (field_on f (k ++ 10 ∷ []))
-              ∙ ap (λ (t : List ℕ). print_field f ++ t) has.is ∙ opened f fields last has.more;
-        })
-      ]
-    ]
-  where
-    opened : (f : Field) (fields : List Field) (last : LineEnd) (rest : List ℕ)
-        → print_field f ++ (print_section fields last ++ rest) ≡ print_section (f ∷ fields) last ++ rest
-    opened f fields last rest = regroup (print_field f) (lines_of fields) (print_end last) rest
-      where
-        regroup : (a b e r : List ℕ) → a ++ ((b ++ e) ++ r) ≡ ((a ++ b) ++ e) ++ r
-        regroup a b e r = simp append_assoc
-
 -- the start line
 unfoldable pub start_body : RequestHead → List ℕ
 start_body h = h.method ++ 32 ∷ (h.target ++ 32 ∷ print_version h.minor)
 
-version_no_feed : (minor : ℕ) → NoFeed (print_version minor)
+version_no_feed : (minor : ℕ) → No 10 (print_version minor)
 version_no_feed minor =
-    no_feed_append (72 ∷ 84 ∷ 84 ∷ 80 ∷ 47 ∷ 49 ∷ 46 ∷ []) ((48 + minor) ∷ [])
-    (no_feed_of (λ b. not (b == 10)) refl (72 ∷ 84 ∷ 84 ∷ 80 ∷ 47 ∷ 49 ∷ 46 ∷ [])
+    no_append 10 (72 ∷ 84 ∷ 84 ∷ 80 ∷ 47 ∷ 49 ∷ 46 ∷ []) ((48 + minor) ∷ [])
+    (no_of 10 (λ b. not (b == 10)) refl (72 ∷ 84 ∷ 84 ∷ 80 ∷ 47 ∷ 49 ∷ 46 ∷ [])
     (AllPass-from_list_all (λ b. not (b == 10)) (72 ∷ 84 ∷ 84 ∷ 80 ∷ 47 ∷ 49 ∷ 46 ∷ []) refl))
-    (no_feed_cons (48 + minor) [] (λ e. omega (arith, e)) (All-nil (λ (v : ℕ). v ≡ 10 → ⊥)))
+    (no_cons 10 (48 + minor) [] (λ e. omega (arith, e)) (All-nil (λ (v : ℕ). v ≡ 10 → ⊥)))
 
-start_no_feed : (h : RequestHead) → IsRequestHead h → NoFeed (start_body h)
+start_no_feed : (h : RequestHead) → IsRequestHead h → No 10 (start_body h)
 unfolding start_body
 start_no_feed h is =
-    no_feed_append h.method (32 ∷ (h.target ++ 32 ∷ print_version h.minor)) (no_feed_of is_token_byte token_stops h.method is.method.1)
-    (no_feed_cons 32 (h.target ++ 32 ∷ print_version h.minor) (λ e. omega (arith, e)) (no_feed_append h.target (32 ∷ print_version h.minor) (no_feed_of is_uri_byte refl h.target is.target.1)
-    (no_feed_cons 32 (print_version h.minor) (λ e. omega (arith, e)) (version_no_feed h.minor))))
+    no_append 10 h.method (32 ∷ (h.target ++ 32 ∷ print_version h.minor)) (no_of 10 is_token_byte token_stops h.method is.method.1)
+    (no_cons 10 32 (h.target ++ 32 ∷ print_version h.minor) (λ e. omega (arith, e)) (no_append 10 h.target (32 ∷ print_version h.minor) (no_of 10 is_uri_byte refl h.target is.target.1)
+    (no_cons 10 32 (print_version h.minor) (λ e. omega (arith, e)) (version_no_feed h.minor))))
 
 pub start_line : (h : RequestHead) (rest : List ℕ) → start_on h rest ≡ print_blank h.blank ++ ((start_body h ++ before_feed h.line_end) ++ 10 ∷ rest)
 unfolding start_body
@@ -329,20 +208,17 @@ opens_becoming l m more h some none reads =
           (cut_section h.fields h.last [] k (m ++ more) reads.0.fields at)
     ]
 
-pub token_no_feed : (token : List ℕ) → IsToken token → NoFeed token
-token_no_feed token is = no_feed_of is_token_byte token_stops token is.1
-
-pub target_no_feed : (method target : List ℕ) → IsToken method → AllPass is_uri_byte target → NoFeed (method ++ 32 ∷ target)
+pub target_no_feed : (method target : List ℕ) → IsToken method → AllPass is_uri_byte target → No 10 (method ++ 32 ∷ target)
 target_no_feed method target token uri =
-    no_feed_append method (32 ∷ target) (token_no_feed method token)
-    (no_feed_cons 32 target (λ x. omega (arith, x)) (no_feed_of is_uri_byte refl target uri))
+    no_append 10 method (32 ∷ target) (token_no_feed method token)
+    (no_cons 10 32 target (λ x. omega (arith, x)) (no_of 10 is_uri_byte refl target uri))
 
 opens_target : (l m : List ℕ) (blank : List LineEnd) (method target : List ℕ) → list_all is_newline l ≡ false
     → IsToken method → AllPass is_uri_byte target
     → l ++ 10 ∷ m ≡ print_blank blank ++ method ++ 32 ∷ target → ⊥
 opens_target l m blank method target some token uri e =
     let cut = cut_blank blank (method ++ 32 ∷ target) l m (sym (e ∙ append_assoc (print_blank blank) method (32 ∷ target))) some in
-    no_feed_none (method ++ 32 ∷ target) cut.0 m (target_no_feed method target token uri) cut.2
+    no_none 10 (method ++ 32 ∷ target) cut.0 m (target_no_feed method target token uri) cut.2
 
 pub opens_at : (l m : List ℕ) → list_all is_newline l ≡ false → HasNoRequest (l ++ 10 ∷ m) → MayBecomeRequest (l ++ 10 ∷ m) → OpensHead (l ++ 10 ∷ [])
 opens_at l m some none (inl (more, h, reads)) = opens_becoming l m more h some none reads

@@ -4,11 +4,13 @@ use Rattle.std.specs.List.{list_all}
 use Rattle.std.proofs.lemmas.List.Elements.{All-nil, All-cons}
 use Rattle.std.proofs.lemmas.Str.{IsUtf8-from_ascii}
 use Rattle.std.proofs.lemmas.Str.Ascii.{IsAscii-nil, IsAscii-cons}
-use Rattle.httparse.specs.Grammar.{RequestHead, IsRequestHead, HasNoRequest, MayBecomeRequest, EndsInTarget, IsField, IsToken, LineEnd, lf, print_blank, print_version, print_section, print_request, is_uri_byte}
+use Rattle.httparse.specs.Grammar.{RequestHead, IsRequestHead, ReadsRequest, HasNoRequest, MayBecomeRequest, EndsInTarget, IsField, IsToken, LineEnd, lf, print_blank, print_version, print_section, print_request, is_uri_byte}
 use Rattle.httparse.specs.Pieces.{is_newline}
 use Rattle.httparse.proofs.GrammarLemmas.{print_request-append, cons-append}
 use Rattle.http_frames.specs.Lines.{IsInMethod}
-use Rattle.http_frames.proofs.OpenLemmas.{NoFeed, no_feed_none, token_no_feed, target_no_feed, cut_blank, start_body, start_line, before_feed}
+use Rattle.http_chunks.proofs.ByteLemmas.{No, no_none}
+use Rattle.http_chunks.proofs.FieldLemmas.{before_feed, token_no_feed}
+use Rattle.http_frames.proofs.OpenLemmas.{target_no_feed, cut_blank, start_body, start_line}
 
 -- a space is no line end
 none_after : (x : ℕ) (rest : Bool) → rest ≡ false → (is_newline x && rest) ≡ false
@@ -32,7 +34,7 @@ start_space h =
     regroup a b c d = simp (append_assoc, cons-append)
 
 -- behind empty lines there is no line feed, so no head
-line_none : (blank : List LineEnd) (body text : List ℕ) → NoFeed body → text ≡ print_blank blank ++ body → HasNoRequest text
+pub line_none : (blank : List LineEnd) (body text : List ℕ) → No 10 body → text ≡ print_blank blank ++ body → HasNoRequest text
 line_none blank body text none is h rest reads =
     let section = print_section h.fields h.last ++ rest in
     let line = start_body h ++ before_feed h.line_end in
@@ -40,7 +42,7 @@ line_none blank body text none is h rest reads =
     let e : print_blank blank ++ body ≡ l ++ 10 ∷ section =
     sym is ∙ reads.1 ∙ print_request-append h rest ∙ start_line h section ∙ sym (append_assoc (print_blank h.blank) line (10 ∷ section)) in
     let cut = cut_blank blank body l section e (start_space h) in
-    no_feed_none body cut.0 section none cut.2
+    no_none 10 body cut.0 section none cut.2
 
 pub method_none : (text : List ℕ) → IsInMethod text → HasNoRequest text
 method_none text is = line_none is.blank is.method text (token_no_feed is.method is.token) is.is
@@ -74,12 +76,21 @@ shortest_prints blank method =
     append_assoc (print_blank blank) method (32 ∷ 47 ∷ 32 ∷ (print_version 1 ++ 10 ∷ 10 ∷ []))
     ∙ sym (print_request-append (shortest blank method) [])
 
-pub method_may : (text : List ℕ) → IsInMethod text → MayBecomeRequest text
-method_may text is = inl (
-  rest_of_shortest,
-  shortest is.blank is.method,
-  (
+-- some bytes can follow that make the text a head
+pub record BecomesHead (text : List ℕ) : Type 0 where
+  pub more : List ℕ
+  pub head : RequestHead
+  pub reads : ReadsRequest (text ++ more) head []
+
+pub method_becomes : (text : List ℕ) → IsInMethod text → BecomesHead text
+method_becomes text is = record {
+  more = rest_of_shortest;
+  head = shortest is.blank is.method;
+  reads = (
     shortest_is is.blank is.method is.token,
     ap (λ (t : List ℕ). t ++ rest_of_shortest) is.is ∙ shortest_prints is.blank is.method,
-  ),
-)
+  );
+}
+
+pub method_may : (text : List ℕ) → IsInMethod text → MayBecomeRequest text
+method_may text is = let becomes = method_becomes text is in inl (becomes.more, becomes.head, becomes.reads)

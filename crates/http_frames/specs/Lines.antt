@@ -1,9 +1,10 @@
 -- The lines of a head that came whole, for the clauses of private functions.
-use Rattle.std.specs.Prelude.{◌≡◌, ℕ, ◌<◌, ◌≤◌, List, [], ◌∷◌, ◌++◌, length, take, drop, Bool}
-use Rattle.httparse.specs.Grammar.{RequestHead, LineEnd, lf, print_end, print_blank, ReadsRequest, IsToken, EndsInTarget, AllPass, is_token_byte, is_uri_byte, is_value_byte}
+use Rattle.std.specs.Prelude.{◌≡◌, ℕ, ◌<◌, ◌≤◌, ◌⊎◌, List, [], ◌∷◌, ◌++◌, length, take, drop}
+use Rattle.httparse.specs.Grammar.{RequestHead, LineEnd, lf, print_end, print_blank, ReadsRequest, IsToken, EndsInTarget}
+use Rattle.http_chunks.specs.LinePlaces.{IsInField}
 use Rattle.http_frames.specs.HeadRules.{HEAD_LIMIT}
 use Rattle.http_frames.specs.declared.lines.Part.{Part}
-use Rattle.http_frames.specs.declared.lines.Part.TheVariants.{Method, Target, Name, Value}
+use Rattle.http_frames.specs.declared.lines.Part.TheVariants.{Blank, Method, Target, Field}
 use Rattle.http_frames.specs.declared.lines.Place.{Place}
 
 -- the text is the start line of a head and whole fields: with an empty line behind it it is a head
@@ -18,13 +19,21 @@ pub record AreLines (text : List ℕ) (lines : ℕ) : Type 0 where
   pub short : lines ≤ HEAD_LIMIT
   pub opens : 0 < lines → OpensHead (take lines text)
 
--- the text is a field's name, a colon, and bytes of its value
-pub record IsInValue (text : List ℕ) : Type 0 where
-  pub name : List ℕ
-  pub raw : List ℕ
-  pub token : IsToken name
-  pub plain : AllPass is_value_byte raw
-  pub is : text ≡ name ++ 58 ∷ raw
+-- the text is empty lines
+pub record IsBlank (text : List ℕ) : Type 0 where
+  pub blank : List LineEnd
+  pub is : text ≡ print_blank blank
+
+-- the bytes are none, or the carriage return of a line end
+abbrev pub IsBegunEnd : List ℕ → Type 0
+IsBegunEnd bytes = (bytes ≡ []) ⊎ (bytes ≡ 13 ∷ [])
+
+-- the text is empty lines, and maybe the carriage return of one more
+pub record IsInBlank (text : List ℕ) : Type 0 where
+  pub blank : List LineEnd
+  pub begun : List ℕ
+  pub end : IsBegunEnd begun
+  pub is : text ≡ print_blank blank ++ begun
 
 -- the text is empty lines, and bytes of a method
 pub record IsInMethod (text : List ℕ) : Type 0 where
@@ -33,23 +42,16 @@ pub record IsInMethod (text : List ℕ) : Type 0 where
   pub token : IsToken method
   pub is : text ≡ print_blank blank ++ method
 
--- the bytes of which any number may follow in a part
-abbrev pub is_part_byte : Part → ℕ → Bool
-is_part_byte Method byte = is_token_byte byte
-is_part_byte Target byte = is_uri_byte byte
-is_part_byte Name byte = is_token_byte byte
-is_part_byte Value byte = is_value_byte byte
-
 -- behind lines that end at this place the text is such a part
 abbrev pub IsOpen : Part → ℕ → List ℕ → Type 0
+IsOpen Blank lines text = (lines ≡ 0) × IsInBlank text
 IsOpen Method lines text = (lines ≡ 0) × IsInMethod text
 IsOpen Target lines text = (lines ≡ 0) × EndsInTarget text
-IsOpen Name lines text = (0 < lines) × IsToken text
-IsOpen Value lines text = (0 < lines) × IsInValue text
+IsOpen (Field part) lines text = (0 < lines) × IsInField part text
 
 -- nothing was read of a head
 abbrev pub beginning : Place
-beginning = record { lines = 0; end = 0; part = Method }
+beginning = record { lines = 0; end = 0; part = Blank }
 
 -- behind its whole lines the text is such a part up to a second place, if that is behind them
 pub record IsPlace (text : List ℕ) (place : Place) : Type 0 where

@@ -1,39 +1,37 @@
-ghost use Rattle.std.specs.Prelude.{◌≡◌, ◌<◌, ◌≤◌, ℕ, length, drop, IfOk, IfSome, IsTrue, slice_index};
+ghost use Rattle.std.specs.Prelude.{◌≡◌, ◌<◌, ◌≤◌, ℕ, length, take, drop, IfOk, IfSome, IsTrue, slice_index};
 ghost use Rattle.std.specs.List.{list_all};
-ghost use Rattle.httparse.specs.Grammar.{HasNoRequest, MayBecomeRequest, is_token_byte};
+ghost use Rattle.httparse.specs.Grammar.{HasNoRequest, MayBecomeRequest};
 ghost use Rattle.httparse.specs.Pieces.{is_newline};
 ghost use Rattle.http_frames.specs.HeadReading.{IsHeadRead};
 ghost use Rattle.http_frames.specs.HeadRules.{HEAD_LIMIT};
-ghost use Rattle.http_frames.specs.Lines.{AreLines, IsInValue, IsOpen, IsPlace, beginning, is_part_byte};
+ghost use Rattle.http_frames.specs.Lines.{AreLines, IsBegunEnd, IsBlank, IsInBlank, IsOpen, IsPlace, beginning};
 
 use crate::head::{HeadRead, read_head, unless_in_target};
 use crate::target::{after_blank, are_uri_bytes, ends_in_target};
-use http_chunks::{TrailersRead, section_within};
+use http_chunks::{FieldPart, TrailersRead, are_of_field, field_part, section_within};
+use httparse::is_token;
 use httparse::spans::EMPTY_HEADER_SPAN;
-use httparse::{is_header_value, is_method_token, is_token};
 use side_base::NoMemory;
 use std::alloc::Global;
 
 /// The fields behind the whole lines of a head for which there is room; where more came the head is read anew.
 const LINE_ROOM: usize = 8;
 
-const COLON: u8 = b':';
-
 const CR: u8 = b'\r';
 
 const LF: u8 = b'\n';
 
-/// What stands behind the whole lines of a head, which bytes of one kind may follow in any number.
+/// What stands behind the whole lines of a head, and may go on in any number of bytes.
 #[derive(Clone, Copy, Debug)]
 pub(crate) enum Part {
+    /// Empty lines, and maybe the carriage return of one more.
+    Blank,
     /// Empty lines, and bytes of a method.
     Method,
     /// Empty lines, a method, a space, and bytes of a target.
     Target,
-    /// Bytes of a field's name.
-    Name,
-    /// A field's name, a colon, and bytes of its value.
-    Value,
+    /// A part of a field.
+    Field(FieldPart),
 }
 
 /// How far a head was read that is not whole yet.
@@ -53,7 +51,7 @@ pub(crate) fn start() -> Place
     Place {
         lines: 0,
         end: 0,
-        part: Part::Method,
+        part: Part::Blank,
     }
 }
 
@@ -112,7 +110,7 @@ fn place_of(text: &[u8], lines: usize) -> Place
         None => Place {
             lines,
             end: 0,
-            part: Part::Method,
+            part: Part::Blank,
         },
     }
 }
@@ -125,7 +123,7 @@ fn part_of(text: &[u8], lines: usize) -> Option<Part>
     if lines == 0 {
         start_part(text)
     } else {
-        field_part(&text[lines..])
+        open_field(&text[lines..])
     }
 }
 
@@ -133,7 +131,9 @@ fn part_of(text: &[u8], lines: usize) -> Option<Part>
 fn start_part(text: &[u8]) -> Option<Part>
     ensures { IfSome result (λ part. IsOpen part 0 text.now) }
 {
-    if ends_in_target(text) {
+    if is_in_blank(text) {
+        Some(Part::Blank)
+    } else if ends_in_target(text) {
         Some(Part::Target)
     } else if is_token(after_blank(text)) {
         Some(Part::Method)
@@ -143,15 +143,12 @@ fn start_part(text: &[u8]) -> Option<Part>
 }
 
 /// The part of a field that the bytes are.
-fn field_part(bytes: &[u8]) -> Option<Part>
+fn open_field(bytes: &[u8]) -> Option<Part>
     ensures { IfSome result (λ part. (lines : ℕ) → 0 < lines → IsOpen part lines bytes.now) }
 {
-    if is_token(bytes) {
-        Some(Part::Name)
-    } else if is_in_value(bytes) {
-        Some(Part::Value)
-    } else {
-        None
+    match field_part(bytes) {
+        Some(part) => Some(Part::Field(part)),
+        None => None,
     }
 }
 
@@ -160,47 +157,49 @@ fn goes_on(text: &[u8], place: Place) -> bool
     requires { IsPlace text.now place }
     ensures { IsTrue result → IsOpen place.part place.lines (drop place.lines text.now) }
 {
-    place.lines < place.end && are_of_part(place.part, &text[place.end..])
+    place.lines < place.end && is_on(place.part, text, place.end)
 }
 
-/// Whether the bytes may follow in the part.
-fn are_of_part(part: Part, bytes: &[u8]) -> bool
-    ensures { result ≡ list_all (is_part_byte part) bytes.now }
+/// Whether a part that ends at this place goes on to the end of the text. Only bytes behind it are read.
+fn is_on(part: Part, text: &[u8], end: usize) -> bool
+    requires { end ≤ length text.now }
+    ensures { IsTrue result → (lines : ℕ) → lines ≤ end → IsOpen part lines (drop lines (take end text.now)) → IsOpen part lines (drop lines text.now) }
 {
     match part {
-        Part::Method => are_token_bytes(bytes),
-        Part::Target => are_uri_bytes(bytes),
-        Part::Name => are_token_bytes(bytes),
-        Part::Value => is_header_value(bytes),
+        Part::Blank => is_in_blank(&text[blank_end(text, end)..]),
+        Part::Method => are_of_field(FieldPart::Name, &text[end..]),
+        Part::Target => are_uri_bytes(&text[end..]),
+        Part::Field(field) => are_of_field(field, &text[end..]),
     }
 }
 
-fn are_token_bytes(bytes: &[u8]) -> bool
-    ensures { result ≡ list_all is_token_byte bytes.now }
+/// Up to where empty lines are whole, where they end at this place, and maybe the carriage return of one more does.
+fn blank_end(text: &[u8], end: usize) -> usize
+    requires { end ≤ length text.now }
+    ensures within { result ≤ end }
+    ensures blank { IsInBlank (take end text.now) → IsBlank (take result text.now) }
 {
-    bytes.iter().all(|byte| is_method_token(*byte))
+    if end == 0 {
+        return 0;
+    }
+    if text[end - 1] == CR { end - 1 } else { end }
 }
 
-/// Whether the bytes are a field's name, a colon, and bytes of its value.
-fn is_in_value(bytes: &[u8]) -> bool
-    ensures { IsTrue result → IsInValue bytes.now }
+/// Whether the text is empty lines, and maybe the carriage return of one more.
+fn is_in_blank(text: &[u8]) -> bool
+    ensures { IsTrue result → IsInBlank text.now }
 {
-    match colon_at(bytes) {
-        Some(at) => is_token(&bytes[..at]) && is_header_value(&bytes[at + 1..]),
-        None => false,
-    }
+    is_begun_end(after_blank(text))
 }
 
-/// The place of the first colon.
-fn colon_at(bytes: &[u8]) -> Option<usize>
-    ensures { IfSome result (λ at. (at < length bytes.now) × (slice_index bytes.now at ≡ 58)) }
+/// Whether the bytes are none, or a carriage return.
+fn is_begun_end(bytes: &[u8]) -> bool
+    ensures { IsTrue result → IsBegunEnd bytes.now }
 {
-    for at in 0..bytes.len() {
-        if bytes[at] == COLON {
-            return Some(at);
-        }
+    if bytes.is_empty() {
+        return true;
     }
-    None
+    bytes.len() == 1 && bytes[0] == CR
 }
 
 /// The place of the last line feed.
