@@ -1,4 +1,7 @@
 //! What is measured, and written as lines of standard error.
+ghost use Rattle.std.specs.Prelude.{◌≡◌, true};
+ghost use Rattle.turn_cell.specs.Sitting.{IsSeatOf};
+
 use crate::counter::Counter;
 use crate::rounds::{Caller, Pace, locks, often, owns, places};
 use std::alloc::Global;
@@ -7,12 +10,12 @@ use std::rt::Clock;
 use std::sync::{Mutex, Wait};
 use std::thread::{Threads, map_vec};
 use std::time::{CpuClock, Duration, Instant};
-use turn_cell::TurnCell;
+use turn_cell::{Seat, TurnCell};
 
 /// How many calls a second were made, and what 99 of 100 took at most, in nanoseconds.
 #[derive(Clone, Copy)]
 struct Figures {
-    rate: u128,
+    rate: u64,
     late: u64,
 }
 
@@ -29,8 +32,9 @@ fn sum_up(
     }
     took.sort_unstable();
     let late = took.get(took.len() / 100 * 99).copied().unwrap_or(0);
+    let rate = u128::from(calls) * 1000000000 / time.as_nanos().max(1);
     Ok(Figures {
-        rate: u128::from(calls) * 1000000000 / time.as_nanos().max(1),
+        rate: u64::try_from(rate).unwrap_or(u64::MAX),
         late,
     })
 }
@@ -57,8 +61,22 @@ fn on_one_cell<R: Threads + Wait + Sync + Clock>(
     pace: Pace,
 ) -> io::Result<Figures> {
     let (cell, root) = TurnCell::start(alloc, Counter::new())?;
-    let places = places(alloc, &cell, root, others, hold)?;
-    called(rt, alloc, places, pace)
+    on_this_cell(rt, alloc, &cell, root, others, hold, pace)
+}
+
+/// The same on this cell.
+fn on_this_cell<R: Threads + Wait + Sync + Clock>(
+    rt: &R,
+    alloc: Global,
+    cell: &TurnCell<Counter>,
+    root: Seat<Counter>,
+    others: u8,
+    hold: Option<HostRuntime>,
+    pace: Pace,
+) -> io::Result<Figures>
+    requires { IsSeatOf cell.now root × (root.is_root ≡ true) × (root.made ≡ 1) }
+{
+    called(rt, alloc, places(alloc, cell, root, others, hold)?, pace)
 }
 
 /// So many threads on one mutex.
@@ -87,6 +105,14 @@ fn on_own_mutexes<R: Threads + Wait + Sync + Clock>(
     called(rt, alloc, borrowed, pace)
 }
 
+/// Writes what a cell and a mutex did.
+fn tell_both<R: Eprint>(rt: &R, cell: Figures, mutex: Figures) -> io::Result<()> {
+    eprintln!(rt;
+        "{} calls a second, 99 of 100 in {} ns; with a mutex {}, {} ns",
+        cell.rate, cell.late, mutex.rate, mutex.late
+    )
+}
+
 /// Writes what a cell and a mutex did at the same pace.
 fn tell<R: Eprint>(
     rt: &R,
@@ -97,10 +123,8 @@ fn tell<R: Eprint>(
     mutex: Figures,
 ) -> io::Result<()> {
     let (work, turn) = (pace.work, pace.turn);
-    eprintln!(rt;
-        "{threads} on {which}, {work} and {turn} rounds: {} calls a second, 99 of 100 in {} ns; with a mutex {}, {} ns",
-        cell.rate, cell.late, mutex.rate, mutex.late
-    )
+    eprint!(rt; "{threads} on {which}, {work} and {turn} rounds: ")?;
+    tell_both(rt, cell, mutex)
 }
 
 /// A cell beside a mutex, with so many threads and one more, all on one.

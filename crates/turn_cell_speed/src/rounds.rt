@@ -63,6 +63,17 @@ impl Caller for &Mutex<Counter> {
     }
 }
 
+/// A place on the cell.
+fn seated<'a>(
+    cell: &'a TurnCell<Counter>,
+    seat: Seat<Counter>,
+    hold: Option<HostRuntime>,
+) -> Place<'a>
+    requires { IsSeatOf cell.now seat }
+{
+    Place { cell, seat, hold }
+}
+
 /// So many places on the cell that work, and one more that holds its turns where it is given a clock.
 pub fn places<'a>(
     alloc: Global,
@@ -77,17 +88,10 @@ pub fn places<'a>(
 {
     let mut places = Vec::new(alloc);
     for _ in 0..others {
-        places.push(Place {
-            cell,
-            seat: cell.split(&mut root),
-            hold: None,
-        })?;
+        let seat = cell.split(&mut root);
+        places.push(seated(cell, seat, None))?;
     }
-    places.push(Place {
-        cell,
-        seat: root,
-        hold,
-    })?;
+    places.push(seated(cell, root, hold))?;
     Ok(places)
 }
 
