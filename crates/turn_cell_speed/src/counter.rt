@@ -20,7 +20,7 @@ pub fn rounds(value: u64, count: u32) -> u64 {
 }
 
 /// What a counter does.
-#[derive(Drop)]
+#[derive(Clone, Copy)]
 pub enum Step {
     /// It adds the amount, and works for so many rounds.
     Work { amount: u64, rounds: u32 },

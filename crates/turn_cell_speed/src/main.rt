@@ -15,7 +15,28 @@ const CALLS: u32 = 1600;
 const WORK: u32 = 4000;
 
 /// How often as many calls, the rounds between two, and those in a turn: nothing, and then turns of some 0.2, 1 and 100 microseconds.
-const ROWS: [(u32, u32, u32); 4] = [(50, 0, 0), (1, WORK, 80), (1, WORK, 400), (1, WORK, 40000)];
+const ROWS: [Pace; 4] = [
+    Pace {
+        calls: 50,
+        work: 0,
+        turn: 0,
+    },
+    Pace {
+        calls: 1,
+        work: WORK,
+        turn: 80,
+    },
+    Pace {
+        calls: 1,
+        work: WORK,
+        turn: 400,
+    },
+    Pace {
+        calls: 1,
+        work: WORK,
+        turn: 40000,
+    },
+];
 
 fn main(rt: HostRuntime) -> io::Result<()> {
     let alloc = rt.alloc();
@@ -26,11 +47,7 @@ fn main(rt: HostRuntime) -> io::Result<()> {
         }
     }
     for others in [0, 3, 15] {
-        for (times, work, turn) in ROWS {
-            let calls = (calls / (others + 1)).saturating_mul(times);
-            let pace = Pace { calls, work, turn };
-            measures::beside(&rt, alloc, others, pace)?;
-        }
+        measures::beside(&rt, alloc, others, calls, &ROWS)?;
     }
     measures::held(&rt, alloc, rt)
 }

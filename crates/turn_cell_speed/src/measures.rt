@@ -1,20 +1,21 @@
 //! What is measured, and written as lines of standard error.
-ghost use Rattle.std.specs.Prelude.{◌<◌};
+ghost use Rattle.std.specs.Prelude.{◌≡◌, true};
+ghost use Rattle.turn_cell.specs.Sitting.{IsSeatOf};
 
 use crate::counter::Counter;
-use crate::rounds::{Pace, call_from, call_own, lock_often, locks, owns, places};
+use crate::rounds::{Caller, Pace, locks, often, owns, places};
 use std::alloc::Global;
 use std::io;
 use std::rt::Clock;
 use std::sync::{Mutex, Wait};
-use std::thread::{Threads, map_indices, map_vec};
+use std::thread::{Threads, map_vec};
 use std::time::{CpuClock, Duration, Instant};
-use turn_cell::TurnCell;
+use turn_cell::{Seat, TurnCell};
 
 /// How many calls a second were made, and what 99 of 100 took at most, in nanoseconds.
-#[derive(Drop)]
+#[derive(Clone, Copy)]
 struct Figures {
-    rate: u128,
+    rate: u64,
     late: u64,
 }
 
@@ -31,28 +32,51 @@ fn sum_up(
     }
     took.sort_unstable();
     let late = took.get(took.len() / 100 * 99).copied().unwrap_or(0);
+    let rate = u128::from(calls) * 1000000000 / time.as_nanos().max(1);
     Ok(Figures {
-        rate: u128::from(calls) * 1000000000 / time.as_nanos().max(1),
+        rate: u64::try_from(rate).unwrap_or(u64::MAX),
         late,
     })
 }
 
-/// So many threads on one cell.
+/// The figures of threads, one for each who calls.
+fn called<R: Threads + Wait + Sync + Clock, C: Caller + Send + Drop>(
+    rt: &R,
+    alloc: Global,
+    callers: Vec<C>,
+    pace: Pace,
+) -> io::Result<Figures> {
+    let calls = u64::from(pace.calls).saturating_mul(callers.len() as u64);
+    let begin = Instant::now(rt)?;
+    let all = map_vec(rt, callers, &|caller| often(rt, alloc, caller, pace))?;
+    sum_up(alloc, calls, begin.elapsed(rt)?, all)
+}
+
+/// So many threads on one cell, and one more.
 fn on_one_cell<R: Threads + Wait + Sync + Clock>(
     rt: &R,
     alloc: Global,
-    others: u32,
+    others: u8,
+    hold: Option<HostRuntime>,
+    pace: Pace,
+) -> io::Result<Figures> {
+    let (cell, root) = TurnCell::start(alloc, Counter::new())?;
+    on_this_cell(rt, alloc, &cell, root, others, hold, pace)
+}
+
+/// The same on this cell.
+fn on_this_cell<R: Threads + Wait + Sync + Clock>(
+    rt: &R,
+    alloc: Global,
+    cell: &TurnCell<Counter>,
+    root: Seat<Counter>,
+    others: u8,
     hold: Option<HostRuntime>,
     pace: Pace,
 ) -> io::Result<Figures>
-    requires { others < 100 }
+    requires { IsSeatOf cell.now root × (root.is_root ≡ true) × (root.made ≡ 1) }
 {
-    let (cell, root) = TurnCell::start(alloc, Counter::new())?;
-    let places = places(alloc, &cell, root, others, hold)?;
-    let begin = Instant::now(rt)?;
-    let all = map_vec(rt, places, &|place| call_from(rt, alloc, place, pace))?;
-    let calls = u64::from(pace.calls) * u64::from(others + 1);
-    sum_up(alloc, calls, begin.elapsed(rt)?, all)
+    called(rt, alloc, places(alloc, cell, root, others, hold)?, pace)
 }
 
 /// So many threads on one mutex.
@@ -63,29 +87,7 @@ fn on_one_mutex<R: Threads + Wait + Sync + Clock>(
     pace: Pace,
 ) -> io::Result<Figures> {
     let lock = Mutex::new(Counter::new());
-    let begin = Instant::now(rt)?;
-    let all = map_indices(
-        rt,
-        alloc,
-        threads as usize,
-        &|_| lock_often(rt, alloc, &lock, pace),
-    )?;
-    let calls = u64::from(pace.calls) * u64::from(threads);
-    sum_up(alloc, calls, begin.elapsed(rt)?, all)
-}
-
-/// So many threads, each on a cell of its own.
-fn on_own_cells<R: Threads + Wait + Sync + Clock>(
-    rt: &R,
-    alloc: Global,
-    threads: u32,
-    pace: Pace,
-) -> io::Result<Figures> {
-    let owns = owns(alloc, threads)?;
-    let begin = Instant::now(rt)?;
-    let all = map_vec(rt, owns, &|own| call_own(rt, alloc, own, pace))?;
-    let calls = u64::from(pace.calls) * u64::from(threads);
-    sum_up(alloc, calls, begin.elapsed(rt)?, all)
+    called(rt, alloc, vec![in alloc; &lock; threads as usize]?, pace)
 }
 
 /// So many threads, each on a mutex of its own.
@@ -96,10 +98,19 @@ fn on_own_mutexes<R: Threads + Wait + Sync + Clock>(
     pace: Pace,
 ) -> io::Result<Figures> {
     let locks = locks(alloc, threads)?;
-    let begin = Instant::now(rt)?;
-    let all = map_vec(rt, locks, &|lock| lock_often(rt, alloc, &lock, pace))?;
-    let calls = u64::from(pace.calls) * u64::from(threads);
-    sum_up(alloc, calls, begin.elapsed(rt)?, all)
+    let mut borrowed = Vec::new(alloc);
+    for lock in &locks {
+        borrowed.push(lock)?;
+    }
+    called(rt, alloc, borrowed, pace)
+}
+
+/// Writes what a cell and a mutex did.
+fn tell_both<R: Eprint>(rt: &R, cell: Figures, mutex: Figures) -> io::Result<()> {
+    eprintln!(rt;
+        "{} calls a second, 99 of 100 in {} ns; with a mutex {}, {} ns",
+        cell.rate, cell.late, mutex.rate, mutex.late
+    )
 }
 
 /// Writes what a cell and a mutex did at the same pace.
@@ -111,33 +122,55 @@ fn tell<R: Eprint>(
     cell: Figures,
     mutex: Figures,
 ) -> io::Result<()> {
-    let Pace {
-        calls: _,
-        work,
-        turn,
-    } = pace;
-    eprintln!(rt;
-        "{threads} on {which}, {work} and {turn} rounds: {} calls a second, 99 of 100 in {} ns; with a mutex {}, {} ns",
-        cell.rate, cell.late, mutex.rate, mutex.late
-    )
+    let (work, turn) = (pace.work, pace.turn);
+    eprint!(rt; "{threads} on {which}, {work} and {turn} rounds: ")?;
+    tell_both(rt, cell, mutex)
 }
 
-/// A cell beside a mutex, with so many threads and one more: all on one, and each on one of its own.
+/// A cell beside a mutex, with so many threads and one more, all on one.
+fn on_one<R: Threads + Wait + Sync + Clock + Eprint>(
+    rt: &R,
+    alloc: Global,
+    others: u8,
+    pace: Pace,
+) -> io::Result<()> {
+    let threads = u32::from(others) + 1;
+    let cell = on_one_cell(rt, alloc, others, None, pace)?;
+    let mutex = on_one_mutex(rt, alloc, threads, pace)?;
+    tell(rt, threads, "one", pace, cell, mutex)
+}
+
+/// The same, each on one of its own.
+fn on_own<R: Threads + Wait + Sync + Clock + Eprint>(
+    rt: &R,
+    alloc: Global,
+    others: u8,
+    pace: Pace,
+) -> io::Result<()> {
+    let threads = u32::from(others) + 1;
+    let cells = called(rt, alloc, owns(alloc, threads)?, pace)?;
+    let mutexes = on_own_mutexes(rt, alloc, threads, pace)?;
+    tell(rt, threads, "their own", pace, cells, mutexes)
+}
+
+/// Cells beside mutexes, with so many threads and one more, at each of these paces; the calls of all threads, and of a row how often as many.
 pub fn beside<R: Threads + Wait + Sync + Clock + Eprint>(
     rt: &R,
     alloc: Global,
-    others: u32,
-    pace: Pace,
-) -> io::Result<()>
-    requires { others < 100 }
-{
-    let threads = others + 1;
-    let cell = on_one_cell(rt, alloc, others, None, pace)?;
-    let mutex = on_one_mutex(rt, alloc, threads, pace)?;
-    tell(rt, threads, "one", pace, cell, mutex)?;
-    let cells = on_own_cells(rt, alloc, threads, pace)?;
-    let mutexes = on_own_mutexes(rt, alloc, threads, pace)?;
-    tell(rt, threads, "their own", pace, cells, mutexes)
+    others: u8,
+    calls: u32,
+    rows: &[Pace],
+) -> io::Result<()> {
+    for row in rows {
+        let each = calls / (u32::from(others) + 1);
+        let pace = Pace {
+            calls: each.saturating_mul(row.calls),
+            ..*row
+        };
+        on_one(rt, alloc, others, pace)?;
+        on_own(rt, alloc, others, pace)?;
+    }
+    Ok(())
 }
 
 /// Eight threads, of which one holds its turn and seven wait.

@@ -1,5 +1,5 @@
-//! Many calls by one thread, and the places that threads call from.
-ghost use Rattle.std.specs.Prelude.{◌≡◌, ◌<◌, ◌+◌, true};
+//! Many calls by one thread, and those that threads call by.
+ghost use Rattle.std.specs.Prelude.{◌≡◌, true};
 ghost use Rattle.turn_cell.specs.Sitting.{IsSeatOf};
 
 use crate::counter::{Counter, Step, rounds};
@@ -18,6 +18,12 @@ pub struct Pace {
     pub turn: u32,
 }
 
+/// Who makes steps: by a cell, or by a mutex.
+pub trait Caller {
+    /// Makes a step that adds the amount; whether it was made.
+    fn step<R: Wait>(&mut self, rt: &R, amount: u64, pace: Pace) -> bool;
+}
+
 /// A cell, a seat of it, and with a clock that the seat is to hold its turns.
 #[derive(Drop)]
 pub struct Place<'a> {
@@ -25,6 +31,13 @@ pub struct Place<'a> {
     seat: Seat<Counter>,
     hold: Option<HostRuntime>,
     ghost of_cell: { IsSeatOf cell.now seat },
+}
+
+impl Caller for Place<'_> {
+    fn step<R: Wait>(&mut self, rt: &R, amount: u64, pace: Pace) -> bool {
+        let step = step_of(self.hold, amount, pace);
+        self.cell.call(rt, &mut self.seat, &step).is_ok()
+    }
 }
 
 /// A cell with its seat.
@@ -35,31 +48,50 @@ pub struct Own {
     ghost of_cell: { IsSeatOf cell seat },
 }
 
+impl Caller for Own {
+    fn step<R: Wait>(&mut self, rt: &R, amount: u64, pace: Pace) -> bool {
+        let step = step_of(None, amount, pace);
+        self.cell.call(rt, &mut self.seat, &step).is_ok()
+    }
+}
+
+impl Caller for &Mutex<Counter> {
+    fn step<R: Wait>(&mut self, rt: &R, amount: u64, pace: Pace) -> bool {
+        let step = step_of(None, amount, pace);
+        self.lock(rt).make(&step);
+        true
+    }
+}
+
+/// A place on the cell.
+fn seated<'a>(
+    cell: &'a TurnCell<Counter>,
+    seat: Seat<Counter>,
+    hold: Option<HostRuntime>,
+) -> Place<'a>
+    requires { IsSeatOf cell.now seat }
+{
+    Place { cell, seat, hold }
+}
+
 /// So many places on the cell that work, and one more that holds its turns where it is given a clock.
 pub fn places<'a>(
     alloc: Global,
     cell: &'a TurnCell<Counter>,
     mut root: Seat<Counter>,
-    others: u32,
+    others: u8,
     hold: Option<HostRuntime>,
 ) -> Result<Vec<Place<'a>>, AllocError>
     requires seat { IsSeatOf cell.now root }
     requires root { root.is_root ≡ true }
-    requires room { root.made + others < 65536 }
+    requires made { root.made ≡ 1 }
 {
     let mut places = Vec::new(alloc);
     for _ in 0..others {
-        places.push(Place {
-            cell,
-            seat: cell.split(&mut root),
-            hold: None,
-        })?;
+        let seat = cell.split(&mut root);
+        places.push(seated(cell, seat, None))?;
     }
-    places.push(Place {
-        cell,
-        seat: root,
-        hold,
-    })?;
+    places.push(seated(cell, root, hold))?;
     Ok(places)
 }
 
@@ -104,31 +136,6 @@ fn note<R: Clock>(rt: &R, begin: Option<Instant>, took: &mut Vec<u64>) -> io::Re
     Ok(())
 }
 
-/// Calls the cell as often as the pace says, and tells how many nanoseconds each call took.
-fn call_often<R: Wait + Clock>(
-    rt: &R,
-    alloc: Global,
-    cell: &TurnCell<Counter>,
-    mut seat: Seat<Counter>,
-    hold: Option<HostRuntime>,
-    pace: Pace,
-) -> io::Result<Vec<u64>>
-    requires { IsSeatOf cell.now seat }
-{
-    let mut took = Vec::new(alloc);
-    let mut amount = 1;
-    for _ in 0..pace.calls {
-        amount = rounds(amount, pace.work);
-        let step = step_of(hold, amount, pace);
-        let begin = moment(rt, pace)?;
-        if cell.call(rt, &mut seat, &step).is_err() {
-            break;
-        }
-        note(rt, begin, &mut took)?;
-    }
-    Ok(took)
-}
-
 fn step_of(hold: Option<HostRuntime>, amount: u64, pace: Pace) -> Step {
     match hold {
         Some(clock) => Step::Hold(clock),
@@ -139,42 +146,21 @@ fn step_of(hold: Option<HostRuntime>, amount: u64, pace: Pace) -> Step {
     }
 }
 
-/// Calls the cell from a place.
-pub fn call_from<R: Wait + Clock>(
+/// Makes steps as often as the pace says, and tells how many nanoseconds each took.
+pub fn often<R: Wait + Clock, C: Caller + Drop>(
     rt: &R,
     alloc: Global,
-    place: Place<'_>,
-    pace: Pace,
-) -> io::Result<Vec<u64>> {
-    let Place { cell, seat, hold } = place;
-    call_often(rt, alloc, cell, seat, hold, pace)
-}
-
-/// Calls a cell of its own.
-pub fn call_own<R: Wait + Clock>(
-    rt: &R,
-    alloc: Global,
-    own: Own,
-    pace: Pace,
-) -> io::Result<Vec<u64>> {
-    let Own { cell, seat } = own;
-    call_often(rt, alloc, &cell, seat, None, pace)
-}
-
-/// The same with a mutex.
-pub fn lock_often<R: Wait + Clock>(
-    rt: &R,
-    alloc: Global,
-    lock: &Mutex<Counter>,
+    mut caller: C,
     pace: Pace,
 ) -> io::Result<Vec<u64>> {
     let mut took = Vec::new(alloc);
     let mut amount = 1;
     for _ in 0..pace.calls {
         amount = rounds(amount, pace.work);
-        let step = step_of(None, amount, pace);
         let begin = moment(rt, pace)?;
-        lock.lock(rt).make(&step);
+        if !caller.step(rt, amount, pace) {
+            break;
+        }
         note(rt, begin, &mut took)?;
     }
     Ok(took)

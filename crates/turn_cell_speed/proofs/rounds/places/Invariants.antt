@@ -6,5 +6,5 @@ abbrev pub invariant-loop : goal.invariant-loop
 invariant-loop l = record {
   seat : IsSeatOf l.cell l.root;
   root : l.root.is_root ≡ true;
-  made : l.root.made ≤ l.fn.root.made + l.counter;
+  made : l.root.made ≤ 1 + l.counter;
 }
