@@ -7,6 +7,8 @@ mod calls;
 #[cfg(test)]
 mod devices;
 #[cfg(test)]
+mod reports;
+#[cfg(test)]
 mod scene;
 #[cfg(test)]
 mod tests;

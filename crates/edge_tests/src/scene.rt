@@ -131,7 +131,7 @@ impl<
     ///
     /// A step is who, what, and a word: `0+` connects client 0; `0>word` has it send the word, which ends a request where it
     /// ends in a full stop; `0<6` has it read 6 bytes in one piece, and `0<0` find its connection closed; `0x` has it close
-    /// its own. `a=9` has worker `a` serve the next connection, on which 9 bytes come; `a~` and `a#` have it find other work
+    /// its own, and `0|` only say that it sends no more. `a=9` has worker `a` serve the next connection, on which 9 bytes come; `a~` and `a#` have it find other work
     /// and a shut door, and `a?` nothing at all for a while; `a^` wakes another worker. `!` shuts the door.
     pub fn play(&mut self, steps: &str) -> io::Result<()> {
         for step in steps.split(' ') {
@@ -193,6 +193,7 @@ fn ask(client: &mut TcpStream, what: u8, word: &[u8]) -> io::Result<bool> {
         b'>' => client.write_all(word)?,
         b'<' => return Ok(piece_of(client)? == number(word)),
         b'x' => client.shutdown(Shutdown::Both)?,
+        b'|' => client.shutdown(Shutdown::Write)?,
         _ => return Ok(false),
     }
     Ok(true)

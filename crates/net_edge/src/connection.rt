@@ -37,7 +37,7 @@ pub(crate) fn read_in_time(
     if let Some(n) = read_now(stream, into)? {
         return Ok(n);
     }
-    door.begin_wait();
+    door.begin_wait(stream);
     let outcome = await_bytes(door, stream, pace, into);
     door.end_wait();
     outcome
@@ -90,7 +90,7 @@ pub(crate) fn write_in_time(
     if let Some(n) = write_now(stream, piece)? {
         return Ok(n);
     }
-    door.begin_wait();
+    door.begin_wait(stream);
     let outcome = await_room(door, stream, pace, piece);
     door.end_wait();
     outcome

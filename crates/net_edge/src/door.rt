@@ -1,7 +1,7 @@
 use crate::door_limits::DoorLimits;
 use crate::pace::Pace;
-use crate::places::{Coming, Places};
-use crate::ready_set::{Bell, ReadySet};
+use crate::places::Places;
+use crate::ready_set::{Bell, ReadySet, When};
 use crate::waiting::now_ms;
 use std::io::{self, ErrorKind};
 use std::net::{Ipv4Addr, Net, SocketAddrV4, TcpListener, TcpStream};
@@ -54,8 +54,11 @@ pub(crate) struct Door {
 /// What one look at a door gave.
 #[derive(Drop)]
 pub(crate) enum Look {
-    /// A connection on which there is something to read.
-    Conn(Arc<TcpStream>),
+    /// A connection on which there is something to read, and whether its peer sends no more.
+    Conn {
+        stream: Arc<TcpStream>,
+        has_ended: bool,
+    },
     /// The bell was rung.
     Rung,
     /// Something else was done.
@@ -87,8 +90,8 @@ impl Door {
         libc::net::listen(listener.as_raw_fd(), BACKLOG);
         let set = ReadySet::new()?;
         let bell = Bell::new()?;
-        set.add(listener.as_raw_fd(), LISTENER)?;
-        set.add(bell.fd(), BELL)?;
+        set.add(listener.as_raw_fd(), LISTENER, When::Once)?;
+        set.add(bell.fd(), BELL, When::Once)?;
         Ok(Door {
             set,
             bell,
@@ -153,27 +156,32 @@ impl Door {
     /// Waits at most so many milliseconds for one thing, and does what is to be done for it.
     pub(crate) fn look<R: Wait + AllocGlobal>(&self, rt: &R, ms: i32) -> io::Result<Look> {
         self.resume()?;
-        match self.set.wait(ms)? {
-            None => Ok(Look::Quiet),
-            Some(LISTENER) => {
+        let Some(report) = self.set.wait(ms)? else {
+            return Ok(Look::Quiet);
+        };
+        match report.number {
+            LISTENER => {
                 self.admit(rt)?;
                 Ok(Look::Went)
             }
-            Some(BELL) => {
+            BELL => {
                 self.hear()?;
                 Ok(Look::Rung)
             }
-            Some(number) => match self.places.take(rt, number) {
-                Some(stream) => Ok(Look::Conn(stream)),
-                None => Ok(Look::Went),
-            },
+            number => Ok(match self.places.take(rt, number) {
+                Some(stream) => Look::Conn {
+                    stream,
+                    has_ended: report.has_ended,
+                },
+                None => Look::Went,
+            }),
         }
     }
 
-    /// Lets a connection rest until something comes on it; one that can't is closed.
-    pub(crate) fn let_rest<R: Wait>(&self, rt: &R, stream: Arc<TcpStream>) {
+    /// Lets a connection rest until something comes on it, or is there already where it isn't drained; one that can't is closed.
+    pub(crate) fn let_rest<R: Wait>(&self, rt: &R, stream: Arc<TcpStream>, is_drained: bool) {
         self.places
-            .park(rt, &self.set, stream, Coming::Again, now_ms());
+            .put_back(rt, &self.set, stream, is_drained, now_ms());
     }
 
     /// Has the bell awaited again. That of a shut door, or of one that all leave, goes on ringing, so that all hear it.
@@ -181,7 +189,7 @@ impl Door {
         if !self.is_shut() && !self.is_ending() {
             self.bell.hush();
         }
-        self.set.arm(self.bell.fd(), BELL)
+        self.set.arm(self.bell.fd(), BELL, When::Once)
     }
 
     /// Accepts those that wait.
@@ -217,10 +225,7 @@ impl Door {
         let Ok(stream) = Arc::new(rt.alloc(), stream) else {
             return Admission::NoRoom;
         };
-        if self
-            .places
-            .park(rt, &self.set, stream, Coming::New, now_ms())
-        {
+        if self.places.admit(rt, &self.set, stream, now_ms()) {
             Admission::Went
         } else {
             Admission::NoRoom
@@ -228,7 +233,8 @@ impl Door {
     }
 
     fn await_peers(&self) -> io::Result<()> {
-        self.set.arm(self.listener.as_raw_fd(), LISTENER)
+        self.set
+            .arm(self.listener.as_raw_fd(), LISTENER, When::Once)
     }
 
     /// Accepts none for a while, and closes what has idled for long.
@@ -250,8 +256,7 @@ impl Door {
     }
 
     /// Closes some of what has idled for too long, where it is time.
-    pub(crate) fn sweep(&self) {
-        let now = now_ms();
+    pub(crate) fn sweep(&self, now: u64) {
         let last = self.swept_at.load(Ordering::SeqCst);
         if now.saturating_sub(last) < SWEEP_MS {
             return;
@@ -262,8 +267,9 @@ impl Door {
         self.places.sweep_piece(piece, before);
     }
 
-    /// A worker begins to wait for a slow peer.
-    pub(crate) fn begin_wait(&self) {
+    /// A worker begins to wait for a slow peer, whose connection is no longer reported.
+    pub(crate) fn begin_wait(&self, stream: &TcpStream) {
+        self.places.mute(&self.set, stream.as_raw_fd());
         self.waiting.fetch_add(1, Ordering::SeqCst);
     }
 

@@ -1,9 +1,9 @@
 ghost use Rattle.std.specs.Prelude.{◌≡◌, ◌<◌, ◌+◌, ◌*◌, IfSome};
 
-use crate::ready_set::ReadySet;
+use crate::ready_set::{ReadySet, When};
 use std::alloc::{AllocError, Global};
 use std::net::TcpStream;
-use std::os::fd::AsRawFd;
+use std::os::fd::{AsRawFd, RawFd};
 use std::sync::{Arc, Mutex, Wait};
 
 /// How many turns' numbers there are, and one past the greatest place.
@@ -15,9 +15,11 @@ const SWEPT_AT_ONCE: usize = 256;
 /// The place of a connection that no worker serves.
 #[derive(Drop)]
 struct Place {
-    /// Raised each time that a connection comes here, so that a report of an earlier one is known.
+    /// Raised with each new connection, so that a report of an earlier one is known.
     turn: u32,
-    /// The moment at which it came, in milliseconds.
+    /// Something came while a worker served the connection, or the set no longer reports it.
+    was_missed: bool,
+    /// The moment at which it came here, in milliseconds.
     since: u64,
     stream: Option<Arc<TcpStream>>,
 }
@@ -28,13 +30,6 @@ pub(crate) struct Places {
     places: Vec<Mutex<Place>>,
 }
 
-/// Whether a connection is new to the set of those that are awaited.
-#[derive(Clone, Copy)]
-pub(crate) enum Coming {
-    New,
-    Again,
-}
-
 impl Places {
     /// So many empty places.
     pub(crate) fn new(alloc: Global, count: usize) -> Result<Self, AllocError> {
@@ -42,6 +37,7 @@ impl Places {
         for _ in 0..count {
             places.push(Mutex::new(Place {
                 turn: 0,
+                was_missed: false,
                 since: 0,
                 stream: None,
             }))?;
@@ -49,13 +45,12 @@ impl Places {
         Ok(Places { places })
     }
 
-    /// Has a connection awaited by the set, at its place. Where it has no place, or the set no room, it is let go: `false`.
-    pub(crate) fn park<R: Wait>(
+    /// Has a new connection awaited by the set, at its place. Where it has no place, or the set no room, it is let go: `false`.
+    pub(crate) fn admit<R: Wait>(
         &self,
         rt: &R,
         set: &ReadySet,
         stream: Arc<TcpStream>,
-        coming: Coming,
         now: u64,
     ) -> bool {
         let fd = stream.as_raw_fd();
@@ -65,12 +60,8 @@ impl Places {
         let mut place = self.places[at as usize].lock(rt);
         let turn = place.turn.wrapping_add(1);
         place.turn = turn;
-        let number = number_of(turn, at);
-        let awaited = match coming {
-            Coming::New => set.add(fd, number),
-            Coming::Again => set.arm(fd, number),
-        };
-        if awaited.is_err() {
+        place.was_missed = false;
+        if set.add(fd, number_of(turn, at), When::More).is_err() {
             return false;
         }
         place.since = now;
@@ -78,8 +69,46 @@ impl Places {
         true
     }
 
-    /// The connection that a report of the set speaks of, which is no longer at its place. A report of an earlier turn, or a
-    /// second one, gives none.
+    /// Puts a connection that was served back to its place. The set is asked about it only where something may be there that it
+    /// reported already; where it then has no room, the connection is let go.
+    pub(crate) fn put_back<R: Wait>(
+        &self,
+        rt: &R,
+        set: &ReadySet,
+        stream: Arc<TcpStream>,
+        is_drained: bool,
+        now: u64,
+    ) {
+        let fd = stream.as_raw_fd();
+        let Some(at) = place_of(fd, self.places.len()) else {
+            return;
+        };
+        let mut place = self.places[at as usize].lock(rt);
+        if place.was_missed || !is_drained {
+            place.was_missed = false;
+            if set.arm(fd, number_of(place.turn, at), When::More).is_err() {
+                return;
+            }
+        }
+        place.since = now;
+        place.stream = Some(stream);
+    }
+
+    /// Has a connection that is served no longer reported, until it is put back. A place at which another works is passed over.
+    pub(crate) fn mute(&self, set: &ReadySet, fd: RawFd) {
+        let Some(at) = place_of(fd, self.places.len()) else {
+            return;
+        };
+        if let Some(mut place) = self.places[at as usize].try_lock() {
+            place.was_missed = true;
+            if set.arm(fd, number_of(place.turn, at), When::Never).is_err() {
+                return;
+            }
+        }
+    }
+
+    /// The connection that a report of the set speaks of, which is no longer at its place. A report of an earlier connection gives
+    /// none, nor does one of a connection that is served, which is noted.
     pub(crate) fn take<R: Wait>(&self, rt: &R, number: u64) -> Option<Arc<TcpStream>> {
         let at = (number % TURNS) as usize;
         if at >= self.places.len() {
@@ -89,7 +118,9 @@ impl Places {
         if u64::from(place.turn) != number / TURNS {
             return None;
         }
-        place.stream.take()
+        let stream = place.stream.take();
+        place.was_missed = stream.is_none();
+        stream
     }
 
     /// Closes what came before this moment. A place at which another works is passed over.

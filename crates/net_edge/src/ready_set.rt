@@ -1,15 +1,34 @@
 use crate::waiting::has_bytes;
 use libc::EINTR;
 use libc::net::{
-    EFD_CLOEXEC, EFD_NONBLOCK, EPOLL_CLOEXEC, EPOLL_CTL_ADD, EPOLL_CTL_MOD, EPOLLIN, EPOLLONESHOT,
-    EPOLLRDHUP, epoll_create1, eventfd,
+    EFD_CLOEXEC, EFD_NONBLOCK, EPOLL_CLOEXEC, EPOLL_CTL_ADD, EPOLL_CTL_MOD, EPOLLET, EPOLLIN,
+    EPOLLONESHOT, EPOLLRDHUP, epoll_create1, eventfd,
 };
 use os::{EpollEvent, FromRawFd, epoll_ctl, epoll_wait, errno};
 use std::io;
 use std::os::fd::{AsRawFd, OwnedFd, RawFd};
 
-/// The system's set of descriptors of which something is to be read. Each is reported once, to one of those that wait, until
-/// it is armed again.
+/// When a descriptor is reported, to one of those that wait.
+#[derive(Clone, Copy)]
+pub(crate) enum When {
+    /// Once something can be read, and not again until it is armed again.
+    Once,
+    /// Each time that something more comes, and where something can be read when it is armed.
+    More,
+    /// Only where its connection fails.
+    Never,
+}
+
+/// What a set reports.
+#[derive(Clone, Copy)]
+pub(crate) struct Report {
+    /// The number of the descriptor.
+    pub(crate) number: u64,
+    /// Its peer sends no more, or the connection has failed.
+    pub(crate) has_ended: bool,
+}
+
+/// The system's set of descriptors of which something is to be read.
 #[derive(Drop)]
 pub(crate) struct ReadySet {
     set: OwnedFd,
@@ -24,17 +43,21 @@ impl ReadySet {
     }
 
     /// Adds a descriptor, which is reported by this number.
-    pub(crate) fn add(&self, fd: RawFd, number: u64) -> io::Result<()> {
-        self.control(EPOLL_CTL_ADD, fd, number)
+    pub(crate) fn add(&self, fd: RawFd, number: u64, when: When) -> io::Result<()> {
+        self.control(EPOLL_CTL_ADD, fd, number, when)
     }
 
-    /// Has a descriptor of the set reported again, by this number.
-    pub(crate) fn arm(&self, fd: RawFd, number: u64) -> io::Result<()> {
-        self.control(EPOLL_CTL_MOD, fd, number)
+    /// Has a descriptor of the set reported so from now on, by this number.
+    pub(crate) fn arm(&self, fd: RawFd, number: u64, when: When) -> io::Result<()> {
+        self.control(EPOLL_CTL_MOD, fd, number, when)
     }
 
-    fn control(&self, how: i32, fd: RawFd, number: u64) -> io::Result<()> {
-        let events = EPOLLIN | EPOLLRDHUP | EPOLLONESHOT;
+    fn control(&self, how: i32, fd: RawFd, number: u64, when: When) -> io::Result<()> {
+        let events = match when {
+            When::Once => EPOLLIN | EPOLLRDHUP | EPOLLONESHOT,
+            When::More => EPOLLIN | EPOLLRDHUP | EPOLLET,
+            When::Never => EPOLLONESHOT,
+        };
         if epoll_ctl(self.set.as_raw_fd(), how, fd, events, number) < 0 {
             return Err(last_error());
         }
@@ -46,11 +69,14 @@ impl ReadySet {
         has_bytes(self.set.as_raw_fd())
     }
 
-    /// The number of one that is ready; `None` where none was within the milliseconds.
-    pub(crate) fn wait(&self, ms: i32) -> io::Result<Option<u64>> {
+    /// A report; `None` where there was none within the milliseconds.
+    pub(crate) fn wait(&self, ms: i32) -> io::Result<Option<Report>> {
         let mut found = [EpollEvent { events: 0, data: 0 }];
         if epoll_wait(self.set.as_raw_fd(), &mut found, ms) > 0 {
-            return Ok(Some(found[0].data));
+            return Ok(Some(Report {
+                number: found[0].data,
+                has_ended: found[0].events & !EPOLLIN != 0,
+            }));
         }
         match errno() {
             0 | EINTR => Ok(None),

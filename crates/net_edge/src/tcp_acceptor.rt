@@ -23,9 +23,18 @@ const LOOKS: u32 = 1_000;
 pub struct TcpAcceptor<R> {
     rt: R,
     door: Arc<Door>,
+    /// What the last connection had of the door, for the next one: all workers would count in one place otherwise.
+    spare: Option<Doors>,
     /// The last answer was `Idle`.
     was_idle: bool,
     faults: FaultCount,
+}
+
+/// The door, for a source and for a sink.
+#[derive(Drop)]
+struct Doors {
+    of_source: Arc<Door>,
+    of_sink: Arc<Door>,
 }
 
 /// What comes next for a worker: a connection, other work, or nothing any more.
@@ -33,9 +42,9 @@ pub struct TcpAcceptor<R> {
 enum Next {
     Conn {
         stream: Arc<TcpStream>,
-        door: Arc<Door>,
         other_stream: Arc<TcpStream>,
-        other_door: Arc<Door>,
+        doors: Doors,
+        has_ended: bool,
     },
     Idle,
     Closed,
@@ -52,6 +61,7 @@ impl<R: Wait + AllocGlobal> TcpAcceptor<R> {
         TcpAcceptor {
             rt,
             door,
+            spare: None,
             was_idle: false,
             faults: FaultCount::none(),
         }
@@ -65,7 +75,7 @@ impl<R: Wait + AllocGlobal> TcpAcceptor<R> {
     }
 
     /// Waits for what comes next, `LOOK_MS` at most. Other work comes first, but not twice in a row.
-    fn await_next(&self) -> io::Result<Next> {
+    fn await_next(&self, spare: &mut Option<Doors>) -> io::Result<Next> {
         if self.door.is_shut() {
             return Ok(Next::Closed);
         }
@@ -75,12 +85,13 @@ impl<R: Wait + AllocGlobal> TcpAcceptor<R> {
         if !self.was_idle && self.door.take_other_work() {
             return Ok(Next::Idle);
         }
-        self.door.sweep();
-        let until = now_ms().saturating_add(LOOK_MS as u64);
+        let now = now_ms();
+        self.door.sweep(now);
+        let until = now.saturating_add(LOOK_MS as u64);
         let mut ms = LOOK_MS;
         for _ in 0..LOOKS {
             match self.door.look(&self.rt, ms)? {
-                Look::Conn(stream) => return self.shared(stream),
+                Look::Conn { stream, has_ended } => return self.shared(stream, has_ended, spare),
                 Look::Went => ms = ms_until(until),
                 Look::Rung if self.door.is_shut() => return Ok(Next::Closed),
                 Look::Rung if self.door.is_ending() => return Ok(Next::Idle),
@@ -98,13 +109,29 @@ impl<R: Wait + AllocGlobal> TcpAcceptor<R> {
     }
 
     /// A connection, for its source and its sink.
-    fn shared(&self, stream: Arc<TcpStream>) -> io::Result<Next> {
+    fn shared(
+        &self,
+        stream: Arc<TcpStream>,
+        has_ended: bool,
+        spare: &mut Option<Doors>,
+    ) -> io::Result<Next> {
         Ok(Next::Conn {
             other_stream: Arc::try_clone(&stream)?,
             stream,
-            door: Arc::try_clone(&self.door)?,
-            other_door: Arc::try_clone(&self.door)?,
+            doors: self.doors(spare)?,
+            has_ended,
         })
+    }
+
+    /// The door, for one more connection.
+    fn doors(&self, spare: &mut Option<Doors>) -> io::Result<Doors> {
+        match spare.take() {
+            Some(doors) => Ok(doors),
+            None => Ok(Doors {
+                of_source: Arc::try_clone(&self.door)?,
+                of_sink: Arc::try_clone(&self.door)?,
+            }),
+        }
     }
 }
 
@@ -118,19 +145,21 @@ impl<R: Wait + AllocGlobal> Acceptor for TcpAcceptor<R> {
     ghost faults = { λ a. a.faults };
 
     fn accept(&mut self) -> Accepted<TcpSource, TcpSink> {
-        let next = self.await_next();
+        let mut spare = self.spare.take();
+        let next = self.await_next(&mut spare);
+        self.spare = spare;
         self.was_idle = false;
         match self.faults.counted(next) {
             Ok(
                 Next::Conn {
                     stream,
-                    door,
                     other_stream,
-                    other_door,
+                    doors,
+                    has_ended,
                 },
             ) => Accepted::Conn {
-                source: TcpSource::new(door, stream),
-                sink: TcpSink::new(other_door, other_stream),
+                source: TcpSource::new(doors.of_source, stream, has_ended),
+                sink: TcpSink::new(doors.of_sink, other_stream),
             },
             Ok(Next::Idle) => {
                 self.was_idle = true;
@@ -142,8 +171,9 @@ impl<R: Wait + AllocGlobal> Acceptor for TcpAcceptor<R> {
     }
 
     fn end(&mut self, source: TcpSource, sink: TcpSink) {
-        match after_stretch(source, sink) {
-            Ok(stream) => self.door.let_rest(&self.rt, stream),
+        let is_awaited = source.is_awaited();
+        match after_stretch(source, sink, &mut self.spare) {
+            Ok(stream) => self.door.let_rest(&self.rt, stream, is_awaited),
             Err(stream) => part_with(&stream),
         }
     }
@@ -163,11 +193,16 @@ fn ms_until(until: u64) -> i32 {
 }
 
 /// The connection: `Ok` exactly where it goes on, since its stretch ended between two requests and nothing failed.
-fn after_stretch(source: TcpSource, sink: TcpSink) -> Result<Arc<TcpStream>, Arc<TcpStream>>
+fn after_stretch(
+    source: TcpSource,
+    sink: TcpSink,
+    spare: &mut Option<Doors>,
+) -> Result<Arc<TcpStream>, Arc<TcpStream>>
     ensures { IsOk result ↔ ((source.rests ≡ true) × (source.faults ≡ 0) × (sink.faults ≡ 0)) }
 {
-    let has_failed = sink.close();
-    let (stream, rests) = source.into_stream();
+    let (of_sink, has_failed) = sink.close();
+    let ((of_source, stream), rests) = source.into_parts();
+    *spare = Some(Doors { of_source, of_sink });
     if rests && !has_failed {
         Ok(stream)
     } else {

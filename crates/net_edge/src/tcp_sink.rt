@@ -35,17 +35,17 @@ impl TcpSink {
         }
     }
 
-    /// Lets its share of the connection go, and tells whether it has failed.
-    pub(crate) fn close(self) -> bool
-        ensures { result ≡ true ↔ self.faults ≢ 0 }
+    /// Lets its share of the connection go, and gives that of the door back; whether it has failed.
+    pub(crate) fn close(self) -> (Arc<Door>, bool)
+        ensures { result.1 ≡ true ↔ self.faults ≢ 0 }
     {
         let TcpSink {
-            door: _,
+            door,
             stream: _,
             pace: _,
             faults,
         } = self;
-        !faults.is_none()
+        (door, !faults.is_none())
     }
 }
 

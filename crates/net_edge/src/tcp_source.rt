@@ -9,14 +9,15 @@ use std::io;
 use std::net::TcpStream;
 use std::sync::Arc;
 
-/// How many requests of one connection are served before others have their turn.
-const REQUESTS_AT_ONCE: u32 = 64;
+/// How often one connection is looked at between requests before others have their turn.
+const LOOKS_AT_ONCE: u32 = 64;
 
 /// What the peer of a connection sends in one stretch: from a moment at which something is there until one at which, between
 /// two requests, nothing more is. It tells no content.
 ///
-/// Between two requests, of which `between` tells it, a read looks once, and answers 0 where nothing is there. Within a request
-/// it waits, and answers 0 where it has waited too long in this stretch. Each error of the connection is a fault.
+/// Between two requests, of which `between` tells it, a read answers 0 where nothing is there: without a look where the last read
+/// left nothing, since what comes later is reported anew. Within a request it waits, and answers 0 where it has waited too long in
+/// this stretch. Each error of the connection is a fault.
 pub struct TcpSource {
     door: Arc<Door>,
     stream: Arc<TcpStream>,
@@ -25,8 +26,12 @@ pub struct TcpSource {
     /// The last read answered that the stretch ended between two requests.
     pub(crate) rests: bool,
     ended: bool,
-    /// How many reads there were between two requests.
-    requests: u32,
+    /// How many looks there were between two requests.
+    looks: u32,
+    /// The report of this stretch said that the peer sends no more, so that no other will come.
+    has_no_more: bool,
+    /// The last read left nothing.
+    is_drained: bool,
     /// How what it sends within requests comes.
     pace: Pace,
     pub(crate) faults: FaultCount,
@@ -38,7 +43,7 @@ impl TcpSource {
     ghost use Rattle.std.specs.Prelude.{◌≡◌, ◌≤◌, ◌↔◌, length, true, false, None, IfOk, IfSome};
 
     /// A stretch that begins.
-    pub(crate) fn new(door: Arc<Door>, stream: Arc<TcpStream>) -> Self
+    pub(crate) fn new(door: Arc<Door>, stream: Arc<TcpStream>, has_no_more: bool) -> Self
         ensures no_faults { ⟦<TcpSource as Source>⟧.faults result ≡ 0 }
         ensures not_ended { ⟦<TcpSource as Source>⟧.ended result ≡ false }
         ensures does_not_rest { result.rests ≡ false }
@@ -49,27 +54,36 @@ impl TcpSource {
             is_between: true,
             rests: false,
             ended: false,
-            requests: 0,
+            looks: 0,
+            has_no_more,
+            is_drained: false,
             pace: Pace::new(),
             faults: FaultCount::none(),
         }
     }
 
-    /// The connection, and whether its stretch ended between two requests and it didn't fail.
-    pub(crate) fn into_stream(self) -> (Arc<TcpStream>, bool)
+    /// Whether a report will say where there is something to read.
+    pub(crate) fn is_awaited(&self) -> bool {
+        self.is_drained && !self.has_no_more
+    }
+
+    /// The door and the connection, and whether its stretch ended between two requests and it didn't fail.
+    pub(crate) fn into_parts(self) -> ((Arc<Door>, Arc<TcpStream>), bool)
         ensures { result.1 ≡ true ↔ ((self.rests ≡ true) × (self.faults ≡ 0)) }
     {
         let TcpSource {
-            door: _,
+            door,
             stream,
             is_between: _,
             rests,
             ended: _,
-            requests: _,
+            looks: _,
+            has_no_more: _,
+            is_drained: _,
             pace: _,
             faults,
         } = self;
-        (stream, rests && faults.is_none())
+        ((door, stream), rests && faults.is_none())
     }
 
     /// What comes next; `None` where the stretch ends between two requests.
@@ -84,13 +98,16 @@ impl TcpSource {
         if !self.is_between {
             let n = read_in_time(&self.door, &self.stream, &mut self.pace, into)?;
             self.pace.note(n);
+            self.is_drained = n < into.len();
             return Ok(Some(n));
         }
-        if self.requests >= REQUESTS_AT_ONCE {
+        if self.is_awaited() || self.looks >= LOOKS_AT_ONCE {
             return Ok(None);
         }
-        self.requests = self.requests.saturating_add(1);
-        read_now(&self.stream, into)
+        self.looks = self.looks.saturating_add(1);
+        let found = read_now(&self.stream, into)?;
+        self.is_drained = found.is_none_or(|n| n < into.len());
+        Ok(found)
     }
 }
 
