@@ -1,47 +1,14 @@
 //! The work that is measured: the requests of a piece are read, and what is done with each.
+use crate::rows::Part;
 use api_routes::Routers;
 use http_frames::{Framer, Step, push_response};
 use httparse::Status;
 use httparse::spans::{HeaderSpan, parse_request};
-use side_base::{Blob, Field, NoMemory, Request, Response, Sequence, Text};
+use side_base::{Blob, Field, Fields, NoMemory, Request, Response, Text};
 use std::alloc::Global;
 
 /// How much of a piece is fed at a time.
 const READ: usize = 16_384;
-
-/// How far the work goes.
-#[derive(Clone, Copy)]
-pub enum Part {
-    /// `httparse` alone reads the heads.
-    Heads,
-    /// A framer is fed, and gives the requests.
-    Frames,
-    /// Of each the route is found.
-    Routes,
-    /// And to each a response is written.
-    Whole,
-}
-
-/// The name of a part.
-pub fn name_of(part: Part) -> &'static str {
-    match part {
-        Part::Heads => "heads",
-        Part::Frames => "frames",
-        Part::Routes => "routes",
-        Part::Whole => "whole",
-    }
-}
-
-/// The part of this name.
-pub fn part_named(word: &str) -> Option<Part> {
-    match word {
-        "heads" => Some(Part::Heads),
-        "frames" => Some(Part::Frames),
-        "routes" => Some(Part::Routes),
-        "whole" => Some(Part::Whole),
-        _ => None,
-    }
-}
 
 /// What the work takes beside a framer: routers, and the response that is written.
 #[derive(Clone, Copy)]
@@ -53,19 +20,16 @@ pub struct Desk<'a> {
 
 /// A response with the content of a get of 100 bytes.
 pub fn response(alloc: Global) -> Result<Response, NoMemory> {
-    let mut fields = Sequence::new(alloc);
-    fields.push(field(alloc, "Content-Type", b"application/json")?)?;
+    let mut fields = Fields::new(alloc);
+    fields.push(Field {
+        name: Text::from_static(alloc, "Content-Type"),
+        value: Blob::from_bytes(alloc, b"application/json")?,
+    })?;
     Ok(Response {
         status: 200,
         fields,
         body: Blob::from_bytes(alloc, &[b'x'; 100])?,
     })
-}
-
-fn field(alloc: Global, name: &str, value: &[u8]) -> Result<Field, NoMemory> {
-    let name = Text::from_str(alloc, name)?;
-    let value = Blob::from_bytes(alloc, value)?;
-    Ok(Field { name, value })
 }
 
 /// Whether a request has a route.
@@ -87,31 +51,18 @@ fn is_written(response: &Response, out: &mut Blob) -> bool {
 
 /// Whether the work with a request is done.
 fn is_done(desk: Desk<'_>, part: Part, request: &Request, out: &mut Blob) -> bool {
-    match part {
-        Part::Heads => false,
-        Part::Frames => true,
-        Part::Routes => is_found(desk, request),
-        Part::Whole => is_found(desk, request) && is_written(desk.response, out),
-    }
-}
-
-/// Whether a framer gives a request; then whether the work with it is done.
-fn next(desk: Desk<'_>, part: Part, framer: &mut Framer, out: &mut Blob) -> Option<bool> {
-    match framer.next() {
-        Ok(Step::Request(request)) => Some(is_done(desk, part, &request, out)),
-        Ok(_) => None,
-        Err(_) => None,
-    }
+    (!part.is_routed || is_found(desk, request))
+        && (!part.is_answered || is_written(desk.response, out))
 }
 
 /// With how many of the requests that a framer gives the work is done.
 fn count_given(desk: Desk<'_>, part: Part, framer: &mut Framer, out: &mut Blob) -> u64 {
     let mut count: u64 = 0;
     for _ in 0..u64::MAX {
-        match next(desk, part, framer, out) {
-            Some(done) => count = count.saturating_add(u64::from(done)),
-            None => return count,
-        }
+        let Ok(Step::Request(request)) = framer.next() else {
+            return count;
+        };
+        count = count.saturating_add(u64::from(is_done(desk, part, &request, out)));
     }
     count
 }
@@ -137,8 +88,7 @@ pub fn count_framed(
 fn head_len(bytes: &[u8], headers: &mut [HeaderSpan]) -> usize {
     match parse_request(bytes, headers) {
         Ok(Status::Complete(spans)) => spans.len,
-        Ok(Status::Partial) => 0,
-        Err(_) => 0,
+        Ok(Status::Partial) | Err(_) => 0,
     }
 }
 

@@ -1,0 +1,139 @@
+//! What is measured: rows of requests, and parts of the work with them.
+use side_base::NoMemory;
+use std::alloc::Global;
+
+/// A row of what is measured: requests with this head and so many bytes of content, of which so many come together.
+#[derive(Clone, Copy)]
+pub struct Row {
+    pub name: &'static str,
+    pub head: &'static [u8],
+    pub content: usize,
+    pub group: u32,
+}
+
+/// How far the work with a request goes.
+#[derive(Clone, Copy)]
+pub struct Part {
+    pub name: &'static str,
+    /// A framer is fed, and gives it; else `httparse` alone reads its head.
+    pub is_framed: bool,
+    /// Its route is found.
+    pub is_routed: bool,
+    /// A response is written.
+    pub is_answered: bool,
+}
+
+const GET: &[u8] = b"GET /v1.0/state/statestore/a HTTP/1.1\r\nHost: a\r\n\r\n";
+
+/// The head of a save of a text of 100 bytes, which stands in 24 bytes of JSON.
+const SAVE_100: &[u8] =
+    b"POST /v1.0/state/statestore HTTP/1.1\r\nHost: a\r\nContent-Length: 124\r\n\r\n";
+
+/// The head of a save of a text of 16,384 bytes.
+const SAVE_16384: &[u8] =
+    b"POST /v1.0/state/statestore HTTP/1.1\r\nHost: a\r\nContent-Length: 16408\r\n\r\n";
+
+/// The rows that are measured, unless an argument names one of them.
+pub const ROWS: &[Row] = &[
+    Row {
+        name: "get",
+        head: GET,
+        content: 0,
+        group: 1,
+    },
+    Row {
+        name: "save-100",
+        head: SAVE_100,
+        content: 124,
+        group: 1,
+    },
+    Row {
+        name: "save-16384",
+        head: SAVE_16384,
+        content: 16_408,
+        group: 1,
+    },
+    Row {
+        name: "16-gets",
+        head: GET,
+        content: 0,
+        group: 16,
+    },
+    Row {
+        name: "16-saves-100",
+        head: SAVE_100,
+        content: 124,
+        group: 16,
+    },
+    Row {
+        name: "16-saves-16384",
+        head: SAVE_16384,
+        content: 16_408,
+        group: 16,
+    },
+];
+
+/// The parts that are measured, unless an argument names one of them.
+pub const PARTS: &[Part] = &[
+    Part {
+        name: "heads",
+        is_framed: false,
+        is_routed: false,
+        is_answered: false,
+    },
+    Part {
+        name: "frames",
+        is_framed: true,
+        is_routed: false,
+        is_answered: false,
+    },
+    Part {
+        name: "routes",
+        is_framed: true,
+        is_routed: true,
+        is_answered: false,
+    },
+    Part {
+        name: "whole",
+        is_framed: true,
+        is_routed: true,
+        is_answered: true,
+    },
+];
+
+/// The name of one of these rows, where a word is one.
+pub fn row_name(rows: &[Row], word: &str) -> Option<&'static str> {
+    for row in rows {
+        if row.name == word {
+            return Some(row.name);
+        }
+    }
+    None
+}
+
+/// The name of one of these parts, where a word is one.
+pub fn part_name(parts: &[Part], word: &str) -> Option<&'static str> {
+    for part in parts {
+        if part.name == word {
+            return Some(part.name);
+        }
+    }
+    None
+}
+
+fn push_request(bytes: &mut Vec<u8>, row: &Row) -> Result<(), NoMemory> {
+    bytes.extend_from_slice(row.head)?;
+    for _ in 0..row.content {
+        bytes.push(b'x')?;
+    }
+    Ok(())
+}
+
+/// The requests of a row that come together, one behind the other.
+pub fn together(alloc: Global, row: &Row) -> Result<Vec<u8>, NoMemory> {
+    let mut bytes = Vec::new(alloc);
+    for _ in 0..row.group {
+        push_request(&mut bytes, row)?;
+    }
+    Ok(bytes)
+}
