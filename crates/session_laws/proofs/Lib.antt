@@ -5,6 +5,8 @@ pub mod Early
 pub mod Following
 pub mod Heads
 pub mod Invoking
+pub mod Messaging
+pub mod Ordering
 pub mod Overlong
 pub mod Paths
 pub mod Plain
@@ -19,4 +21,5 @@ pub mod Transacting
 pub mod Turning
 pub mod Waiting
 pub mod Working
+pub mod WorkingBy
 pub mod Wrongly

@@ -17,7 +17,7 @@ use Rattle.session_laws.specs.Invocations.{asks_publish, publishes_at}
 use Rattle.session_laws.specs.Publishing.{HasNoBroker, IsMessage, PublishAnswers, Publishes, Stamp, accepted, denied, exhausted, lacks, lacks_memory, published, refused, sent_by, unknown}
 use Rattle.session_laws.specs.Stores.{usual}
 
-abbrev broker : Loaded
+abbrev pub broker : Loaded
 broker = record { name = codes "pubsub"; kind = PubsubMemory; version = codes "v1"; settings = [] }
 
 pub is_published : (subs : List Sub) (stamp : Stamp) (event : List ℕ) (values : Forest) (number : ℕ) → IsMessage subs (sent_by usual asks_publish (codes "pubsub") (codes "orders")) stamp event values

@@ -25,7 +25,7 @@ no_slash (byte ∷ bytes) = not (byte == 47) && no_slash bytes
 other_byte : (byte : ℕ) → not (byte == 47) ≡ true → byte ≢ slash
 other_byte byte h e = let same : not (47 == 47) ≡ true = subst (λ (n : ℕ). not (n == 47) ≡ true) e h in let bad : ⊥ = cc in bad
 
-segment_by : (value : List ℕ) → no_slash value ≡ true → AllByRecursion (λ (byte : ℕ). byte ≢ slash) value
+pub segment_by : (value : List ℕ) → no_slash value ≡ true → AllByRecursion (λ (byte : ℕ). byte ≢ slash) value
 segment_by [] h = tt
 segment_by (byte ∷ bytes) h = (other_byte byte (and_parts _ _ h).0, segment_by bytes (and_parts _ _ h).1)
 

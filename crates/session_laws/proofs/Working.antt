@@ -67,13 +67,13 @@ abbrev rest_in : List Answer → List Answer
 rest_in [] = []
 rest_in (a ∷ as_) = as_
 
-snoc_fronts : (xs ys : List Answer) (x y : Answer) → xs ++ x ∷ [] ≡ ys ++ y ∷ [] → xs ≡ ys
+pub snoc_fronts : (xs ys : List Answer) (x y : Answer) → xs ++ x ∷ [] ≡ ys ++ y ∷ [] → xs ≡ ys
 snoc_fronts [] [] x y same = refl
 snoc_fronts [] (b ∷ ys) x y same = let len = ap length same in let bad : ⊥ = omega (arith, len, length-append ys (y ∷ [])) in absurd bad
 snoc_fronts (a ∷ xs) [] x y same = let len = ap length same in let bad : ⊥ = omega (arith, len, length-append xs (x ∷ [])) in absurd bad
 snoc_fronts (a ∷ xs) (b ∷ ys) x y same = λ i. first_in a (same i) ∷ snoc_fronts xs ys x y (ap rest_in same) i
 
-snoc_lasts : (xs ys : List Answer) (x y : Answer) → xs ++ x ∷ [] ≡ ys ++ y ∷ [] → x ≡ y
+pub snoc_lasts : (xs ys : List Answer) (x y : Answer) → xs ++ x ∷ [] ≡ ys ++ y ∷ [] → x ≡ y
 snoc_lasts [] [] x y same = ap (first_in x) same
 snoc_lasts [] (b ∷ ys) x y same = let len = ap length same in let bad : ⊥ = omega (arith, len, length-append ys (y ∷ [])) in absurd bad
 snoc_lasts (a ∷ xs) [] x y same = let len = ap length same in let bad : ⊥ = omega (arith, len, length-append xs (x ∷ [])) in absurd bad

@@ -1,0 +1,12 @@
+use Rattle.std.proofs.Common.{refl}
+use Rattle.session_laws.proofs.Messaging.{ends_told, works}
+use Rattle.session_laws.proofs.workers.a_worker_publishes_and_delivers.Goals as goal
+
+pub returns-clause-worked : goal.returns-clause-worked
+returns-clause-worked c rules stamp event values now later message = works rules stamp event values now later message
+
+pub returns-clause-called : goal.returns-clause-called
+returns-clause-called c rules stamp event values now later = refl
+
+pub returns-clause-closed : goal.returns-clause-closed
+returns-clause-closed c faults = ends_told faults
