@@ -1,0 +1,54 @@
+//! Where two meet.
+use side_world::{Gate, Point};
+use std::sync::Wait;
+use std::sync::atomic::{AtomicBool, Ordering};
+use std::thread::sleep;
+use std::time::Duration;
+
+/// How often one looks for the other, a millisecond apart.
+const TURNS: u32 = 10_000;
+
+/// Two that wait for each other: each raises its flag, and looks for the other's.
+#[derive(Drop)]
+pub(crate) struct Meeting {
+    clock: HostRuntime,
+    came: [AtomicBool; 2],
+    found: [AtomicBool; 2],
+}
+
+impl Meeting {
+    pub(crate) fn new(clock: HostRuntime) -> Meeting {
+        Meeting {
+            clock,
+            came: [AtomicBool::new(false), AtomicBool::new(false)],
+            found: [AtomicBool::new(false), AtomicBool::new(false)],
+        }
+    }
+
+    /// Raises the flag of this one, and looks for the other's until it is raised or all turns are over.
+    pub(crate) fn look(&self, own: bool) {
+        let (own, other) = if own { (0, 1) } else { (1, 0) };
+        self.came[own].store(true, Ordering::SeqCst);
+        for _ in 0..TURNS {
+            if self.came[other].load(Ordering::SeqCst) {
+                self.found[own].store(true, Ordering::SeqCst);
+                return;
+            }
+            sleep(&self.clock, Duration::from_millis(1));
+        }
+    }
+
+    /// Whether each found the other.
+    pub(crate) fn is_met(&self) -> bool {
+        self.found[0].load(Ordering::SeqCst) && self.found[1].load(Ordering::SeqCst)
+    }
+}
+
+// A worker is held up once it has a connection, of which nothing was read yet.
+impl Gate for Meeting {
+    fn pass<R: Wait>(&self, _rt: &R, worker: u32, point: Point) {
+        if point == Point::Accepted {
+            self.look(worker == 0);
+        }
+    }
+}
