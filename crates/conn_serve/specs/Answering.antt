@@ -1,16 +1,17 @@
 -- What the parts of a session do: one request is answered, and more bytes are wanted.
-use Rattle.std.specs.Prelude.{◌≡◌, ◌≢◌, ℕ, ◌<◌, ◌≤◌, false, List, [], ◌++◌, length, Option, Some, None, is_some, Result, Ok, Err}
+use Rattle.std.specs.Prelude.{◌≡◌, ◌≢◌, ◌⊎◌, ℕ, ◌<◌, ◌≤◌, false, List, [], ◌++◌, length, Option, Some, None, is_some, Result, Ok, Err}
 use Rattle.side_base.specs.declared.message.Request.{Request}
 use Rattle.side_base.specs.declared.message.Response.{Response}
 use Rattle.turn_cell.specs.declared.error.ApiErr.{ApiErr}
 use Rattle.turn_cell.specs.declared.error.ApiErr.TheVariants as error
 use Rattle.api_error.specs.NoMemory.{no_memory_response}
+use Rattle.http_frames.specs.declared.refusal.FrameErr.{FrameErr}
 use Rattle.http_frames.specs.Framing.{State, Kept, Stands, waiting, fed}
 use Rattle.http_frames.specs.Written.{written}
 use Rattle.conn_serve.specs.declared.ended.Ended.{Ended}
-use Rattle.conn_serve.specs.declared.ended.Ended.TheVariants.{Done, ClosedByPeer, Spent, SourceFailed, SinkFailed, NoMemory}
+use Rattle.conn_serve.specs.declared.ended.Ended.TheVariants.{Done, ClosedByPeer, Refused, Spent, SourceFailed, SinkFailed, NoMemory}
 use Rattle.conn_serve.specs.Exchanged.{IsStop, is_head}
-use Rattle.conn_serve.specs.Session.{IsSpentAnswer}
+use Rattle.conn_serve.specs.Session.{IsSpentAnswer, refused_bytes}
 use Rattle.conn_serve.specs.Ends.{SinkAt, SourceAt, Sent, Cut, IsFinish, Read, HasEnded, HasFailed}
 
 -- the session is over, and ended so
@@ -59,3 +60,13 @@ abbrev pub IsEnd : State → Ended → Type 0
 IsEnd state Done = state ≡ waiting [] false
 IsEnd state ClosedByPeer = state ≢ waiting [] false
 IsEnd state _ = ⊥
+
+-- the session ends with the response to bytes that are refused so, or for want of memory
+abbrev pub FinishesRefused : FrameErr → List ℕ → SinkAt → SinkAt → Ended → Type 0
+FinishesRefused why out sink sink' result = IsFinish (Refused why) (out ++ refused_bytes why) sink sink' result ⊎ IsFinish NoMemory (out ++ no_memory_response) sink sink' result
+
+-- A request was answered by a handler, which went on through what was done for it: `answers` is what the reply made of the session. Where the request met an exhausted cell, a seat
+-- of the handler shows its count
+abbrev pub Responded : {H E : Type 0} → (H → Request → List E → Result Response ApiErr → Type 0) → (H → List E → H → Type 0) → (H → ℕ → Type 0) → H → H → Request → (Result Response ApiErr → Type 0) → Type 0
+Responded {H} {E} exchange did shows handler handler' request answers =
+    (events : List E) × (reply : Result Response ApiErr) × exchange handler request events reply × did handler events handler' × answers reply × ((count : ℕ) → reply ≡ Err (error.Exhausted count) → shows handler' count)

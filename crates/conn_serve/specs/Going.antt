@@ -1,21 +1,24 @@
 -- A session that goes on, and one turn of it: what the bytes that were read hold next.
-use Rattle.std.specs.Prelude.{◌≡◌, ◌⊎◌, ℕ, ◌<◌, ◌≤◌, Bool, true, false, List, [], ◌++◌, length, flat_map, Option, Some, None, Result}
+use Rattle.std.specs.Prelude.{◌≡◌, ◌⊎◌, ℕ, ◌<◌, ◌≤◌, Bool, true, false, List, [], ◌++◌, length, flat_map, Option, Some, None, Result, Ok}
+use Rattle.side_world.specs.declared.sink.Sink.{Ghosts as Takes}
+use Rattle.side_world.specs.declared.source.Source.{Ghosts as Gives}
 use Rattle.side_base.specs.declared.message.Request.{Request}
 use Rattle.side_base.specs.declared.message.Response.{Response}
 use Rattle.turn_cell.specs.declared.error.ApiErr.{ApiErr}
 use Rattle.api_error.specs.NoMemory.{no_memory_response}
 use Rattle.http_frames.specs.declared.refusal.FrameErr.{FrameErr}
 use Rattle.http_frames.specs.declared.refusal.FrameErr.TheVariants as refusal
-use Rattle.http_frames.specs.Framing.{State, Kept, Stands}
+use Rattle.http_frames.specs.Framing.{IsNext, State, Kept, Stands}
 use Rattle.http_frames.specs.Written.{continue_bytes}
+use Rattle.http_frames.specs.declared.step.Step.{Step}
 use Rattle.http_frames.specs.Streams.{Midway}
 use Rattle.conn_serve.specs.declared.ended.Ended.{Ended}
-use Rattle.conn_serve.specs.declared.ended.Ended.TheVariants.{Refused, NoMemory}
+use Rattle.conn_serve.specs.declared.ended.Ended.TheVariants.{NoMemory}
 use Rattle.conn_serve.specs.Exchanged.{Exchanged, AreAnswered, GoesOn, out_of, responses_of, wholes_of}
-use Rattle.conn_serve.specs.Session.{refused_bytes}
-use Rattle.conn_serve.specs.Ends.{SinkAt, SourceAt, Passed, Read, IsFinish, SentFirst}
+use Rattle.conn_serve.specs.Ends.{SinkAt, SourceAt, Passed, Read, IsFinish, SentFirst, sink_at, source_at}
+use Rattle.conn_serve.specs.declared.serving.Progress.{Progress}
 use Rattle.conn_serve.specs.Sending.{SentBeforeRead}
-use Rattle.conn_serve.specs.Answering.{LacksRoom}
+use Rattle.conn_serve.specs.Answering.{FinishesRefused, LacksRoom}
 use Rattle.conn_serve.specs.Served.{Served}
 
 -- `Continue` where it was given for what comes next
@@ -59,4 +62,29 @@ Continues out out' sink sink' result = ((result ≡ None) × (out' ≡ out ++ co
 -- how a session ends with bytes that are refused, or for want of memory
 abbrev pub EndsBy : FrameErr → List ℕ → SinkAt → SinkAt → Ended → Type 0
 EndsBy refusal.NoMemory out sink sink' result = IsFinish NoMemory (out ++ no_memory_response) sink sink' result
-EndsBy why out sink sink' result = IsFinish (Refused why) (out ++ refused_bytes why) sink sink' result ⊎ IsFinish NoMemory (out ++ no_memory_response) sink sink' result
+EndsBy why out sink sink' result = FinishesRefused why out sink sink' result
+
+-- what a session shows between two steps: what its framer keeps, how many requests were answered, what is gathered, its source, and its sink
+pub record Stage : Type 0 where
+  pub kept : Kept
+  pub number : ℕ
+  pub out : List ℕ
+  pub source : SourceAt
+  pub sink : SinkAt
+
+abbrev pub stage : {S N : Type 0} → Gives S → Takes N → Progress → S → N → Stage
+stage gives takes progress source sink = record { kept = progress.framer; number = progress.answered; out = progress.out; source = source_at gives source; sink = sink_at takes sink }
+
+module _ {H E : Type 0} (exchange : H → Request → List E → Result Response ApiErr → Type 0) (did : H → List E → H → Type 0) (shows : H → ℕ → Type 0) (handler handler' : H) (at after : Stage) (result : Option Ended) where
+  -- what went on from its beginning goes on to this stage in this state; and from there the handler has led it to the later one
+  abbrev pub Leads : H → SourceAt → SinkAt → State → Type 0
+  Leads first source sink state = Going (exchange first) (λ events. did first events handler) source at.source sink at.sink state at.number at.out
+      → After (exchange first) (λ events. did first events handler') (shows handler') source after.source sink after.sink after.kept after.number after.out result
+
+  -- from wherever the framer stands
+  abbrev pub TurnLeads : Type 0
+  TurnLeads = (first : H) (source : SourceAt) (sink : SinkAt) (state : State) → Stands state at.kept → Leads first source sink state
+
+  -- the same behind this step of the stream
+  abbrev pub TakeLeads : Step → Type 0
+  TakeLeads step = (first : H) (source : SourceAt) (sink : SinkAt) (state new : State) → Stands new at.kept → IsNext state (Ok step) new → Leads first source sink state

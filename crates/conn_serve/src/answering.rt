@@ -1,11 +1,8 @@
-ghost use Rattle.std.specs.Prelude.{◌≡◌, ◌⊎◌, ℕ, List, Result, Err};
+ghost use Rattle.std.specs.Prelude.{◌≡◌, ◌⊎◌};
 ghost use Rattle.http.specs.StatusCode.{IsStatusCode};
-ghost use Rattle.side_base.specs.declared.message.Response.{Response as ResponseRecord};
-ghost use Rattle.turn_cell.specs.declared.error.ApiErr.{ApiErr as ApiErrRecord};
-ghost use Rattle.turn_cell.specs.declared.error.ApiErr.TheVariants as error;
 ghost use Rattle.conn_serve.specs.Exchanged.{IsStop, is_head};
 ghost use Rattle.conn_serve.specs.Ends.{sink_at};
-ghost use Rattle.conn_serve.specs.Answering.{Answers, IsSaid, LacksRoom, MakesRoom, Went};
+ghost use Rattle.conn_serve.specs.Answering.{Answers, IsSaid, LacksRoom, MakesRoom, Responded, Went};
 
 use crate::ending::{finish, finish_spent, finish_without_memory, flush};
 use crate::{Ended, Handler};
@@ -34,7 +31,7 @@ pub(crate) fn answer<H: Handler, N: Sink, W: Wait>(
     sink: &mut N,
 ) -> Option<Ended>
     requires { H.ready handler.old }
-    ensures answered { (events : List H.Event) × (reply : Result ResponseRecord ApiErrRecord) × H.exchange handler.old request.now events reply × H.did handler.old events handler.new × Answers number request.now out.old out.new (sink_at N.Sink sink.old) (sink_at N.Sink sink.new) reply result × ((count : ℕ) → reply ≡ Err (error.Exhausted count) → H.shows handler.new count) }
+    ensures answered { Responded H.exchange H.did H.shows handler.old handler.new request.now (λ reply. Answers number request.now out.old out.new (sink_at N.Sink sink.old) (sink_at N.Sink sink.new) reply result) }
 {
     match handler.respond(rt, request) {
         Ok(response) => say(number, request, &response, out, sink),

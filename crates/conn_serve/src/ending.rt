@@ -1,7 +1,8 @@
-ghost use Rattle.std.specs.Prelude.{◌≡◌, ◌⊎◌, ◌++◌, ℕ, List, [], OnOk, OnErr};
+ghost use Rattle.std.specs.Prelude.{◌≡◌, ◌++◌, ℕ, List, [], OnOk, OnErr};
 ghost use Rattle.api_error.specs.NoMemory.{no_memory_response};
 ghost use Rattle.conn_serve.specs.Session.{refused_bytes, spent_bytes, IsSpentAnswer};
 ghost use Rattle.conn_serve.specs.Ends.{Sent, Cut, IsFinish, sink_at};
+ghost use Rattle.conn_serve.specs.Answering.{FinishesRefused};
 
 use crate::Ended;
 use api_error::{Code, error_response, no_memory_response};
@@ -51,7 +52,7 @@ pub(crate) fn finish_refused<N: Sink>(
     out: &mut Blob,
     sink: &mut N,
 ) -> Ended
-    ensures { IsFinish (Ended.Refused why) (out.old ++ refused_bytes why) (sink_at N.Sink sink.old) (sink_at N.Sink sink.new) result ⊎ IsFinish Ended.NoMemory (out.old ++ no_memory_response) (sink_at N.Sink sink.old) (sink_at N.Sink sink.new) result }
+    ensures { FinishesRefused why out.old (sink_at N.Sink sink.old) (sink_at N.Sink sink.new) result }
 {
     match push_refused(alloc, why, out) {
         Ok(()) => finish(Ended::Refused(why), out, sink),

@@ -1,7 +1,6 @@
-ghost use Rattle.std.specs.Prelude.{◌≡◌, ◌<◌, ℕ, None, Ok};
-ghost use Rattle.http_frames.specs.Framing.{State, Stands, IsNext};
-ghost use Rattle.conn_serve.specs.Ends.{SourceAt, SinkAt, sink_at, source_at};
-ghost use Rattle.conn_serve.specs.Going.{Going, After, Continues, EndsBy};
+ghost use Rattle.std.specs.Prelude.{◌≡◌, ◌<◌, None};
+ghost use Rattle.conn_serve.specs.Ends.{sink_at, source_at};
+ghost use Rattle.conn_serve.specs.Going.{Continues, EndsBy, TakeLeads, TurnLeads, stage};
 ghost use Rattle.conn_serve.specs.Served.{Served};
 
 use crate::answering::answer;
@@ -41,7 +40,7 @@ pub fn serve<H: Handler, S: Source, N: Sink, W: Wait>(
     sink: &mut N,
 ) -> Ended
     requires { H.ready handler.old }
-    ensures { Served (H.exchange handler.old) (λ events. H.did handler.old events handler.new) (H.shows handler.new) (source_at S.Source source.old) (source_at S.Source source.new) (sink_at N.Sink sink.old) (sink_at N.Sink sink.new) result }
+    ensures { Served (H.exchange handler.old) (λ xs. H.did handler.old xs handler.new) (H.shows handler.new) (source_at S.Source source.old) (source_at S.Source source.new) (sink_at N.Sink sink.old) (sink_at N.Sink sink.new) result }
 {
     bytes_go_on();
     let mut progress = Progress {
@@ -71,7 +70,7 @@ fn turn<H: Handler, S: Source, N: Sink, W: Wait>(
     requires below { progress.old.answered < 100000 }
     ensures ready { H.ready handler.new }
     ensures below { result ≡ None → progress.new.answered < 100000 }
-    ensures after { (first : H) (source0 : SourceAt) (sink0 : SinkAt) (state : State) → Stands state progress.old.framer → Going (H.exchange first) (λ events. H.did first events handler.old) source0 (source_at S.Source source.old) sink0 (sink_at N.Sink sink.old) state progress.old.answered progress.old.out → After (H.exchange first) (λ events. H.did first events handler.new) (H.shows handler.new) source0 (source_at S.Source source.new) sink0 (sink_at N.Sink sink.new) progress.new.framer progress.new.answered progress.new.out result }
+    ensures after { TurnLeads H.exchange H.did H.shows handler.old handler.new (stage S.Source N.Sink progress.old source.old sink.old) (stage S.Source N.Sink progress.new source.new sink.new) result }
 {
     bytes_go_on();
     answers_go_on();
@@ -96,7 +95,7 @@ fn take<H: Handler, S: Source, N: Sink, W: Wait>(
     requires below { progress.old.answered < 100000 }
     ensures ready { H.ready handler.new }
     ensures below { result ≡ None → progress.new.answered < 100000 }
-    ensures after { (first : H) (source0 : SourceAt) (sink0 : SinkAt) (state new : State) → Stands new progress.old.framer → IsNext state (Ok step) new → Going (H.exchange first) (λ events. H.did first events handler.old) source0 (source_at S.Source source.old) sink0 (sink_at N.Sink sink.old) state progress.old.answered progress.old.out → After (H.exchange first) (λ events. H.did first events handler.new) (H.shows handler.new) source0 (source_at S.Source source.new) sink0 (sink_at N.Sink sink.new) progress.new.framer progress.new.answered progress.new.out result }
+    ensures after { TakeLeads H.exchange H.did H.shows handler.old handler.new (stage S.Source N.Sink progress.old source.old sink.old) (stage S.Source N.Sink progress.new source.new sink.new) result step }
 {
     bytes_go_on();
     answers_go_on();

@@ -1,5 +1,5 @@
 -- What asking the breaker, and telling it, does.
-use Rattle.std.proofs.Common.{◌≡◌, ℕ, Bool, true, List, [], ◌∷◌, Ok, Err, refl, sym, subst, arith}
+use Rattle.std.proofs.Common.{◌≡◌, ℕ, Bool, true, false, List, [], ◌∷◌, Ok, Err, refl, sym, subst, arith}
 use Rattle.breaker_core.specs.declared.command.BreakerCmd.TheVariants.{Admit, Report}
 use Rattle.breaker_core.specs.declared.command.BreakerReply.{BreakerReply}
 use Rattle.breaker_core.specs.declared.command.BreakerReply.TheVariants.{Admitted, Opened, TooMany, Counted, Stale}
@@ -9,7 +9,8 @@ use Rattle.policy_run.specs.declared.turn.Admission.{Admission}
 use Rattle.policy_run.specs.declared.turn.Admission.TheVariants as admission
 use Rattle.policy_run.specs.Event.{Event, guarded, moment}
 use Rattle.policy_run.specs.Effects.{Clocked, Effects, ReadsNow}
-use Rattle.policy_run.specs.Turn.{Answers, IsAdmittedBy, IsAdmission, IsReport}
+use Rattle.policy_run.specs.Turn.{Answers, IsAdmittedBy, IsAdmission, IsReport, IsReported, LetsThrough}
+use Rattle.policy_run.proofs.Composed.{no_effects}
 
 module _ (E : Type 0) (now : ℕ) where
   is_admission : (step : Step) (reply : BreakerReply) (a : Admission) → Answers step (Admit now) reply → IsAdmittedBy reply a → IsAdmission {E = E} true a (moment now ∷ guarded step ∷ [])
@@ -58,3 +59,16 @@ module _ {E : Type 0} (held : List Step → Type 0) (clock clock' : Clocked) (no
   pub unreported : (there : Bool) (generation : ℕ) (good : Bool) (exhausted : Exhausted) → there ≡ true → held []
       → (events : List (Event E)) × IsReport there generation good (Err exhausted) events × Effects events (λ xs. xs ≡ []) held clock clock' (λ xs. xs ≡ [])
   unreported there generation good exhausted is-there did = (moment now ∷ [], (is-there, (now, refl)), looked did)
+
+-- without a breaker nothing is asked, and nothing told
+module _ {E : Type 0} (held : List Step → Type 0) (clock : Clocked) (none-held : held []) where
+  nothing_made : Effects {E = E} [] (λ xs. xs ≡ []) held clock clock (λ xs. xs ≡ [])
+  nothing_made = no_effects (λ xs. xs ≡ []) held clock (λ xs. xs ≡ []) refl none-held refl
+
+  pub unasked : (there : Bool) → there ≡ false → (events : List (Event E)) × LetsThrough there 0 events × Effects events (λ xs. xs ≡ []) held clock clock (λ xs. xs ≡ [])
+  unasked false gone = ([], refl, nothing_made)
+  unasked true gone = let bad : ⊥ = cc in absurd bad
+
+  pub untold : (there : Bool) (generation : ℕ) (good : Bool) → there ≡ false → (events : List (Event E)) × IsReported there generation good events × Effects events (λ xs. xs ≡ []) held clock clock (λ xs. xs ≡ [])
+  untold false generation good gone = ([], refl, nothing_made)
+  untold true generation good gone = let bad : ⊥ = cc in absurd bad

@@ -1,5 +1,6 @@
 -- The attempts of a call under a policy, turn by turn.
 use Rattle.std.specs.Prelude.{◌≡◌, ℕ, Bool, true, false, List, [], ◌∷◌, ◌++◌, Option, Some, None, unwrap_or, is_some}
+use Rattle.breaker_core.specs.Course.{Step}
 use Rattle.retry_core.specs.declared.policy.Bound.{Bound}
 use Rattle.retry_core.specs.declared.policy.RetryPolicy.{RetryPolicy}
 use Rattle.retry_core.specs.RetryRun.{Run, run_after}
@@ -8,6 +9,7 @@ use Rattle.policy_run.specs.declared.operation.Attempt.TheVariants as attempt
 use Rattle.policy_run.specs.declared.outcome.Outcome.{Outcome}
 use Rattle.policy_run.specs.declared.outcome.Outcome.TheVariants.{Good, Bad, Refused, Exhausted, NoMemory}
 use Rattle.policy_run.specs.Event.{Event, word, moment, pause}
+use Rattle.policy_run.specs.Effects.{AreNone, Effects, Times}
 use Rattle.policy_run.specs.Turn.{Turn, CutOff, Asks, IsReported, is_good, reply_of}
 use Rattle.policy_run.specs.declared.turn.Turned.{Turned}
 use Rattle.policy_run.specs.declared.turn.Turned.TheVariants.{Failed, Ended}
@@ -43,7 +45,8 @@ module _ {E G B : Type 0} (there : Bool) (makes : Attempt G B → List (Event E)
   abbrev pub Tried : Option RetryPolicy → List ℕ → List (Event E) → Type 0
   Tried retry [] events = events ≡ []
   Tried None (w ∷ words) events = ⊥
-  Tried (Some policy) (w ∷ words) events = (before turn : List (Event E)) × (bad : B) × (ms : ℕ) × Tried (Some policy) words before × Turn there makes (attempt.Bad bad) turn × (decided policy (w ∷ words) ≡ Wait ms) × (events ≡ (before ++ turn) ++ word w ∷ pause ms ∷ [])
+  Tried (Some policy) (w ∷ words) events = (before turn : List (Event E)) × (bad : B) × (ms : ℕ) × Tried (Some policy) words before
+      × Turn there makes (attempt.Bad bad) turn × (decided policy (w ∷ words) ≡ Wait ms) × (events ≡ (before ++ turn) ++ word w ∷ pause ms ∷ [])
 
   -- the last turn fails, and no further one follows: no policy is bound, or it gives up after one word more
   abbrev pub GivesUp : Option RetryPolicy → List ℕ → B → List (Event E) → Type 0
@@ -80,3 +83,8 @@ pub record Attempted {E G B : Type 0} (retry : Option RetryPolicy) (there : Bool
 -- A call under what is bound to its target; a breaker guards it exactly where one is bound. `makes` is what an attempt with a limit and an answer does
 abbrev pub Attempts : {E G B : Type 0} → Bound → (ℕ → Attempt G B → List (Event E) → Type 0) → Outcome G B → List (Event E) → Type 0
 Attempts bound makes outcome events = Attempted bound.retry (is_some bound.breaker) (makes (limit_of bound)) outcome events
+
+-- an attempt was made, and what follows it, which had these effects together
+abbrev pub MadeBoth : {E G B : Type 0} → (Attempt G B → List (Event E) → Type 0) → (Attempt G B → List (Event E) → Type 0) → (List E → Type 0) → (List Step → Type 0) → Times → Type 0
+MadeBoth {E} {G} {B} makes follows did held clock =
+    (made rest : List (Event E)) × (answer : Attempt G B) × makes answer made × follows answer rest × Effects (made ++ rest) did held clock.before clock.after AreNone

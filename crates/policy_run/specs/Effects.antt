@@ -1,12 +1,13 @@
 -- What the events of a call did: to the operation, to its guard, to the clock, and to the random words.
 use Rattle.std.specs.Prelude.{◌≡◌, ◌≤◌, ℕ, List, [], ◌∷◌, flat_map, Option}
 use Rattle.std.specs.List.{sum_by}
+use Rattle.rand_core.specs.Stream.{Stream, next_u64}
 use Rattle.breaker_core.specs.Course.{Step}
 use Rattle.side_world.specs.declared.clock.Clock.{Ghosts}
 use Rattle.side_world.specs.declared.clock.Tick.{Tick}
 use Rattle.side_world.specs.declared.clock.Tick.TheVariants as tick
 use Rattle.side_world.specs.Told.{Tells}
-use Rattle.side_world.specs.Moments.{Between, Rises}
+use Rattle.side_world.specs.Moments.{Between, Drawn, Rises}
 use Rattle.policy_run.specs.Event.{Event, own_of, step_of, word_of, moment_in, pause_of, tick_of}
 
 -- what a clock shows: the moment that it last told, and the sum of its pauses, both in milliseconds; and its calls, where it tells them
@@ -35,3 +36,27 @@ pub record Effects {E : Type 0} (events : List (Event E)) (did : List E → Type
   pub pauses : Rises clock.paused (sum_by (λ (ms : ℕ). ms) (flat_map pause_of events)) clock'.paused
   pub ticks : Tells clock.ticks clock'.ticks (flat_map tick_of events)
   pub words : drawn (flat_map word_of events)
+
+-- what a clock shows before and after
+pub record Times : Type 0 where
+  pub before : Clocked
+  pub after : Clocked
+
+abbrev pub times : {C : Type 0} → Ghosts C → C → C → Times
+times clock c c' = record { before = clocked clock c; after = clocked clock c' }
+
+-- things of a kind, in order, lead from one state to another
+abbrev pub Runs : {S X : Type 0} → (S → List X → S → Type 0) → S → S → List X → Type 0
+Runs leads s s' xs = leads s xs s'
+
+-- none do
+abbrev pub AreNone : {X : Type 0} → List X → Type 0
+AreNone xs = xs ≡ []
+
+-- the random words are the next ones
+abbrev pub Draws : {R : Type 0} → (R → Stream) → R → R → List ℕ → Type 0
+Draws stream rng rng' words = Drawn next_u64 (stream rng) words (stream rng')
+
+-- there are events of which this holds, and which had these effects
+abbrev pub Made : {E : Type 0} → (List (Event E) → Type 0) → (List E → Type 0) → (List Step → Type 0) → Times → (List ℕ → Type 0) → Type 0
+Made {E} is did held clock drawn = (events : List (Event E)) × is events × Effects events did held clock.before clock.after drawn

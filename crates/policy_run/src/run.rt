@@ -1,13 +1,10 @@
-ghost use Rattle.std.specs.Prelude.{◌≡◌, ℕ, List, [], Some, is_some};
+ghost use Rattle.std.specs.Prelude.{◌≡◌, ℕ, List, Some, is_some};
 ghost use Rattle.retry_core.specs.Bound.{IsWithinLimit};
 ghost use Rattle.retry_core.specs.RetryPolicy.{IsWithinLimit as IsRetryWithinLimit};
 ghost use Rattle.retry_core.specs.RetryRun.{run_after};
 ghost use Rattle.retry_core.specs.declared.policy.RetryPolicy.{RetryPolicy};
-ghost use Rattle.policy_run.specs.Event.{Event};
-ghost use Rattle.policy_run.specs.Effects.{Effects, clocked};
+ghost use Rattle.policy_run.specs.Effects.{AreNone, Draws, Made, Runs, times};
 ghost use Rattle.policy_run.specs.Attempts.{Attempts, Attempted, Decides, last_outcome};
-ghost use Rattle.rand_core.specs.Stream.{next_u64};
-ghost use Rattle.side_world.specs.Moments.{Drawn};
 
 use crate::turn::{Turned, turn};
 use crate::{Guard, Operation, Outcome};
@@ -33,7 +30,7 @@ pub fn run_call<P: Operation, G: Guard, C: Clock, R: Rng, W: Wait>(
     requires breaker { G.there guard.old ≡ is_some bound.now.breaker }
     requires guard { G.ready guard.old }
     requires op { P.ready op.old }
-    ensures attempts { (events : List (Event P.Own)) × Attempts bound.now (P.makes op.old) result events × Effects events (λ xs. P.did op.old xs op.new) (λ xs. G.held guard.old xs guard.new) (clocked C.Clock clock.old) (clocked C.Clock clock.new) (λ ws. Drawn next_u64 (R.stream rng.old) ws (R.stream rng.new)) }
+    ensures attempts { Made (Attempts bound.now (P.makes op.old) result) (Runs P.did op.old op.new) (Runs G.held guard.old guard.new) (times C.Clock clock.old clock.new) (Draws R.stream rng.old rng.new) }
     ensures there { G.there guard.new ≡ G.there guard.old }
     ensures shows { (count : ℕ) → result ≡ Outcome.Exhausted count → G.shows guard.new count }
     ensures shown { (good : P.Good) → result ≡ Outcome.Good good → P.shown op.new good }
@@ -68,7 +65,7 @@ fn run_with<P: Operation, G: Guard, C: Clock, R: Rng, W: Wait>(
     requires limits { IsRetryWithinLimit policy.now }
     requires guard { G.ready guard.old }
     requires op { P.ready op.old }
-    ensures attempts { (events : List (Event P.Own)) × Attempted (Some policy.now) (G.there guard.old) (P.makes op.old limit) result events × Effects events (λ xs. P.did op.old xs op.new) (λ xs. G.held guard.old xs guard.new) (clocked C.Clock clock.old) (clocked C.Clock clock.new) (λ ws. Drawn next_u64 (R.stream rng.old) ws (R.stream rng.new)) }
+    ensures attempts { Made (Attempted (Some policy.now) (G.there guard.old) (P.makes op.old limit) result) (Runs P.did op.old op.new) (Runs G.held guard.old guard.new) (times C.Clock clock.old clock.new) (Draws R.stream rng.old rng.new) }
     ensures there { G.there guard.new ≡ G.there guard.old }
     ensures shows { (count : ℕ) → result ≡ Outcome.Exhausted count → G.shows guard.new count }
     ensures shown { (good : P.Good) → result ≡ Outcome.Good good → P.shown op.new good }
@@ -89,7 +86,7 @@ fn run_with<P: Operation, G: Guard, C: Clock, R: Rng, W: Wait>(
 
 /// Decides after a failing attempt by one random word: waits before the next one, or says that none follows.
 fn goes_on<P: Operation, C: Clock, R: Rng>(run: &mut RetryRun, clock: &mut C, rng: &mut R) -> bool
-    ensures { (policy : RetryPolicy) (words : List ℕ) → run.old ≡ run_after policy words → (events : List (Event P.Own)) × Decides policy words result run.new events × Effects events (λ xs. xs ≡ []) (λ xs. xs ≡ []) (clocked C.Clock clock.old) (clocked C.Clock clock.new) (λ ws. Drawn next_u64 (R.stream rng.old) ws (R.stream rng.new)) }
+    ensures { (policy : RetryPolicy) (words : List ℕ) → run.old ≡ run_after policy words → Made {E = P.Own} (Decides policy words result run.new) AreNone AreNone (times C.Clock clock.old clock.new) (Draws R.stream rng.old rng.new) }
 {
     match run.next(rng.next_u64()) {
         Next::GiveUp { .. } => false,

@@ -1,11 +1,9 @@
-ghost use Rattle.std.specs.Prelude.{◌≡◌, ℕ, List, [], ◌++◌, true, IfErr};
+ghost use Rattle.std.specs.Prelude.{◌≡◌, ℕ, true, IfErr};
 ghost use Rattle.breaker_core.specs.declared.command.BreakerCmd.TheVariants.{Admit};
 ghost use Rattle.breaker_core.specs.Fits.{Fits};
-ghost use Rattle.policy_run.specs.declared.operation.Attempt.{Attempt};
-ghost use Rattle.policy_run.specs.Event.{Event};
-ghost use Rattle.policy_run.specs.Effects.{Effects, clocked};
+ghost use Rattle.policy_run.specs.Effects.{AreNone, Made, Runs, times};
 ghost use Rattle.policy_run.specs.Turn.{IsAdmission, IsAdmittedBy, IsReport, is_good};
-ghost use Rattle.policy_run.specs.Attempts.{TurnsTo, IsRest, turned_by};
+ghost use Rattle.policy_run.specs.Attempts.{TurnsTo, IsRest, MadeBoth, turned_by};
 
 use crate::{Attempt, Guard, Operation, Outcome, Refusal, Stepped};
 use breaker_core::{BreakerCmd, BreakerReply};
@@ -41,7 +39,7 @@ pub(crate) fn turn<P: Operation, G: Guard, C: Clock, W: Wait>(
 ) -> Turned<P::Good, P::Bad>
     requires guard { G.ready guard.old }
     requires op { P.ready op.old }
-    ensures turn { (events : List (Event P.Own)) × TurnsTo (G.there guard.old) (P.makes op.old limit) result events × Effects events (λ xs. P.did op.old xs op.new) (λ xs. G.held guard.old xs guard.new) (clocked C.Clock clock.old) (clocked C.Clock clock.new) (λ xs. xs ≡ []) }
+    ensures turn { Made (TurnsTo (G.there guard.old) (P.makes op.old limit) result) (Runs P.did op.old op.new) (Runs G.held guard.old guard.new) (times C.Clock clock.old clock.new) AreNone }
     ensures there { G.there guard.new ≡ G.there guard.old }
     ensures shows { (count : ℕ) → result ≡ Turned.Ended (Outcome.Exhausted count) → G.shows guard.new count }
     ensures shown { (good : P.Good) → result ≡ Turned.Ended (Outcome.Good good) → P.shown op.new good }
@@ -60,7 +58,7 @@ fn admit<P: Operation, G: Guard, C: Clock, W: Wait>(
     clock: &mut C,
 ) -> Admission
     requires { G.ready guard.old }
-    ensures admission { (events : List (Event P.Own)) × IsAdmission (G.there guard.old) result events × Effects events (λ xs. xs ≡ []) (λ xs. G.held guard.old xs guard.new) (clocked C.Clock clock.old) (clocked C.Clock clock.new) (λ xs. xs ≡ []) }
+    ensures admission { Made {E = P.Own} (IsAdmission (G.there guard.old) result) AreNone (Runs G.held guard.old guard.new) (times C.Clock clock.old clock.new) AreNone }
     ensures there { G.there guard.new ≡ G.there guard.old }
     ensures shows { (count : ℕ) → result ≡ Admission.Exhausted count → G.shows guard.new count }
 {
@@ -99,7 +97,7 @@ fn attempt<P: Operation, G: Guard, C: Clock, W: Wait>(
 ) -> Turned<P::Good, P::Bad>
     requires guard { G.ready guard.old }
     requires op { P.ready op.old }
-    ensures rest { (made report : List (Event P.Own)) × (answer : Attempt P.Good P.Bad) × P.makes op.old limit answer made × IsRest (G.there guard.old) generation answer result report × Effects (made ++ report) (λ xs. P.did op.old xs op.new) (λ xs. G.held guard.old xs guard.new) (clocked C.Clock clock.old) (clocked C.Clock clock.new) (λ xs. xs ≡ []) }
+    ensures rest { MadeBoth (P.makes op.old limit) (λ answer. IsRest (G.there guard.old) generation answer result) (Runs P.did op.old op.new) (Runs G.held guard.old guard.new) (times C.Clock clock.old clock.new) }
     ensures there { G.there guard.new ≡ G.there guard.old }
     ensures shows { (count : ℕ) → result ≡ Turned.Ended (Outcome.Exhausted count) → G.shows guard.new count }
     ensures shown { (good : P.Good) → result ≡ Turned.Ended (Outcome.Good good) → P.shown op.new good }
@@ -141,7 +139,7 @@ fn report<P: Operation, G: Guard, C: Clock, W: Wait>(
     clock: &mut C,
 ) -> Result<(), Exhausted>
     requires { G.ready guard.old }
-    ensures report { (events : List (Event P.Own)) × IsReport (G.there guard.old) generation good result events × Effects events (λ xs. xs ≡ []) (λ xs. G.held guard.old xs guard.new) (clocked C.Clock clock.old) (clocked C.Clock clock.new) (λ xs. xs ≡ []) }
+    ensures report { Made {E = P.Own} (IsReport (G.there guard.old) generation good result) AreNone (Runs G.held guard.old guard.new) (times C.Clock clock.old clock.new) AreNone }
     ensures there { G.there guard.new ≡ G.there guard.old }
     ensures shows { IfErr result (λ e. G.shows guard.new e.count) }
 {
