@@ -48,7 +48,7 @@ pub record Going {E : Type 0} (exchange : Request → List E → Result Response
   pub read : Read bytes source source'
 
 -- what a turn leaves: the session goes on, or it is over
-abbrev pub After : {E : Type 0} → (Request → List E → Result Response ApiErr → Type 0) → (List E → Type 0) → (ℕ → Type 0) → SourceAt → SourceAt → SinkAt → SinkAt → Kept → ℕ → List ℕ → Option Ended → Type 0
+abbrev pub After : {E : Type 0} → (Request → List E → Result Response ApiErr → Type 0) → (List E → Type 0) → (Request → ℕ → Type 0) → SourceAt → SourceAt → SinkAt → SinkAt → Kept → ℕ → List ℕ → Option Ended → Type 0
 After exchange did shows source source' sink sink' kept number out None = (state : State) × Stands state kept × Going exchange did source source' sink sink' state number out
 After exchange did shows source source' sink sink' kept number out (Some ended) = Served exchange did shows source source' sink sink' ended
 

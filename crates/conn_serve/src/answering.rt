@@ -34,7 +34,7 @@ pub(crate) fn answer<H: Handler, N: Sink, W: Wait>(
     sink: &mut N,
 ) -> Option<Ended>
     requires { H.ready handler.old }
-    ensures answered { (events : List H.Event) × (reply : Result ResponseRecord ApiErrRecord) × H.exchange handler.old request.now events reply × H.did handler.old events handler.new × Answers number request.now out.old out.new (sink_at N.Sink sink.old) (sink_at N.Sink sink.new) reply result × ((count : ℕ) → reply ≡ Err (error.Exhausted count) → H.shows handler.new count) }
+    ensures answered { (events : List H.Event) × (reply : Result ResponseRecord ApiErrRecord) × H.exchange handler.old request.now events reply × H.did handler.old events handler.new × Answers number request.now out.old out.new (sink_at N.Sink sink.old) (sink_at N.Sink sink.new) reply result × ((count : ℕ) → reply ≡ Err (error.Exhausted count) → H.shows handler.new request.now count) }
 {
     match handler.respond(rt, request) {
         Ok(response) => say(number, request, &response, out, sink),

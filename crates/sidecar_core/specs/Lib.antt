@@ -7,6 +7,7 @@ pub mod Site
 pub mod Sites
 pub mod Responses
 pub mod Exchange
+pub mod Shown
 pub mod Linked
 pub mod Passed
 pub mod Invoking
