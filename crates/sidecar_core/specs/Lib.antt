@@ -5,6 +5,7 @@ pub mod Ran
 pub mod Pass
 pub mod Site
 pub mod Sites
+pub mod Plans
 pub mod Responses
 pub mod Exchange
 pub mod Shown

@@ -15,9 +15,7 @@ use crate::kinds::ObjectKinds;
 use crate::{Pass, Shared};
 use keeper_core::Keeper;
 use meta_api::laws::replies_fit;
-use meta_api::{
-    NoteErr, NotesCmd, NotesReply, SubscriptionNotes, metadata, put_command, put_response,
-};
+use meta_api::{NoteErr, NotesCmd, NotesReply, metadata, put_command, put_response};
 use side_base::{Response, Text};
 use state_api::{What, malformed_response};
 use state_core::Store;
@@ -119,7 +117,7 @@ fn list_replied<K: Keeper>(shared: &Shared<K>, reply: NotesReply) -> Result<Resp
             shared.alloc,
             &shared.config.app,
             &shared.notes,
-            &SubscriptionNotes::new(shared.alloc),
+            &shared.sub_notes,
             &pairs,
         )),
         NotesReply::NoMemory => Err(ApiErr::NoMemory),
