@@ -208,6 +208,6 @@ fn a_pass_that_was_not_split_off_is_alone(rt: HostRuntime) -> Result<(), Fail> {
         Err(_) => false,
     };
     let last = if is_over { first? } else { run(&rt, rt.alloc())? };
-    assert_eq!(rt; last.is_right, true);
+    assert_eq!(&rt; last.is_right, true);
     Ok(())
 }
