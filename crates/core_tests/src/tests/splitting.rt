@@ -207,7 +207,11 @@ fn a_pass_that_was_not_split_off_is_alone(rt: HostRuntime) -> Result<(), Fail> {
         Ok(run) => run.is_refused || run.is_right,
         Err(_) => false,
     };
-    let last = if is_over { first? } else { run(&rt, rt.alloc())? };
+    let last = if is_over {
+        first?
+    } else {
+        run(&rt, rt.alloc())?
+    };
     assert_eq!(&rt; last.is_right, true);
     Ok(())
 }
