@@ -19,7 +19,7 @@ use Rattle.http_frames.specs.Written.{written, continue_bytes}
 use Rattle.http_frames.specs.Streams.{GoesOn as StreamGoesOn, Whole, IsStream, Midway, GivesRequest, IsAsking, IsWholeStream, asks}
 use Rattle.conn_serve.specs.declared.ended.Ended.{Ended}
 use Rattle.conn_serve.specs.declared.ended.Ended.TheVariants.{Done, Closed, Asked, ClosedByPeer, Refused, Limit, Spent, SourceFailed, SinkFailed, NoMemory}
-use Rattle.conn_serve.specs.Exchanged.{Exchanged, Unanswered, IsStop, IsMark, is_head, out_of, wholes_of}
+use Rattle.conn_serve.specs.Exchanged.{Exchanged, Unanswered, IsStop, IsMark, is_head, out_of, wholes_of, request_in}
 use Rattle.conn_serve.specs.Session.{IsNext, Ends, sent_at, EndsSending, EndsAfter, EndsWithoutMemory, EndsRefused, EndsSpent, EndsWith, IsSpentAnswer, refused_bytes}
 use Rattle.conn_serve.specs.Ends.{SinkAt, SourceAt, Sent, Cut, Read, HasEnded, HasFailed, IsFinish, wrote, failed}
 use Rattle.conn_serve.specs.Served.{Served, NoFault, IsOver, HasCause, IsShown}
@@ -40,10 +40,10 @@ elim_finish : (ended : Ended) (bytes : List ℕ) (sink sink' : SinkAt) (result :
 elim_finish ended bytes sink sink' result P one other (wrote is sent) = subst P (sym is) (one sent)
 elim_finish ended bytes sink sink' result P one other (failed is cut) = subst P (sym is) (other cut)
 
-none_shown : {E : Type 0} (shows : ℕ → Type 0) → IsShown {E = E} shows None
+none_shown : {E : Type 0} (shows : Request → ℕ → Type 0) → IsShown {E = E} shows None
 none_shown shows next count is why = absurd (cc)
 
-module _ {E : Type 0} (exchange : Request → List E → Result Response ApiErr → Type 0) (did : List E → Type 0) (shows : ℕ → Type 0) (source source' : SourceAt) (sink sink' sink'' : SinkAt) (state : State) (number : ℕ) (out : List ℕ) (g : Going exchange did source source' sink sink' state number out) where
+module _ {E : Type 0} (exchange : Request → List E → Result Response ApiErr → Type 0) (did : List E → Type 0) (shows : Request → ℕ → Type 0) (source source' : SourceAt) (sink sink' sink'' : SinkAt) (state : State) (number : ℕ) (out : List ℕ) (g : Going exchange did source source' sink sink' state number out) where
   abbrev all : List ℕ → Type 0
   all l = Told sink.contents sink''.contents l
 
@@ -142,7 +142,7 @@ module _ {E : Type 0} (exchange : Request → List E → Result Response ApiErr 
 
 -- ---- the last request
 
-module _ {E : Type 0} (exchange : Request → List E → Result Response ApiErr → Type 0) (did did' : List E → Type 0) (shows : ℕ → Type 0) (source source' : SourceAt) (sink sink' sink'' : SinkAt) (state : State) (number : ℕ) (out : List ℕ) (g : Going exchange did source source' sink sink' state number out)
+module _ {E : Type 0} (exchange : Request → List E → Result Response ApiErr → Type 0) (did did' : List E → Type 0) (shows : Request → ℕ → Type 0) (source source' : SourceAt) (sink sink' sink'' : SinkAt) (state : State) (number : ℕ) (out : List ℕ) (g : Going exchange did source source' sink sink' state number out)
     (request : Request) (state' : State) (gives : GivesRequest g.bytes (wholes_of g.done) state request state') (trace : List E) (acts : (xs : List E) → did xs → did' (xs ++ trace)) where
   abbrev told : List ℕ → Type 0
   told l = Told sink.contents sink''.contents l
@@ -249,7 +249,7 @@ module _ {E : Type 0} (exchange : Request → List E → Result Response ApiErr 
   next_is why ran = record { left = state'.pending; begins = gives.midway.begins; ran = subst (λ r. exchange r trace (Err why)) gives.is ran }
 
   -- it ended so, with this request ended early, when this was added to what was sent
-  over_next : (why : ApiErr) (ended : Ended) (added : List ℕ) → ((count : ℕ) → why ≡ error.Exhausted count → shows count) → Told sink'.contents sink''.contents added → Ends exchange g.bytes g.done (Some (next_with why)) (sent_at ended told some) ended → HasCause source source' sink sink'' ended → Served exchange did' shows source source' sink sink'' ended
+  over_next : (why : ApiErr) (ended : Ended) (added : List ℕ) → ((count : ℕ) → why ≡ error.Exhausted count → shows request count) → Told sink'.contents sink''.contents added → Ends exchange g.bytes g.done (Some (next_with why)) (sent_at ended told some) ended → HasCause source source' sink sink'' ended → Served exchange did' shows source source' sink sink'' ended
   over_next why ended added shown told ends cause = record {
     bytes = g.bytes;
     done = g.done;
@@ -260,14 +260,18 @@ module _ {E : Type 0} (exchange : Request → List E → Result Response ApiErr 
     before_read = before_still exchange did source source' sink sink' state number out g sink'' added told;
     gathered = few_still exchange did source source' sink sink' state number out g sink'' added told;
     acted = acts (flat_map (λ x. x.trace) g.done) g.acted;
-    shown = λ next count is spent. shown count (early next is ∙ spent);
+    shown = λ next count is spent. subst (λ r. shows r count) (gives.is ∙ asked next is) (shown count (early next is ∙ spent));
     cause = cause;
   }
     where
+      this : (next : Unanswered E) → Some (next_with why) ≡ Some next → next_with why ≡ next
+      this next is = cc
+
       early : (next : Unanswered E) → Some (next_with why) ≡ Some next → why ≡ next.error
-      early next is = ap (λ (n : Unanswered E). n.error) (inner is) where
-        inner : Some (next_with why) ≡ Some next → next_with why ≡ next
-        inner same = cc
+      early next is = ap (λ (n : Unanswered E). n.error) (this next is)
+
+      asked : (next : Unanswered E) → Some (next_with why) ≡ Some next → request_in gives.whole ≡ request_in next.whole
+      asked next is = ap (λ (n : Unanswered E). request_in n.whole) (this next is)
 
   no_room : (result : Ended) → exchange request trace (Err error.NoMemory) → IsFinish NoMemory (out ++ no_memory_response) sink' sink'' result → Served exchange did' shows source source' sink sink'' result
   no_room result ran how = let added = finish_tells NoMemory (out ++ no_memory_response) sink' sink'' result how in elim_finish NoMemory ((out_of g.done ++ mark_at state.continued) ++ no_memory_response) sink sink'' result (λ e. Served exchange did' shows source source' sink sink'' e)
@@ -277,10 +281,10 @@ module _ {E : Type 0} (exchange : Request → List E → Result Response ApiErr 
         ends : (sent : List ℕ → Type 0) → sent ((out_of g.done ++ mark_at state.continued) ++ no_memory_response) → EndsWithoutMemory exchange g.bytes g.done (Some (next_with error.NoMemory)) sent
         ends sent was = record { going = g.going; lacks = (next_is error.NoMemory ran, refl); mark = mark_at state.continued; rest = state.pending; begins = g.midway.begins; marked = mark_is state.pending state.continued g.midway.asking; wrote = was }
 
-        unspent : (count : ℕ) → error.NoMemory ≡ error.Exhausted count → shows count
+        unspent : (count : ℕ) → error.NoMemory ≡ error.Exhausted count → shows request count
         unspent count is = absurd (cc)
 
-  spent : (count : ℕ) (answer : List ℕ) (result : Ended) → exchange request trace (Err (error.Exhausted count)) → ((n : ℕ) → error.Exhausted count ≡ error.Exhausted n → shows n) → IsSpentAnswer (is_head request.method) count answer → IsFinish (Spent count) (out ++ answer) sink' sink'' result → Served exchange did' shows source source' sink sink'' result
+  spent : (count : ℕ) (answer : List ℕ) (result : Ended) → exchange request trace (Err (error.Exhausted count)) → ((n : ℕ) → error.Exhausted count ≡ error.Exhausted n → shows request n) → IsSpentAnswer (is_head request.method) count answer → IsFinish (Spent count) (out ++ answer) sink' sink'' result → Served exchange did' shows source source' sink sink'' result
   spent count answer result ran shown is_answer how = let added = finish_tells (Spent count) (out ++ answer) sink' sink'' result how in elim_finish (Spent count) ((out_of g.done ++ mark_at state.continued) ++ answer) sink sink'' result (λ e. Served exchange did' shows source source' sink sink'' e)
       (λ sent. over_next (error.Exhausted count) (Spent count) added.0 shown added.1 (ends told sent.told) (calm sent))
       (λ cut. over_next (error.Exhausted count) SinkFailed added.0 shown added.1 (inr (Spent count, ends some cut.front)) (cut.failed, g.read.no_fault))
@@ -298,7 +302,7 @@ module _ {E : Type 0} (exchange : Request → List E → Result Response ApiErr 
         }
 
   -- the session ends with this request
-  pub ends_with : (out' : List ℕ) (reply : Result Response ApiErr) (ended : Ended) → exchange request trace reply → ((count : ℕ) → reply ≡ Err (error.Exhausted count) → shows count) → Answers (number + 1) request out out' sink' sink'' reply (Some ended) → Served exchange did' shows source source' sink sink'' ended
+  pub ends_with : (out' : List ℕ) (reply : Result Response ApiErr) (ended : Ended) → exchange request trace reply → ((count : ℕ) → reply ≡ Err (error.Exhausted count) → shows request count) → Answers (number + 1) request out out' sink' sink'' reply (Some ended) → Served exchange did' shows source source' sink sink'' ended
   ends_with out' (Ok response) ended ran shown said = went_to response ran said.stop out' ended said.stops said.went
   ends_with out' (Err error.NoMemory) ended ran shown (e, same, how) = subst (λ z. Served exchange did' shows source source' sink sink'' z) (sym (some_is same)) (no_room e ran how) where
     some_is : Some ended ≡ Some e → ended ≡ e
@@ -318,7 +322,7 @@ module _ {E : Type 0} (exchange : Request → List E → Result Response ApiErr 
 
 -- ---- more bytes are wanted
 
-module _ {E : Type 0} (exchange : Request → List E → Result Response ApiErr → Type 0) (did : List E → Type 0) (shows : ℕ → Type 0) (source source' source'' : SourceAt) (sink sink' sink'' : SinkAt) (state : State) (number : ℕ) (out out' : List ℕ) (kept : Kept) (g : Going exchange did source source' sink sink' state number out)
+module _ {E : Type 0} (exchange : Request → List E → Result Response ApiErr → Type 0) (did : List E → Type 0) (shows : Request → ℕ → Type 0) (source source' source'' : SourceAt) (sink sink' sink'' : SinkAt) (state : State) (number : ℕ) (out out' : List ℕ) (kept : Kept) (g : Going exchange did source source' sink sink' state number out)
     (stream : IsWholeStream g.bytes (wholes_of g.done) state None)
     (feeds : (bytes piece : List ℕ) (wholes : List Whole) (at : State) → Midway bytes wholes at → Midway (bytes ++ piece) wholes (fed at piece)) where
   -- all was sent, and then this piece was read
@@ -358,9 +362,9 @@ module _ {E : Type 0} (exchange : Request → List E → Result Response ApiErr 
 
 -- ---- a turn, by what the stream gives
 
-module _ {E : Type 0} (exchange : Request → List E → Result Response ApiErr → Type 0) (did : List E → Type 0) (shows : ℕ → Type 0) (source source' source'' : SourceAt) (sink sink' sink'' : SinkAt) (state new : State) (number : ℕ) (out out' : List ℕ) (kept : Kept) (g : Going exchange did source source' sink sink' state number out)
+module _ {E : Type 0} (exchange : Request → List E → Result Response ApiErr → Type 0) (did : List E → Type 0) (shows : Request → ℕ → Type 0) (source source' source'' : SourceAt) (sink sink' sink'' : SinkAt) (state new : State) (number : ℕ) (out out' : List ℕ) (kept : Kept) (g : Going exchange did source source' sink sink' state number out)
     (goes : (bytes : List ℕ) (wholes : List Whole) (old new : State) (answer : Result Step FrameErr) → Midway bytes wholes old → IsNextStep old answer new → StreamGoesOn bytes wholes old answer new) where
-  pub after_request : (did' : List E → Type 0) (request : Request) → Stands new kept → IsRequestStep state request new → (result : Option Ended) (trace : List E) (reply : Result Response ApiErr) → exchange request trace reply → ((xs : List E) → did xs → did' (xs ++ trace)) → Answers (number + 1) request out out' sink' sink'' reply result → ((count : ℕ) → reply ≡ Err (error.Exhausted count) → shows count)
+  pub after_request : (did' : List E → Type 0) (request : Request) → Stands new kept → IsRequestStep state request new → (result : Option Ended) (trace : List E) (reply : Result Response ApiErr) → exchange request trace reply → ((xs : List E) → did xs → did' (xs ++ trace)) → Answers (number + 1) request out out' sink' sink'' reply result → ((count : ℕ) → reply ≡ Err (error.Exhausted count) → shows request count)
       → After exchange did' shows source source' sink sink'' kept (number + 1) out' result
   after_request did' request stands next None trace reply ran acts answers shown =
       (new, stands, goes_with exchange did did' shows source source' sink sink' sink'' state number out g request new (goes g.bytes (wholes_of g.done) state new (Ok (step.Request request)) g.midway next) trace acts (ap (λ (z : State). z.continued) next.after) out' reply ran answers)

@@ -67,6 +67,6 @@ FinishesRefused why out sink sink' result = IsFinish (Refused why) (out ++ refus
 
 -- A request was answered by a handler, which went on through what was done for it: `answers` is what the reply made of the session. Where the request met an exhausted cell, a seat
 -- of the handler shows its count
-abbrev pub Responded : {H E : Type 0} → (H → Request → List E → Result Response ApiErr → Type 0) → (H → List E → H → Type 0) → (H → ℕ → Type 0) → H → H → Request → (Result Response ApiErr → Type 0) → Type 0
+abbrev pub Responded : {H E : Type 0} → (H → Request → List E → Result Response ApiErr → Type 0) → (H → List E → H → Type 0) → (H → Request → ℕ → Type 0) → H → H → Request → (Result Response ApiErr → Type 0) → Type 0
 Responded {H} {E} exchange did shows handler handler' request answers =
-    (events : List E) × (reply : Result Response ApiErr) × exchange handler request events reply × did handler events handler' × answers reply × ((count : ℕ) → reply ≡ Err (error.Exhausted count) → shows handler' count)
+    (events : List E) × (reply : Result Response ApiErr) × exchange handler request events reply × did handler events handler' × answers reply × ((count : ℕ) → reply ≡ Err (error.Exhausted count) → shows handler' request count)

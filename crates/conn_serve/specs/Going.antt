@@ -51,7 +51,7 @@ pub record Going {E : Type 0} (exchange : Request → List E → Result Response
   pub read : Read bytes source source'
 
 -- what a turn leaves: the session goes on, or it is over
-abbrev pub After : {E : Type 0} → (Request → List E → Result Response ApiErr → Type 0) → (List E → Type 0) → (ℕ → Type 0) → SourceAt → SourceAt → SinkAt → SinkAt → Kept → ℕ → List ℕ → Option Ended → Type 0
+abbrev pub After : {E : Type 0} → (Request → List E → Result Response ApiErr → Type 0) → (List E → Type 0) → (Request → ℕ → Type 0) → SourceAt → SourceAt → SinkAt → SinkAt → Kept → ℕ → List ℕ → Option Ended → Type 0
 After exchange did shows source source' sink sink' kept number out None = (state : State) × Stands state kept × Going exchange did source source' sink sink' state number out
 After exchange did shows source source' sink sink' kept number out (Some ended) = Served exchange did shows source source' sink sink' ended
 
@@ -75,7 +75,7 @@ pub record Stage : Type 0 where
 abbrev pub stage : {S N : Type 0} → Gives S → Takes N → Progress → S → N → Stage
 stage gives takes progress source sink = record { kept = progress.framer; number = progress.answered; out = progress.out; source = source_at gives source; sink = sink_at takes sink }
 
-module _ {H E : Type 0} (exchange : H → Request → List E → Result Response ApiErr → Type 0) (did : H → List E → H → Type 0) (shows : H → ℕ → Type 0) (handler handler' : H) (at after : Stage) (result : Option Ended) where
+module _ {H E : Type 0} (exchange : H → Request → List E → Result Response ApiErr → Type 0) (did : H → List E → H → Type 0) (shows : H → Request → ℕ → Type 0) (handler handler' : H) (at after : Stage) (result : Option Ended) where
   -- what went on from its beginning goes on to this stage in this state; and from there the handler has led it to the later one
   abbrev pub Leads : H → SourceAt → SinkAt → State → Type 0
   Leads first source sink state = Going (exchange first) (λ events. did first events handler) source at.source sink at.sink state at.number at.out

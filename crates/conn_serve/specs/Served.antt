@@ -8,7 +8,7 @@ use Rattle.turn_cell.specs.declared.error.ApiErr.{ApiErr}
 use Rattle.turn_cell.specs.declared.error.ApiErr.TheVariants as error
 use Rattle.conn_serve.specs.declared.ended.Ended.{Ended}
 use Rattle.conn_serve.specs.declared.ended.Ended.TheVariants.{Done, Closed, Asked, ClosedByPeer, Refused, Limit, Spent, SourceFailed, SinkFailed, NoMemory}
-use Rattle.conn_serve.specs.Exchanged.{Exchanged, Unanswered}
+use Rattle.conn_serve.specs.Exchanged.{Exchanged, Unanswered, request_in}
 use Rattle.conn_serve.specs.Session.{Session, trace_of}
 use Rattle.conn_serve.specs.Ends.{SinkAt, SourceAt}
 use Rattle.conn_serve.specs.Sending.{SentBeforeRead, GathersFew}
@@ -37,12 +37,12 @@ HasCause source source' sink sink' Limit = NoFault source source' sink sink'
 HasCause source source' sink sink' (Refused why) = NoFault source source' sink sink'
 HasCause source source' sink sink' NoMemory = NoFault source source' sink sink'
 
--- where the request that ended early met an exhausted cell, a seat shows its count, however the session ended
-abbrev pub IsShown : {E : Type 0} → (ℕ → Type 0) → Option (Unanswered E) → Type 0
-IsShown {E} shows more = (next : Unanswered E) (count : ℕ) → more ≡ Some next → next.error ≡ error.Exhausted count → shows count
+-- where the request that ended early met an exhausted cell, the seat of a cell that this request calls shows its count, however the session ended
+abbrev pub IsShown : {E : Type 0} → (Request → ℕ → Type 0) → Option (Unanswered E) → Type 0
+IsShown {E} shows more = (next : Unanswered E) (count : ℕ) → more ≡ Some next → next.error ≡ error.Exhausted count → shows (request_in next.whole) count
 
--- A connection was served: these bytes were read, and their session was written. `did` is what was done for requests, `shows` what the handler's seats show
-pub record Served {E : Type 0} (exchange : Request → List E → Result Response ApiErr → Type 0) (did : List E → Type 0) (shows : ℕ → Type 0) (source source' : SourceAt) (sink sink' : SinkAt) (ended : Ended) : Type 0 where
+-- A connection was served: these bytes were read, and their session was written. `did` is what was done for requests, `shows` what the handler's seats show of the cells that a request calls
+pub record Served {E : Type 0} (exchange : Request → List E → Result Response ApiErr → Type 0) (did : List E → Type 0) (shows : Request → ℕ → Type 0) (source source' : SourceAt) (sink sink' : SinkAt) (ended : Ended) : Type 0 where
   pub bytes : List ℕ
   pub done : List (Exchanged E)
   pub more : Option (Unanswered E)

@@ -23,14 +23,14 @@ pub trait Handler {
     // How the handler goes on through what was done.
     ghost did: { Self → List Self.Event → Self → Type 0 };
 
-    // A seat of the handler shows this count of an exhausted cell.
-    ghost shows: { Self → ℕ → Type 0 };
+    // The seat of a cell that this request calls shows this count: the cell is exhausted.
+    ghost shows: { Self → Request → ℕ → Type 0 };
 
     /// Answers a request. The status of the response is from 100 to 999.
     fn respond<W: Wait>(&mut self, rt: &W, request: &Request) -> Result<Response, ApiErr>
         requires { ready self.old }
         ensures answer { (events : List Self.Event) × exchange self.old request.now events result × did self.old events self.new }
-        ensures shows { (count : ℕ) → result ≡ Err (error.Exhausted count) → shows self.new count }
+        ensures shows { (count : ℕ) → result ≡ Err (error.Exhausted count) → shows self.new request.now count }
         ensures status { IfOk result (λ response. IsStatusCode response.status) };
 
     ghost none: { (a : Self) → ready a → did a [] a };

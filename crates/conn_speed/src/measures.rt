@@ -18,6 +18,7 @@ use std::io::{self, ErrorKind};
 use std::rt::Clock;
 use std::sync::Wait;
 use std::time::{Duration, Instant};
+use topic_spec::Subs;
 use yaml_subset::read_docs;
 
 /// One store in memory.
@@ -113,6 +114,7 @@ fn config_of(alloc: Global) -> io::Result<Config> {
     Ok(Config {
         app,
         components,
+        subs: Subs::new(alloc),
         policies,
     })
 }

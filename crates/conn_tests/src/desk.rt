@@ -42,7 +42,7 @@ impl Handler for Desk {
 
     ghost did = { λ _ _ _. Unit {0} };
 
-    ghost shows = { λ _ _. Unit {0} };
+    ghost shows = { λ _ _ _. Unit {0} };
 
     fn respond<W: Wait>(&mut self, _rt: &W, request: &Request) -> Result<Response, ApiErr> {
         let target = request.target.bytes();

@@ -7,3 +7,4 @@ mod requests;
 mod script;
 mod session;
 mod sidecar;
+mod splitting;

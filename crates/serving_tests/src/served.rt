@@ -15,6 +15,7 @@ use sidecar_serving::{End, serve};
 use std::alloc::Global;
 use std::sync::Wait;
 use std::thread::Threads;
+use topic_spec::Subs;
 use yaml_subset::read_docs;
 
 /// One store in memory.
@@ -33,6 +34,7 @@ fn config(alloc: Global, resources: &[u8]) -> Option<Config> {
     let docs = read_docs(alloc, resources).ok()?;
     Some(Config {
         components: components(alloc, &docs, &app).ok()?,
+        subs: Subs::new(alloc),
         policies: policies(alloc, &docs, &app).ok()?,
         app,
     })

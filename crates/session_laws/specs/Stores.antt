@@ -32,6 +32,7 @@ usual = record {
       record { name = codes "statestore"; kind = StateMemory; version = codes "v1"; settings = [] }
       ∷ record { name = codes "pubsub"; kind = PubsubMemory; version = codes "v1"; settings = [] }
       ∷ [];
+  subs = [];
   policies = record { apps = []; outbound = []; inbound = []; breakers = [] };
 }
 

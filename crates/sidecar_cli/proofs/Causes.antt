@@ -44,6 +44,7 @@ use Rattle.sidecar_core.specs.Did.{CellsAt, IsLone, IsSoundPass, Kinds, SeatsAt,
 use Rattle.turn_pass.specs.Pass.{count_shown}
 use Rattle.sidecar_core.specs.Did as shown
 use Rattle.sidecar_core.specs.Pass.{cells_of, seats_of}
+use Rattle.sidecar_core.specs.Shown.{some_seat}
 use Rattle.sidecar_core.specs.Started.{IsStarted}
 use Rattle.sidecar_words.specs.declared.given.Words.{Words}
 use Rattle.sidecar_words.specs.declared.given.Mode.{Mode}
@@ -243,7 +244,7 @@ module _ {D : Type 0} {disking : Keeps D} {keeping : Ghosts (AnyKeeper D disking
         let behind : Standing (Store (AnyKeeper D disking) keeping) = record { seats = seats_of s.after; clock = s.over.clock; calls = s.over.link; words = s.served.rest } in
         let lone = lone_stays kinds (cells_of s.objects) before _ behind went s.lone in
         let sound = sound_stays kinds (cells_of s.objects) before _ behind went s.sound in
-        record { ended = ends.Spent count; spent = spent; session = s; seats = seats_of s.after; lone = lone; sound = sound; full = full_of kinds (cells_of s.objects) (seats_of s.after) count lone sound (s.served.served.shown end.next count end.this end.why) }
+        record { ended = ends.Spent count; spent = spent; session = s; seats = seats_of s.after; lone = lone; sound = sound; full = full_of kinds (cells_of s.objects) (seats_of s.after) count lone sound (some_seat s.config (seats_of s.after) count (request_in end.next.whole) (s.served.served.shown end.next count end.this end.why)) }
 
     source_rose : {started over : WorldAt} → IsUntouched world started → IsUntouched over world' → Rose started.source.faults over.source.faults → Rose world.source.faults world'.source.faults
     source_rose {started} {over} before behind rose = subst (λ n. Rose n world'.source.faults) (ap (λ s. s.faults) before.source) (subst (λ n. Rose started.source.faults n) (sym (ap (λ s. s.faults) behind.source)) rose)
@@ -314,11 +315,11 @@ module _ {D : Type 0} {disking : Keeps D} {keeping : Ghosts (AnyKeeper D disking
       why_down config end same (play.lacks keepers kept is) = subst (IsWhy disking keeping kinds given world world') (sym is) tt
 
     -- a run that came as far as this has its cause
-    why_kept : (resources : Resources) (now : WorldAt) (words : Stream) (end : Status) → HasRead resources now → IsKept disking keeping kinds (record { app = given.app; components = resources.components; policies = resources.policies }) words now world' end
+    why_kept : (resources : Resources) (now : WorldAt) (words : Stream) (end : Status) → HasRead resources now → IsKept disking keeping kinds (record { app = given.app; components = resources.components; subs = []; policies = resources.policies }) words now world' end
         → IsWhy disking keeping kinds given world world' end
-    why_kept resources now words end read (play.down down rest) = why_down resources now read rest (record { app = given.app; components = resources.components; policies = resources.policies }) end refl down
+    why_kept resources now words end read (play.down down rest) = why_down resources now read rest (record { app = given.app; components = resources.components; subs = []; policies = resources.policies }) end refl down
     why_kept resources now words end read (play.up objects pass started up rest session) = subst (IsWhy disking keeping kinds given world world') (sym session.ends) (why_served session.ended session.spent record {
-      config = record { app = given.app; components = resources.components; policies = resources.policies };
+      config = record { app = given.app; components = resources.components; subs = []; policies = resources.policies };
       objects = objects;
       pass = pass;
       after = session.after;

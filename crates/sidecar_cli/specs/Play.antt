@@ -24,9 +24,10 @@ use Rattle.sidecar_keepers.specs.Refused.{Counts, IsRefused}
 use Rattle.sidecar_core.specs.declared.config.Config.{Config}
 use Rattle.sidecar_core.specs.declared.objects.Objects.{Objects}
 use Rattle.sidecar_core.specs.declared.objects.Pass.{Pass}
-use Rattle.sidecar_core.specs.Did.{IsSoundPass, Kinds, Shows, Standing, Went, spent_of}
+use Rattle.sidecar_core.specs.Did.{IsSoundPass, Kinds, Standing, Went, spent_of}
 use Rattle.sidecar_core.specs.Exchange.{Exchange}
 use Rattle.sidecar_core.specs.Pass.{cells_of, seats_of}
+use Rattle.sidecar_core.specs.Shown.{ShownFor}
 use Rattle.sidecar_core.specs.Started.{IsStarted}
 use Rattle.sidecar_words.specs.declared.given.Words.{Words}
 use Rattle.sidecar_cli.specs.Configured.{IsConfigured, Says}
@@ -71,7 +72,7 @@ module _ {D : Type 0} (disking : Keeps D) (keeping : Ghosts (AnyKeeper D disking
   -- one session over these objects was served by this pass, with random words from here on; files, the outside and the note were not asked
   pub record IsServed (config : Config) (objects : Objects (AnyKeeper D disking) keeping) (pass after : Pass (AnyKeeper D disking) keeping) (words : Stream) (world world' : WorldAt) (ended : Ended) : Type 0 where
     pub rest : Stream
-    pub served : Served (Exchange config) (λ events. Went kinds (cells_of objects) (standing_at pass world words) events (standing_at after world' rest)) (Shows (seats_of after)) world.source world'.source world.sink world'.sink ended
+    pub served : Served (Exchange config) (λ events. Went kinds (cells_of objects) (standing_at pass world words) events (standing_at after world' rest)) (ShownFor config (seats_of after)) world.source world'.source world.sink world'.sink ended
     pub files : world'.files ≡ world.files
     pub outside : world'.outside ≡ world.outside
     pub note : world'.note ≡ world.note
@@ -116,7 +117,7 @@ module _ {D : Type 0} (disking : Keeps D) (keeping : Ghosts (AnyKeeper D disking
   pub data IsBegun (given : Words) (words : Stream) (world world' : WorldAt) (status : Status) : Type 0 where
     refused : (e : ResourcesErr) → IsConfigured given.resources given.app world.files world'.files (Err e) → Says e status → world' ≡ record world { files = world'.files } → IsBegun given words world world' status
     read : (resources : Resources) (between : WorldAt) → IsConfigured given.resources given.app world.files between.files (Ok resources) → between ≡ record world { files = between.files }
-        → IsKept (record { app = given.app; components = resources.components; policies = resources.policies }) words between world' status → IsBegun given words world world' status
+        → IsKept (record { app = given.app; components = resources.components; subs = []; policies = resources.policies }) words between world' status → IsBegun given words world world' status
 
   -- three numbers were asked for: that of the random words, and two for the secret bytes
   pub record IsPlay (words_of : ℕ → Stream) (given : Words) (world world' : WorldAt) (status : Status) : Type 0 where

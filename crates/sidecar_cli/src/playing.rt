@@ -27,6 +27,7 @@ use sidecar_words::Words;
 use state_core::Store;
 use std::alloc::Global;
 use std::sync::Wait;
+use topic_spec::Subs;
 
 /// Answers the requests of the one connection of the source and the sink, over stores that are started for it.
 pub(crate) fn play<S: Source, N: Sink, E: Sink, F: Files, L: Link, C: Clock, O: Outside, W: Wait>(
@@ -79,6 +80,7 @@ fn begin<S: Source, N: Sink, E: Sink, F: Files, L: Link, C: Clock, O: Outside, R
             let config = Config {
                 app: given.app,
                 components: resources.components,
+                subs: Subs::new(alloc),
                 policies: resources.policies,
             };
             keep(rt, alloc, config, secret, rng, world)

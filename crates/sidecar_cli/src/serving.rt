@@ -29,6 +29,7 @@ use state_core::Store;
 use std::alloc::Global;
 use std::sync::Wait;
 use std::thread::Threads;
+use topic_spec::Subs;
 
 /// What workers begin with: a generator of random words for each, and the secret bytes of the keepers.
 #[derive(Drop)]
@@ -127,6 +128,7 @@ fn begin<
             let config = Config {
                 app: given.app,
                 components: resources.components,
+                subs: Subs::new(alloc),
                 policies: resources.policies,
             };
             keep(

@@ -4,7 +4,6 @@ use Rattle.side_base.specs.declared.message.Request.{Request}
 use Rattle.side_base.specs.declared.message.Response.{Response}
 use Rattle.turn_cell.specs.declared.error.ApiErr.{ApiErr}
 use Rattle.turn_cell.specs.declared.error.ApiErr.TheVariants as error
-use Rattle.retry_core.specs.declared.policy.Bound.{Bound}
 use Rattle.api_routes.specs.declared.route.Route.{Route}
 use Rattle.api_routes.specs.declared.route.Route.TheVariants as route
 use Rattle.api_routes.specs.declared.route.RouteErr.{RouteErr}
@@ -20,10 +19,10 @@ use Rattle.meta_api.specs.Body.{IsPutReply, put_response}
 use Rattle.sidecar_core.specs.declared.config.Config.{Config}
 use Rattle.sidecar_core.specs.declared.doing.Doing.{Doing}
 use Rattle.sidecar_core.specs.Site.{Site}
-use Rattle.sidecar_core.specs.Did.{Kinds, CellsAt, SeatsAt, Standing, Does, Shows, store, breaker}
-use Rattle.sidecar_core.specs.Ran.{IsShown}
+use Rattle.sidecar_core.specs.Did.{Kinds, CellsAt, SeatsAt, Standing, Does}
 use Rattle.sidecar_core.specs.Exchange.{Answered, AtSite, AtStore, FaultGives, IsOr, PutReplies, store_in}
 use Rattle.sidecar_core.specs.Exchange as exchange
+use Rattle.sidecar_core.specs.Shown.{RouteShows, StoreShows}
 
 -- what was done, said otherwise
 pub does_as : {O : Type 0} (kinds : Kinds O) (cells : CellsAt O) (at after : Standing O) (one other : List Doing → Type 0) → ((events : List Doing) → one events → other events) → Does kinds cells at after one → Does kinds cells at after other
@@ -33,11 +32,6 @@ does_as kinds cells at after one other so d = record { events = d.events; held =
 pub not_exhausted : {A : Type 0} (response : Response) (reply : Result Response ApiErr) (count : ℕ) → IsOr response reply → reply ≡ Err (error.Exhausted count) → A
 not_exhausted response reply count (inl given) is = absurd (cc)
 not_exhausted response reply count (inr given) is = absurd (cc)
-
--- what a state call shows, a seat of the pass shows
-pub shown : {O : Type 0} (seats : SeatsAt O) (place : ℕ) (bound : Bound) (count : ℕ) → IsShown place bound seats.stores seats.breakers count → Shows seats count
-shown seats place bound count (inl here) = store place here
-shown seats place bound count (inr there) = breaker there.0 there.2
 
 -- a route with a store is one of the state API
 pub has_store : (asked : Route) (name : List ℕ) → store_in asked ≡ Some name → IsState asked
@@ -72,6 +66,25 @@ module _ (config : Config) (request : Request) (events : List Doing) (reply : Re
   state_answered route.Metadata name is at = absurd (cc)
   state_answered (route.SetMetadata other) name is at = absurd (cc)
   state_answered route.Shutdown name is at = absurd (cc)
+
+module _ {O : Type 0} (config : Config) (seats : SeatsAt O) (count : ℕ) where
+  shown_of_name : (name s : List ℕ) → Some s ≡ Some name → StoreShows config seats name count → StoreShows config seats s count
+  shown_of_name name s is shows = let same : name ≡ s = cc in subst (λ n. StoreShows config seats n count) same shows
+
+  -- what the store of its name shows is shown for the route
+  pub state_shows : (asked : Route) (name : List ℕ) → store_in asked ≡ Some name → StoreShows config seats name count → RouteShows config seats asked count
+  state_shows (route.Save s) name is shows = shown_of_name name s is shows
+  state_shows (route.Get s key) name is shows = shown_of_name name s is shows
+  state_shows (route.Delete s key) name is shows = shown_of_name name s is shows
+  state_shows (route.Bulk s) name is shows = shown_of_name name s is shows
+  state_shows (route.Transact s) name is shows = shown_of_name name s is shows
+  state_shows (route.Invoke app rest) name is shows = absurd (cc)
+  state_shows (route.Publish pubsub topic) name is shows = absurd (cc)
+  state_shows (route.Binding other) name is shows = absurd (cc)
+  state_shows route.Health name is shows = absurd (cc)
+  state_shows route.Metadata name is shows = absurd (cc)
+  state_shows (route.SetMetadata other) name is shows = absurd (cc)
+  state_shows route.Shutdown name is shows = absurd (cc)
 
 -- an error of one call as that of another
 pub same_err : {A B E : Type 0} (e other : E) → ◌≡◌ {A = Result A E} (Err e) (Err other) → ◌≡◌ {A = Result B E} (Err e) (Err other)

@@ -31,7 +31,7 @@ use Rattle.sidecar_core.specs.declared.doing.Doing.{Doing}
 use Rattle.sidecar_core.specs.declared.doing.Doing.TheVariants.{Noted}
 use Rattle.sidecar_core.specs.Ran.{StoreRan}
 use Rattle.sidecar_core.specs.Responses.{no_route, not_allowed, bad_escape, not_yet, no_store}
-use Rattle.sidecar_core.specs.Sites.{sites_of, place_named, IsSite, notes_of}
+use Rattle.sidecar_core.specs.Sites.{sites_of, place_named, IsSite, notes_of, sub_notes_of}
 
 -- this response, or there is no memory for it
 abbrev pub IsOr : Response → Result Response ApiErr → Type 0
@@ -107,7 +107,7 @@ PutReplies told.NoMemory reply = reply ≡ Err error.NoMemory
 abbrev pub ListReplies : Config → NotesReply → Result Response ApiErr → Type 0
 ListReplies config told.Noted reply = ⊥
 ListReplies config (told.Full names bytes) reply = ⊥
-ListReplies config (told.Listed pairs) reply = IsOr (metadata_response config.app (notes_of config) [] pairs) reply
+ListReplies config (told.Listed pairs) reply = IsOr (metadata_response config.app (notes_of config) (sub_notes_of config) pairs) reply
 ListReplies config told.NoMemory reply = reply ≡ Err error.NoMemory
 
 -- what is answered where the book was asked; a call that ended early has no response

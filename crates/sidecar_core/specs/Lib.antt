@@ -5,8 +5,10 @@ pub mod Ran
 pub mod Pass
 pub mod Site
 pub mod Sites
+pub mod Plans
 pub mod Responses
 pub mod Exchange
+pub mod Shown
 pub mod Linked
 pub mod Passed
 pub mod Invoking

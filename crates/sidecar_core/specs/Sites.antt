@@ -7,6 +7,8 @@ use Rattle.resource_spec.specs.declared.component.ComponentKind.TheVariants as k
 use Rattle.resource_spec.specs.Component.{Loaded, key_prefix_of, kind_name}
 use Rattle.policy_spec.specs.Policies.{bound_by, outbound}
 use Rattle.meta_api.specs.declared.response.ComponentNote.{ComponentNote}
+use Rattle.meta_api.specs.declared.response.SubscriptionNote.{SubscriptionNote}
+use Rattle.topic_spec.specs.declared.sub.Sub.{Sub}
 use Rattle.sidecar_core.specs.declared.config.Config.{Config}
 use Rattle.sidecar_core.specs.Site.{Site}
 
@@ -52,3 +54,10 @@ note_of c = record { name = c.name; kind = kind_name c.kind; version = c.version
 
 abbrev pub notes_of : Config → List ComponentNote
 notes_of config = map note_of config.components
+
+-- what metadata tells of a subscription: the name of its component, its topic and its dead-letter topic, where it has one
+abbrev pub sub_note_of : Sub → SubscriptionNote
+sub_note_of sub = record { pubsub = sub.pubsub; topic = sub.topic; dead = sub.dead }
+
+abbrev pub sub_notes_of : Config → List SubscriptionNote
+sub_notes_of config = map sub_note_of config.subs

@@ -26,6 +26,7 @@ impl<K: Keeper> Shared<K> {
             routers: _,
             sites: _,
             notes: _,
+            sub_notes: _,
         } = self;
         let Room {
             mut closed,

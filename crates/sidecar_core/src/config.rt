@@ -1,6 +1,7 @@
 use policy_spec::Policies;
 use resource_spec::Components;
 use side_base::Text;
+use topic_spec::Subs;
 
 /// What a sidecar is configured as; it is fixed from the start.
 #[derive(Drop)]
@@ -9,6 +10,8 @@ pub struct Config {
     pub app: Text,
     /// The loaded components, in their order.
     pub components: Components,
+    /// The subscriptions of the app, in their order; those of a sidecar without an app port are none.
+    pub subs: Subs,
     /// What is bound to the calls of which target.
     pub policies: Policies,
 }

@@ -22,9 +22,10 @@ pub(crate) struct Desk<'s, 'p, 'l, 'c, 'r, K: Keeper, L: Link, C: Clock, R: Rng>
 impl<K: Keeper, L: Link, C: Clock, R: Rng> Handler for Desk<'_, '_, '_, '_, '_, K, L, C, R> {
     ghost use Rattle.std.specs.Prelude.{◌≡◌};
     ghost use Rattle.std.proofs.Common.{subst};
-    ghost use Rattle.sidecar_core.specs.Did.{IsPassOf, Shows};
+    ghost use Rattle.sidecar_core.specs.Did.{IsPassOf};
     ghost use Rattle.sidecar_core.specs.Pass.{cells_of, seats_of, standing};
     ghost use Rattle.sidecar_core.specs.Exchange.{Exchange};
+    ghost use Rattle.sidecar_core.specs.Shown.{ShownFor};
     ghost use Rattle.sidecar_core.specs.Desk.{Goes, goes_nowhere, goes_on, stays_there, unsaid};
 
     type Event = Doing;
@@ -35,7 +36,7 @@ impl<K: Keeper, L: Link, C: Clock, R: Rng> Handler for Desk<'_, '_, '_, '_, '_, 
 
     ghost did = { λ desk events after. Goes ⟦<Store<K> as ObjectKinds>⟧.kinds (λ shared. cells_of shared.objects) desk.shared.now (record { pass = desk.pass.ghost_name; link = desk.link.ghost_name; clock = desk.clock.ghost_name; rng = desk.rng.ghost_name }) (standing L.Link C.Clock desk.pass.now desk.link.now desk.clock.now (R.stream desk.rng.now)) events after.shared.now (record { pass = after.pass.ghost_name; link = after.link.ghost_name; clock = after.clock.ghost_name; rng = after.rng.ghost_name }) (standing L.Link C.Clock after.pass.now after.link.now after.clock.now (R.stream after.rng.now)) };
 
-    ghost shows = { λ desk count. Shows (seats_of desk.pass.now) count };
+    ghost shows = { λ desk request count. ShownFor desk.shared.now.config (seats_of desk.pass.now) request count };
 
     fn respond<W: Wait>(&mut self, rt: &W, request: &Request) -> Result<Response, ApiErr> {
         respond(

@@ -1,12 +1,12 @@
 //! Requests for metadata, at the book of its entries.
-ghost use Rattle.std.specs.Prelude.{◌≡◌, ℕ, List, Option, Err, IfOk, [], Ok};
+ghost use Rattle.std.specs.Prelude.{◌≡◌, ℕ, List, Option, Some, Err, IfOk, [], Ok};
 ghost use Rattle.rand_core.specs.Stream.{Stream};
 ghost use Rattle.side_world.specs.declared.link.LinkCall.{LinkCall};
 ghost use Rattle.turn_cell.specs.declared.error.ApiErr.TheVariants as error;
 ghost use Rattle.policy_run.specs.Effects.{Clocked};
 ghost use Rattle.meta_api.specs.declared.command.NotesCmd.TheVariants as ask;
 ghost use Rattle.meta_api.specs.Fits.{Fits};
-ghost use Rattle.sidecar_core.specs.Did.{IsPassOf, Does, Shows};
+ghost use Rattle.sidecar_core.specs.Did.{IsPassOf, Does};
 ghost use Rattle.sidecar_core.specs.Pass.{cells_of, seats_of};
 ghost use Rattle.sidecar_core.specs.Exchange.{AtNotes, ListReplies, NotesRan, PutReplies, SetsNote};
 
@@ -15,9 +15,7 @@ use crate::kinds::ObjectKinds;
 use crate::{Pass, Shared};
 use keeper_core::Keeper;
 use meta_api::laws::replies_fit;
-use meta_api::{
-    NoteErr, NotesCmd, NotesReply, SubscriptionNotes, metadata, put_command, put_response,
-};
+use meta_api::{NoteErr, NotesCmd, NotesReply, metadata, put_command, put_response};
 use side_base::{Response, Text};
 use state_api::{What, malformed_response};
 use state_core::Store;
@@ -35,7 +33,7 @@ pub(crate) fn put<K: Keeper, W: Wait>(
 ) -> Result<Response, ApiErr>
     requires pass { IsPassOf (cells_of shared.now.objects) (seats_of pass.old) }
     ensures does { (clock : Clocked) (calls : Option (List LinkCall)) (words : Stream) → Does ⟦<Store<K> as ObjectKinds>⟧.kinds (cells_of shared.now.objects) (record { seats = seats_of pass.old; clock = clock; calls = calls; words = words }) (record { seats = seats_of pass.new; clock = clock; calls = calls; words = words }) (λ events. SetsNote name.now value.now events result) }
-    ensures shows { (count : ℕ) → result ≡ Err (error.Exhausted count) → Shows (seats_of pass.new) count }
+    ensures shows { (count : ℕ) → result ≡ Err (error.Exhausted count) → pass.new.notes.count ≡ Some count }
 {
     match put_command(shared.alloc, name, value) {
         Ok(cmd) => put_by(rt, shared, pass, &cmd),
@@ -54,7 +52,7 @@ fn put_by<K: Keeper, W: Wait>(
     requires pass { IsPassOf (cells_of shared.now.objects) (seats_of pass.old) }
     requires put { (name value : List ℕ) × (cmd.now ≡ ask.Put name value) }
     ensures does { (clock : Clocked) (calls : Option (List LinkCall)) (words : Stream) → Does ⟦<Store<K> as ObjectKinds>⟧.kinds (cells_of shared.now.objects) (record { seats = seats_of pass.old; clock = clock; calls = calls; words = words }) (record { seats = seats_of pass.new; clock = clock; calls = calls; words = words }) (λ events. AtNotes cmd.now PutReplies events result) }
-    ensures shows { (count : ℕ) → result ≡ Err (error.Exhausted count) → Shows (seats_of pass.new) count }
+    ensures shows { (count : ℕ) → result ≡ Err (error.Exhausted count) → pass.new.notes.count ≡ Some count }
 {
     match note(rt, shared, pass, cmd) {
         Ok(reply) => put_replied(shared.alloc, &reply),
@@ -70,7 +68,7 @@ pub(crate) fn list<K: Keeper, W: Wait>(
 ) -> Result<Response, ApiErr>
     requires pass { IsPassOf (cells_of shared.now.objects) (seats_of pass.old) }
     ensures does { (clock : Clocked) (calls : Option (List LinkCall)) (words : Stream) → Does ⟦<Store<K> as ObjectKinds>⟧.kinds (cells_of shared.now.objects) (record { seats = seats_of pass.old; clock = clock; calls = calls; words = words }) (record { seats = seats_of pass.new; clock = clock; calls = calls; words = words }) (λ events. AtNotes ask.List (ListReplies shared.now.config) events result) }
-    ensures shows { (count : ℕ) → result ≡ Err (error.Exhausted count) → Shows (seats_of pass.new) count }
+    ensures shows { (count : ℕ) → result ≡ Err (error.Exhausted count) → pass.new.notes.count ≡ Some count }
 {
     match note(rt, shared, pass, &NotesCmd::List) {
         Ok(reply) => list_replied(shared, reply),
@@ -88,7 +86,7 @@ fn note<K: Keeper, W: Wait>(
     requires pass { IsPassOf (cells_of shared.now.objects) (seats_of pass.old) }
     ensures does { (clock : Clocked) (calls : Option (List LinkCall)) (words : Stream) → Does ⟦<Store<K> as ObjectKinds>⟧.kinds (cells_of shared.now.objects) (record { seats = seats_of pass.old; clock = clock; calls = calls; words = words }) (record { seats = seats_of pass.new; clock = clock; calls = calls; words = words }) (λ events. NotesRan cmd.now events result) }
     ensures fits { IfOk result (Fits cmd.now) }
-    ensures shows { (count : ℕ) → result ≡ Err (error.Exhausted count) → Shows (seats_of pass.new) count }
+    ensures shows { (count : ℕ) → result ≡ Err (error.Exhausted count) → pass.new.notes.count ≡ Some count }
 {
     replies_fit();
     match shared.objects.notes.call(rt, &mut pass.notes, cmd) {
@@ -119,7 +117,7 @@ fn list_replied<K: Keeper>(shared: &Shared<K>, reply: NotesReply) -> Result<Resp
             shared.alloc,
             &shared.config.app,
             &shared.notes,
-            &SubscriptionNotes::new(shared.alloc),
+            &shared.sub_notes,
             &pairs,
         )),
         NotesReply::NoMemory => Err(ApiErr::NoMemory),

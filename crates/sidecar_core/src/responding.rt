@@ -5,10 +5,11 @@ ghost use Rattle.side_base.specs.declared.message.Request.{Request as RequestRec
 ghost use Rattle.side_world.specs.declared.link.LinkCall.{LinkCall};
 ghost use Rattle.turn_cell.specs.declared.error.ApiErr.TheVariants as error;
 ghost use Rattle.policy_run.specs.Effects.{Clocked, clocked};
-ghost use Rattle.sidecar_core.specs.Did.{IsPassOf, Does, Shows};
+ghost use Rattle.sidecar_core.specs.Did.{IsPassOf, Does};
 ghost use Rattle.sidecar_core.specs.declared.config.Config.{Config as ConfigRecord};
 ghost use Rattle.sidecar_core.specs.Pass.{cells_of, seats_of};
 ghost use Rattle.sidecar_core.specs.Exchange.{Answered, Exchange, store_in};
+ghost use Rattle.sidecar_core.specs.Shown.{RouteShows, ShownFor};
 
 use crate::given::given;
 use crate::kinds::ObjectKinds;
@@ -29,8 +30,8 @@ use turn_cell::ApiErr;
 
 /// Answers a request: its route is looked for first, then the name of its component, then its body is judged, and then its steps are made.
 ///
-/// Where there is no memory, or a cell is exhausted, the request has ended early: what was done until then stays done. The status of the
-/// response is from 100 to 999.
+/// Where there is no memory, or a cell is exhausted, the request has ended early: what was done until then stays done. An exhausted cell is one that this
+/// request calls, and its seat shows the count. The status of the response is from 100 to 999.
 pub fn respond<K: Keeper, L: Link, C: Clock, R: Rng, W: Wait>(
     rt: &W,
     shared: &Shared<K>,
@@ -43,7 +44,7 @@ pub fn respond<K: Keeper, L: Link, C: Clock, R: Rng, W: Wait>(
     requires pass { IsPassOf (cells_of shared.now.objects) (seats_of pass.old) }
     ensures exchange { Does ⟦<Store<K> as ObjectKinds>⟧.kinds (cells_of shared.now.objects) (record { seats = seats_of pass.old; clock = clocked C.Clock clock.old; calls = L.calls link.old; words = R.stream rng.old }) (record { seats = seats_of pass.new; clock = clocked C.Clock clock.new; calls = L.calls link.new; words = R.stream rng.new }) (λ events. Exchange shared.now.config request.now events result) }
     ensures pass { IsPassOf (cells_of shared.now.objects) (seats_of pass.new) }
-    ensures shows { (count : ℕ) → result ≡ Err (error.Exhausted count) → Shows (seats_of pass.new) count }
+    ensures shows { (count : ℕ) → result ≡ Err (error.Exhausted count) → ShownFor shared.now.config (seats_of pass.new) request.now count }
     ensures status { IfOk result (λ response. IsStatusCode response.status) }
 {
     match shared.route(request) {
@@ -64,7 +65,7 @@ fn answer<K: Keeper, C: Clock, R: Rng, W: Wait>(
 ) -> Result<Response, ApiErr>
     requires pass { IsPassOf (cells_of shared.now.objects) (seats_of pass.old) }
     ensures does { (calls : Option (List LinkCall)) → Does ⟦<Store<K> as ObjectKinds>⟧.kinds (cells_of shared.now.objects) (record { seats = seats_of pass.old; clock = clocked C.Clock clock.old; calls = calls; words = R.stream rng.old }) (record { seats = seats_of pass.new; clock = clocked C.Clock clock.new; calls = calls; words = R.stream rng.new }) (λ events. Answered shared.now.config request.now (Ok route.now) events result) }
-    ensures shows { (count : ℕ) → result ≡ Err (error.Exhausted count) → Shows (seats_of pass.new) count }
+    ensures shows { (count : ℕ) → result ≡ Err (error.Exhausted count) → RouteShows shared.now.config (seats_of pass.new) route.now count }
 {
     match store_in(route) {
         Some(name) => at_store(rt, shared, pass, request, route, name, clock, rng),
@@ -103,7 +104,7 @@ fn answer_plainly<K: Keeper, W: Wait>(
     requires pass { IsPassOf (cells_of shared.now.objects) (seats_of pass.old) }
     requires route { store_in route.now ≡ None }
     ensures does { (clock : Clocked) (calls : Option (List LinkCall)) (words : Stream) → Does ⟦<Store<K> as ObjectKinds>⟧.kinds (cells_of shared.now.objects) (record { seats = seats_of pass.old; clock = clock; calls = calls; words = words }) (record { seats = seats_of pass.new; clock = clock; calls = calls; words = words }) (λ events. Answered shared.now.config request.now (Ok route.now) events result) }
-    ensures shows { (count : ℕ) → result ≡ Err (error.Exhausted count) → Shows (seats_of pass.new) count }
+    ensures shows { (count : ℕ) → result ≡ Err (error.Exhausted count) → RouteShows shared.now.config (seats_of pass.new) route.now count }
 {
     match route {
         Route::Health => Ok(health(shared.alloc)),

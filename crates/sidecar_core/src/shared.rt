@@ -3,12 +3,12 @@ ghost use Rattle.std.specs.Option.{ForSome};
 ghost use mathlib.Core.Option.{some};
 ghost use lib.ListN.{get_elem?};
 ghost use Rattle.sidecar_core.specs.Site.{Site};
-ghost use Rattle.sidecar_core.specs.Sites.{sites_of, notes_of, pubsubs_of};
+ghost use Rattle.sidecar_core.specs.Sites.{sites_of, notes_of, pubsubs_of, sub_notes_of};
 
 use crate::{Config, Objects, StoreSite};
 use api_routes::{Route, RouteErr, Routers};
 use keeper_core::Keeper;
-use meta_api::ComponentNotes;
+use meta_api::{ComponentNotes, SubscriptionNotes};
 use side_base::{Request, Text};
 use std::alloc::Global;
 
@@ -23,8 +23,11 @@ pub struct Shared<K: Keeper> {
     pub(crate) sites: Vec<StoreSite>,
     /// The components, as metadata tells them.
     pub(crate) notes: ComponentNotes,
+    /// The subscriptions, as metadata tells them.
+    pub(crate) sub_notes: SubscriptionNotes,
     ghost has_sites: { sites.items ≡ sites_of config },
     ghost has_notes: { notes ≡ notes_of config },
+    ghost has_sub_notes: { sub_notes ≡ sub_notes_of config },
     ghost stores: { length objects.stores.items ≡ length sites.items },
     ghost ledgers: { length objects.ledgers.items ≡ length (pubsubs_of config.components) },
     ghost breakers: { length objects.breakers.items ≡ length config.policies.breakers },

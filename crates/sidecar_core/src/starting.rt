@@ -3,10 +3,13 @@ ghost use Rattle.std.specs.Option.{ForSome};
 ghost use Rattle.retry_core.specs.BreakerPolicy.{IsWithinLimit};
 ghost use Rattle.turn_cell.specs.Sitting.{root_of};
 ghost use Rattle.state_core.specs.Store.{keeper_of};
+ghost use Rattle.retry_core.specs.RetryPolicy.{IsWithinLimit as IsRetryWithinLimit};
+ghost use Rattle.ledger_core.specs.Plan.{AreWithinLimit};
 ghost use Rattle.ledger_core.specs.Ledger.{plans_of};
 ghost use Rattle.breaker_core.specs.Breaker.{policy_of};
 ghost use Rattle.meta_api.specs.Notes.{pairs_of};
-ghost use Rattle.sidecar_core.specs.Sites.{is_store, is_pubsub, notes_of, note_of, pubsubs_of, site_of, sites_of, stores_of};
+ghost use Rattle.sidecar_core.specs.Plans.{plan_of, plans_in};
+ghost use Rattle.sidecar_core.specs.Sites.{is_store, is_pubsub, notes_of, note_of, pubsubs_of, site_of, sites_of, stores_of, sub_note_of, sub_notes_of};
 ghost use Rattle.sidecar_core.specs.Did.{IsPassOf, IsLone, IsSoundPass};
 ghost use Rattle.sidecar_core.specs.Pass.{cells_of, seats_of};
 ghost use Rattle.sidecar_core.specs.Started.{IsStarted, IsRoomFor};
@@ -16,18 +19,19 @@ use crate::{Config, Objects, Pass, Room, Shared, StoreSite};
 use api_routes::Routers;
 use breaker_core::Breaker;
 use keeper_core::Keeper;
-use ledger_core::{Ledger, Plans};
-use meta_api::{ComponentNote, ComponentNotes, Notes};
-use policy_spec::{BreakerPolicies, Target, bind, breakers};
+use ledger_core::{Ledger, Plan, Plans};
+use meta_api::{ComponentNote, ComponentNotes, Notes, SubscriptionNote, SubscriptionNotes};
+use policy_spec::{BreakerPolicies, Policies, Target, bind, breakers};
 use resource_spec::{Component, ComponentKind, Components};
 use side_base::{NoMemory, Text};
 use state_core::{Prefix, Store};
 use std::alloc::Global;
+use topic_spec::{Sub, Subs};
 use turn_cell::Object;
 
 impl<K: Keeper> Shared<K> {
-    /// Starts all objects of a configuration, with one keeper for each state component, in their order: a ledger for each pub/sub component, a
-    /// breaker for each target that names one, and an empty book of metadata. The pass is that of the root seats, and is alone. The room is for `close`.
+    /// Starts all objects of a configuration, with one keeper for each state component, in their order: a ledger for each pub/sub component, with
+    /// the plans of all subscriptions, a breaker for each target that names one, and an empty book of metadata. The pass is that of the root seats, and is alone. The room is for `close`.
     ///
     /// Without memory the keepers are dropped.
     pub fn start(
@@ -44,7 +48,8 @@ impl<K: Keeper> Shared<K> {
     {
         let sites = sites_for(alloc, &config)?;
         let notes = notes_for(alloc, &config.components)?;
-        let ledgers = ledgers_for(alloc, &config.components)?;
+        let sub_notes = sub_notes_for(alloc, &config.subs)?;
+        let ledgers = ledgers_for(alloc, &config)?;
         let breakers = breakers_for(alloc, breakers(&config.policies))?;
         let room = Room {
             closed: Vec::with_capacity(alloc, keepers.len())?,
@@ -60,6 +65,7 @@ impl<K: Keeper> Shared<K> {
             routers,
             sites,
             notes,
+            sub_notes,
         };
         Ok((shared, pass, room))
     }
@@ -189,34 +195,82 @@ fn stores_for<K: Keeper>(alloc: Global, keepers: Vec<K>) -> Result<Vec<Store<K>>
     Ok(stores)
 }
 
-/// A ledger without subscriptions for each broker.
-fn ledgers_for(alloc: Global, components: &Components) -> Result<Vec<Ledger>, NoMemory>
-    ensures wide { IfOk result (λ ledgers. length ledgers.items ≡ length (pubsubs_of components.now)) }
-    ensures bare { IfOk result (λ ledgers. All (λ ledger. plans_of ledger ≡ []) ledgers.items) }
+/// What metadata tells of the subscriptions.
+fn sub_notes_for(alloc: Global, subs: &Subs) -> Result<SubscriptionNotes, NoMemory>
+    ensures { IfOk result (λ notes. notes ≡ map sub_note_of subs.now) }
+{
+    let mut notes = SubscriptionNotes::new(alloc);
+    for place in 0..subs.len() {
+        notes.push(sub_note_for(subs.at(place))?)?;
+    }
+    Ok(notes)
+}
+
+/// What metadata tells of a subscription.
+fn sub_note_for(sub: &Sub) -> Result<SubscriptionNote, NoMemory>
+    ensures { IfOk result (λ note. note ≡ sub_note_of sub.now) }
+{
+    Ok(SubscriptionNote {
+        pubsub: sub.pubsub.copy()?,
+        topic: sub.topic.copy()?,
+        dead: copied(sub.dead.as_ref())?,
+    })
+}
+
+/// A ledger for each broker, with the plans of all subscriptions.
+fn ledgers_for(alloc: Global, config: &Config) -> Result<Vec<Ledger>, NoMemory>
+    ensures wide { IfOk result (λ ledgers. length ledgers.items ≡ length (pubsubs_of config.now.components)) }
+    ensures planned { IfOk result (λ ledgers. All (λ ledger. plans_of ledger ≡ plans_in config.now) ledgers.items) }
     ensures unused { IfOk result (λ ledgers. All (λ ledger. ⟦<Ledger as Object>⟧.used ledger ≡ 0) ledgers.items) }
 {
     let mut ledgers = Vec::new(alloc);
-    for place in 0..components.len() {
-        add_ledger(alloc, components.at(place), &mut ledgers)?;
+    for place in 0..config.components.len() {
+        add_ledger(alloc, config, config.components.at(place), &mut ledgers)?;
     }
     Ok(ledgers)
 }
 
-/// Adds a ledger without subscriptions for a component, if it is a broker.
+/// Adds a ledger with the plans of all subscriptions for a component, if it is a broker.
 fn add_ledger(
     alloc: Global,
+    config: &Config,
     component: &Component,
     ledgers: &mut Vec<Ledger>,
 ) -> Result<(), NoMemory>
     ensures wide { OnOk result (length ledgers.new.items ≡ length ledgers.old.items + length (pubsubs_of (component.now ∷ []))) }
-    ensures bare { OnOk result (All (λ ledger. plans_of ledger ≡ []) ledgers.old.items → All (λ ledger. plans_of ledger ≡ []) ledgers.new.items) }
+    ensures planned { OnOk result (All (λ ledger. plans_of ledger ≡ plans_in config.now) ledgers.old.items → All (λ ledger. plans_of ledger ≡ plans_in config.now) ledgers.new.items) }
     ensures unused { OnOk result (All (λ ledger. ⟦<Ledger as Object>⟧.used ledger ≡ 0) ledgers.old.items → All (λ ledger. ⟦<Ledger as Object>⟧.used ledger ≡ 0) ledgers.new.items) }
 {
     if !is_pubsub(component.kind()) {
         return Ok(());
     }
-    ledgers.push(Ledger::new(alloc, Plans::new(alloc)))?;
+    let plans = plans_for(alloc, &config.policies, &config.subs)?;
+    ledgers.push(Ledger::new(alloc, plans))?;
     Ok(())
+}
+
+/// The plan of each subscription, at its place.
+fn plans_for(alloc: Global, policies: &Policies, subs: &Subs) -> Result<Plans, NoMemory>
+    ensures exact { IfOk result (λ plans. plans ≡ map (plan_of policies.now) subs.now) }
+    ensures within { IfOk result AreWithinLimit }
+{
+    let mut plans = Plans::new(alloc);
+    for place in 0..subs.len() {
+        plans.push(plan_for(policies, subs.at(place)))?;
+    }
+    Ok(plans)
+}
+
+/// The plan of a subscription: the retries that are bound to what comes from its broker, and whether it has a dead-letter topic.
+fn plan_for(policies: &Policies, sub: &Sub) -> Plan
+    ensures exact { result ≡ plan_of policies.now sub.now }
+    ensures within { ForSome result.retry IsRetryWithinLimit }
+{
+    let bound = bind(policies, &Target::Inbound { name: &sub.pubsub });
+    Plan {
+        retry: bound.retry,
+        dead: sub.dead.is_some(),
+    }
 }
 
 /// A closed breaker of each policy.

@@ -8,9 +8,11 @@ ghost use Rattle.state_api.specs.Asked.{IsState};
 ghost use Rattle.state_api.specs.Response.{IsCut};
 ghost use Rattle.policy_run.specs.Effects.{clocked};
 ghost use Rattle.retry_core.specs.Bound.{IsWithinLimit};
-ghost use Rattle.sidecar_core.specs.Did.{IsPassOf, Does, Shows};
+ghost use Rattle.sidecar_core.specs.Did.{IsPassOf, Does};
 ghost use Rattle.sidecar_core.specs.Pass.{cells_of, seats_of};
 ghost use Rattle.sidecar_core.specs.Exchange.{AtSite, AtStore, Called, FaultGives, store_in};
+ghost use Rattle.sidecar_core.specs.Ran.{IsShown};
+ghost use Rattle.sidecar_core.specs.Shown.{StoreShows};
 
 use crate::given::given;
 use crate::kinds::ObjectKinds;
@@ -44,7 +46,7 @@ pub(crate) fn at_store<K: Keeper, C: Clock, R: Rng, W: Wait>(
     requires pass { IsPassOf (cells_of shared.now.objects) (seats_of pass.old) }
     requires store { store_in route.now ≡ Some name.now }
     ensures does { (calls : Option (List LinkCall)) → Does ⟦<Store<K> as ObjectKinds>⟧.kinds (cells_of shared.now.objects) (record { seats = seats_of pass.old; clock = clocked C.Clock clock.old; calls = calls; words = R.stream rng.old }) (record { seats = seats_of pass.new; clock = clocked C.Clock clock.new; calls = calls; words = R.stream rng.new }) (λ events. AtStore shared.now.config request.now route.now name.now events result) }
-    ensures shows { (count : ℕ) → result ≡ Err (error.Exhausted count) → Shows (seats_of pass.new) count }
+    ensures shows { (count : ℕ) → result ≡ Err (error.Exhausted count) → StoreShows shared.now.config (seats_of pass.new) name.now count }
 {
     match shared.place_of(name) {
         None => given(no_store(shared.alloc, name)),
@@ -79,7 +81,7 @@ fn at_site<K: Keeper, C: Clock, R: Rng, W: Wait>(
     requires breaker { ForSome site.now.bound.breaker (λ k. k < length shared.now.objects.breakers.items) }
     requires state { IsState route.now }
     ensures does { (calls : Option (List LinkCall)) → Does ⟦<Store<K> as ObjectKinds>⟧.kinds (cells_of shared.now.objects) (record { seats = seats_of pass.old; clock = clocked C.Clock clock.old; calls = calls; words = R.stream rng.old }) (record { seats = seats_of pass.new; clock = clocked C.Clock clock.new; calls = calls; words = R.stream rng.new }) (λ events. AtSite place site.now request.now route.now events result) }
-    ensures shows { (count : ℕ) → result ≡ Err (error.Exhausted count) → Shows (seats_of pass.new) count }
+    ensures shows { (count : ℕ) → result ≡ Err (error.Exhausted count) → IsShown place site.now.bound pass.new.stores.items pass.new.breakers.items count }
 {
     match command(shared.alloc, route, request, site.prefix()) {
         Ok(mut cmd) => call(rt, shared, pass, place, site.bound(), &mut cmd, clock, rng),
@@ -106,7 +108,7 @@ fn call<K: Keeper, C: Clock, R: Rng, W: Wait>(
     requires taken { IsTaken cmd.old }
     requires cut { IsCut cmd.old }
     ensures does { (calls : Option (List LinkCall)) → Does ⟦<Store<K> as ObjectKinds>⟧.kinds (cells_of shared.now.objects) (record { seats = seats_of pass.old; clock = clocked C.Clock clock.old; calls = calls; words = R.stream rng.old }) (record { seats = seats_of pass.new; clock = clocked C.Clock clock.new; calls = calls; words = R.stream rng.new }) (λ events. Called place bound.now cmd.old events result) }
-    ensures shows { (count : ℕ) → result ≡ Err (error.Exhausted count) → Shows (seats_of pass.new) count }
+    ensures shows { (count : ℕ) → result ≡ Err (error.Exhausted count) → IsShown place bound.now pass.new.stores.items pass.new.breakers.items count }
 {
     the_moment_changes_no_response();
     match run_store(rt, &shared.objects, pass, place, bound, cmd, clock, rng) {

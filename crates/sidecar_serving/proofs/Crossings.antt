@@ -11,6 +11,7 @@ use Rattle.ledger_core.specs.contracts.ledger.Ledger as Ledger
 use Rattle.ledger_core.proofs.tree.Tree.TheLaws.TheKnot as tree
 use Rattle.matchit.proofs.tree.Node.TheLaws.TheKnot as node
 use Rattle.meta_api.proofs.response.ComponentNote.TheSendSync as note
+use Rattle.meta_api.proofs.response.SubscriptionNote.TheSendSync as sub_note
 use Rattle.side_base.proofs.sequence.Sequence.TheSendSync as sequence
 use Rattle.turn_cell.proofs.cell.Seat.TheSendSync as seat
 use Rattle.turn_cell.proofs.cell.TurnCell.TheSendSync as cell
@@ -56,7 +57,10 @@ module _ (T : RattleType) (g : Ghosts T.Denot) where
           routers_sync,
           (
             search (site.the_sync, crosses, sendable) depth 60 fits 20000,
-            (search (note.the_sync, sequence.the_sync, crosses, sendable) depth 60 fits 20000, tt),
+            (
+              search (note.the_sync, sequence.the_sync, crosses, sendable) depth 60 fits 20000,
+              (search (sub_note.the_sync, sequence.the_sync, crosses, sendable) depth 60 fits 20000, tt),
+            ),
           ),
         ),
       ),

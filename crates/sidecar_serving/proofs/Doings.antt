@@ -12,6 +12,7 @@ use Rattle.side_world.specs.Told.{SentSome, Tells, Told}
 use Rattle.conn_serve.specs.declared.ended.Ended.{Ended}
 use Rattle.conn_serve.specs.declared.ended.Ended.TheVariants as ends
 use Rattle.conn_serve.specs.Ends.{SinkAt, SourceAt, sink_at, source_at}
+use Rattle.conn_serve.specs.Exchanged.{request_in}
 use Rattle.conn_serve.specs.Session.{Session, trace_of}
 use Rattle.conn_serve.specs.Served.{Served}
 use Rattle.sidecar_core.specs.declared.config.Config.{Config}
@@ -19,8 +20,9 @@ use Rattle.sidecar_core.specs.declared.delivering.Turn.{Turn}
 use Rattle.sidecar_core.specs.declared.doing.Doing.{Doing}
 use Rattle.sidecar_core.specs.Composed.{went_on}
 use Rattle.sidecar_core.specs.Delivery.{Delivers}
-use Rattle.sidecar_core.specs.Did.{CellsAt, Does, Kinds, Shows, Standing, Went}
+use Rattle.sidecar_core.specs.Did.{CellsAt, Does, Kinds, Standing, Went}
 use Rattle.sidecar_core.specs.Exchange.{Exchange}
+use Rattle.sidecar_core.specs.Shown.{ShownFor, some_seat}
 use Rattle.sidecar_workers.specs.declared.exit.Exit.{Exit}
 use Rattle.sidecar_workers.specs.declared.exit.Exit.TheVariants as exits
 use Rattle.sidecar_workers.specs.declared.work.Owed.{Owed}
@@ -32,9 +34,10 @@ use Rattle.sidecar_serving.specs.declared.due.Due.TheVariants as dues
 use Rattle.sidecar_serving.specs.Worker.{Adds, Connected, HasDone, IsNewDue, Worked, WorkedSoFar, further, owed_of}
 use Rattle.sidecar_serving.proofs.Sessions.{told_fresh, session_by, cause_by}
 
--- the seat of a cell shows the count that ended a connection
-shown_by : {E : Type 0} (exchange : Request → List E → Result Response ApiErr → Type 0) (did : List E → Type 0) (shows : ℕ → Type 0) (source source' : SourceAt) (sink sink' : SinkAt) (ended : Ended) (count : ℕ) → Served exchange did shows source source' sink sink' ended → exit_of_served (served_of ended) ≡ Some (exits.Spent count) → shows count
-shown_by exchange did shows source source' sink sink' (ends.Spent n) count served is = subst shows (spent is) (served.shown served.session.ends.next n served.session.ends.this served.session.ends.why)
+-- of the request that ended a connection so, the seat of a cell that it calls shows the count
+shown_by : {E : Type 0} (exchange : Request → List E → Result Response ApiErr → Type 0) (did : List E → Type 0) (shows : Request → ℕ → Type 0) (source source' : SourceAt) (sink sink' : SinkAt) (ended : Ended) (count : ℕ) → Served exchange did shows source source' sink sink' ended → exit_of_served (served_of ended) ≡ Some (exits.Spent count) → (request : Request) × shows request count
+shown_by exchange did shows source source' sink sink' (ends.Spent n) count served is =
+    let next = served.session.ends.next in (request_in next.whole, subst (shows (request_in next.whole)) (spent is) (served.shown next n served.session.ends.this served.session.ends.why))
   where
     spent : Some (exits.Spent n) ≡ Some (exits.Spent count) → n ≡ count
     spent e = cc
@@ -93,7 +96,7 @@ module _ {O S N : Type 0} (config : Config) (kinds : Kinds O) (cells : CellsAt O
 
   -- the connection was served
   pub served_on : (due due' : Due S N) (source source' : S) (sink sink' : N) (told told' : Option (List Answer)) (exit exit' : Option Exit) (ended : Ended) (after : Standing O) → due ≡ dues.Serve source sink → due' ≡ dues.Nothing → exit' ≡ exit_of_served (served_of ended)
-      → Served (Exchange config) (λ events. Went kinds cells at events after) (Shows after.seats) (source_at reads source) (source_at reads source') (sink_at writes sink) (sink_at writes sink') ended → Returns told told' (ComesBack reads writes source' sink')
+      → Served (Exchange config) (λ events. Went kinds cells at events after) (ShownFor config after.seats) (source_at reads source) (source_at reads source') (sink_at writes sink) (sink_at writes sink') ended → Returns told told' (ComesBack reads writes source' sink')
       → HasDone config kinds cells start (owed_of due) (IsNewDue reads writes due) (record { at = at; told = told; exit = exit }) → HasDone config kinds cells start (owed_of due') (IsNewDue reads writes due') (record { at = after; told = told'; exit = exit' })
   served_on due due' source source' sink sink' told told' exit exit' ended after was is ends-so served returns before =
       let done = subst (λ d. HasDone config kinds cells start (owed_of d) (IsNewDue reads writes d) (record { at = at; told = told; exit = exit })) was before in
@@ -105,7 +108,7 @@ module _ {O S N : Type 0} (config : Config) (kinds : Kinds O) (cells : CellsAt O
             subst (λ l. Worked config l (done.events ++ trace_of served.done served.more) (exit_of_served (served_of ended))) (ap (λ l. l ++ conn (Some r.1) ∷ []) (sym (append_cancel_right r.0 w.0 (conn None ∷ []) w.1)) ∙ sym r.3)
             (further w.0 done.events (trace_of served.done served.more) (conn (Some r.1)) (exit_of_served (served_of ended)) w.3 (connected done.new r.1 r.4));
         new = tt;
-        shown = λ count shows. shown_by (Exchange config) (λ events. Went kinds cells at events after) (Shows after.seats) (source_at reads source) (source_at reads source') (sink_at writes sink) (sink_at writes sink') ended count served shows;
+        shown = λ count shows. let by = shown_by (Exchange config) (λ events. Went kinds cells at events after) (ShownFor config after.seats) (source_at reads source) (source_at reads source') (sink_at writes sink) (sink_at writes sink') ended count served shows in some_seat config after.seats count by.0 by.1;
       })
     where
       connected : IsNew reads writes source sink → (back : Back) → ComesBack reads writes source' sink' back → Connected config back (trace_of served.done served.more) (exit_of_served (served_of ended))

@@ -8,6 +8,7 @@ use side_memory::MemoryDisk;
 use sidecar_core::Config;
 use std::alloc::Global;
 use std::test::Fail;
+use topic_spec::Subs;
 use yaml_subset::read_docs;
 
 /// A keeper of rows in memory, or over a journal on a disk in memory.
@@ -43,6 +44,7 @@ pub(super) fn config_of(alloc: Global, resources: &str) -> Result<Config, Fail> 
     Ok(Config {
         app,
         components,
+        subs: Subs::new(alloc),
         policies,
     })
 }

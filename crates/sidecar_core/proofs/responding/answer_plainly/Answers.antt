@@ -7,6 +7,12 @@ use Rattle.sidecar_core.proofs.responding.answer_plainly.Goals as goal
 pub returns-in-Metadata-clause-does : goal.returns-in-Metadata-clause-does
 returns-in-Metadata-clause-does g c = λ clock calls words. does_as _ _ _ _ _ _ (λ events at. rw c.in-Metadata.is at) (c.list.ensures.does clock calls words)
 
+pub returns-in-Metadata-clause-shows : goal.returns-in-Metadata-clause-shows
+returns-in-Metadata-clause-shows g c = λ count is. rw c.in-Metadata.is (c.list.ensures.shows count is)
+
+pub returns-in-SetMetadata-clause-shows : goal.returns-in-SetMetadata-clause-shows
+returns-in-SetMetadata-clause-shows g c = λ count is. rw c.in-SetMetadata.is (c.put.ensures.shows count is)
+
 pub returns-in-SetMetadata-clause-does : goal.returns-in-SetMetadata-clause-does
 returns-in-SetMetadata-clause-does g c = λ clock calls words. does_as _ _ _ _ _ _ (λ events at. rw c.in-SetMetadata.is (subst (λ v. SetsNote c.in-SetMetadata.name v events c.put.result) c.bytes.ensures at)) (c.put.ensures.does clock calls words)
 

@@ -15,6 +15,9 @@ returns-in-Ok-clause-pass g c = let d = c.answer.ensures.does (g.L.Link.calls c.
 pub returns-in-Ok-clause-status : goal.returns-in-Ok-clause-status
 returns-in-Ok-clause-status g c = let d = c.answer.ensures.does (g.L.Link.calls c.args.link.now) in fine_reply c.args.shared.now.config c.args.request.now (Ok c.in-Ok.route) d.events c.answer.result d.held
 
+pub returns-in-Ok-clause-shows : goal.returns-in-Ok-clause-shows
+returns-in-Ok-clause-shows g c = λ count is. record { asked = c.in-Ok.route; means = subst (Answers c.args.request.now.method c.args.request.now.target) c.in-Ok.is c.route.ensures; shown = c.answer.ensures.shows count is }
+
 pub returns-in-Err-clause-exchange : goal.returns-in-Err-clause-exchange
 returns-in-Err-clause-exchange g c = does_nothing _ _ _ _
     (record { routed = Err c.in-Err.error; routes = subst (Answers c.args.request.now.method c.args.request.now.target) c.in-Err.is c.route.ensures; answered = c.given_refusal.ensures c.args.shared.now.config c.args.request.now })

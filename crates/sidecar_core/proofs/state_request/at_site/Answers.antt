@@ -5,6 +5,7 @@ use Rattle.state_api.specs.Asked.{Asks}
 use Rattle.sidecar_core.specs.Exchange.{Called}
 use Rattle.sidecar_core.specs.Exchange as exchange
 use Rattle.sidecar_core.specs.Composed.{does_nothing}
+use Rattle.sidecar_core.specs.Ran.{IsShown}
 use Rattle.sidecar_core.proofs.Answering.{does_as, fault_at, fault_shows_nothing}
 use Rattle.sidecar_core.proofs.state_request.at_site.Goals as goal
 
@@ -12,6 +13,9 @@ pub returns-in-Ok-clause-does : goal.returns-in-Ok-clause-does
 returns-in-Ok-clause-does g c = λ calls. does_as _ _ _ _ _ _
     (λ events by. exchange.called c.in-Ok.cmd (subst (λ p. Asks p c.args.request.now c.args.route.now (Ok c.in-Ok.cmd)) c.prefix.ensures c.in-Ok.ensures.asks) (subst (λ b. Called c.args.place b c.in-Ok.cmd events c.call.result) c.bound.ensures.value by))
     (c.call.ensures.does calls)
+
+pub returns-in-Ok-clause-shows : goal.returns-in-Ok-clause-shows
+returns-in-Ok-clause-shows g c = λ count is. subst (λ b. IsShown c.args.place b c.call.new.pass.stores.items c.call.new.pass.breakers.items count) c.bound.ensures.value (c.call.ensures.shows count is)
 
 pub returns-in-Err-clause-does : goal.returns-in-Err-clause-does
 returns-in-Err-clause-does g c = λ calls. does_nothing _ _ _ _

@@ -27,3 +27,13 @@ returns-in-Some-clause-does g c = λ calls.
     let low : c.in-Some.place < length c.args.shared.now.sites.items = search rules in
     let here = at_index c.args.shared.now.sites.items c.in-Some.place c.index.result.now low c.index.ensures in
     does_as _ _ _ _ _ _ (λ events at. found c.in-Some.place c.index.result.now (record { named = sym c.place_of.ensures ∙ c.in-Some.is; there = subst (λ l. get_elem? l c.in-Some.place ≡ some c.index.result.now) c.args.shared.now.has_sites here }) at) (c.at_site.ensures.does calls)
+
+pub returns-in-Some-clause-shows : goal.returns-in-Some-clause-shows
+returns-in-Some-clause-shows g c = λ count is.
+    let low : c.in-Some.place < length c.args.shared.now.sites.items = search rules in
+    let here = at_index c.args.shared.now.sites.items c.in-Some.place c.index.result.now low c.index.ensures in record {
+      place = c.in-Some.place;
+      site = c.index.result.now;
+      named = record { named = sym c.place_of.ensures ∙ c.in-Some.is; there = subst (λ l. get_elem? l c.in-Some.place ≡ some c.index.result.now) c.args.shared.now.has_sites here };
+      shown = c.at_site.ensures.shows count is;
+    }

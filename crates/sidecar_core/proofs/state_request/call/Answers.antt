@@ -1,6 +1,6 @@
 use Rattle.std.proofs.Common.{◌∙◌, refl, subst}
 use Rattle.sidecar_core.specs.Exchange.{IsOr}
-use Rattle.sidecar_core.proofs.Answering.{not_exhausted, same_err, shown}
+use Rattle.sidecar_core.proofs.Answering.{not_exhausted, same_err}
 use Rattle.sidecar_core.proofs.state_request.call.Goals as goal
 
 pub response-requires-clause-answer : goal.response-requires-clause-answer
@@ -31,4 +31,4 @@ returns-in-Err-clause-does g c = λ calls. let r = c.run_store.ensures.ran in re
 }
 
 pub returns-in-Err-clause-shows : goal.returns-in-Err-clause-shows
-returns-in-Err-clause-shows g c = λ count is. shown _ c.args.place c.args.bound.now count (c.run_store.ensures.shows count (c.in-Err.is ∙ same_err c.in-Err.error _ is))
+returns-in-Err-clause-shows g c = λ count is. c.run_store.ensures.shows count (c.in-Err.is ∙ same_err c.in-Err.error _ is)

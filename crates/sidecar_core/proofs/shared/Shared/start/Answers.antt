@@ -1,10 +1,11 @@
-use Rattle.std.proofs.Common.{◌≡◌, ◌∙◌, ◌<◌, [], All, length, sym, ap, subst, refl, arith}
+use Rattle.std.proofs.Common.{◌≡◌, ◌∙◌, ◌<◌, All, length, sym, ap, subst, refl, arith}
 use Rattle.std.specs.Option.{ForSome}
 use Rattle.std.proofs.lemmas.List.{length-map}
 use Rattle.state_core.specs.Store.{keeper_of}
 use Rattle.ledger_core.specs.Ledger.{plans_of}
 use Rattle.breaker_core.specs.Breaker.{policy_of}
 use Rattle.meta_api.specs.Notes.{pairs_of}
+use Rattle.sidecar_core.specs.Plans.{plans_in}
 use Rattle.sidecar_core.specs.Sites.{site_of, stores_of}
 use Rattle.sidecar_core.proofs.Beginning.{all_at, all_unmap, as_many, made_of}
 use Rattle.sidecar_core.proofs.Rooted.{roots_alone, roots_seated, root_alone}
@@ -16,6 +17,7 @@ invariant_of-shared g c =
     let stores = as_many (λ cell. cell.first) c.in_ok-objects.objects.stores.items c.in_ok-stores.stores.items o.stores.0 ∙ as_many keeper_of c.in_ok-stores.stores.items c.args.keepers.items c.in_ok-stores.ensures.keepers in record {
       has_sites = c.in_ok-sites.ensures.exact;
       has_notes = c.in_ok-notes.ensures;
+      has_sub_notes = c.in_ok-sub_notes.ensures;
       stores = stores ∙ c.requires ∙ sym (ap length c.in_ok-sites.ensures.exact ∙ length-map (stores_of c.args.config.components) (site_of c.args.config));
       ledgers = as_many (λ cell. cell.first) c.in_ok-objects.objects.ledgers.items c.in_ok-ledgers.ledgers.items o.ledgers.0 ∙ c.in_ok-ledgers.ensures.wide;
       breakers = as_many (λ cell. cell.first) c.in_ok-objects.objects.breakers.items c.in_ok-breakers.breakers.items o.breakers.0 ∙ as_many policy_of c.in_ok-breakers.breakers.items _ c.in_ok-breakers.ensures.policies ∙ ap length c.breakers.ensures.exact;
@@ -27,7 +29,7 @@ returns-clause-started g c = let o = c.in_ok-objects.ensures in record {
   same = refl;
   stores = made_of keeper_of (λ cell. cell.first) c.in_ok-objects.objects.stores.items c.in_ok-stores.stores.items c.args.keepers.items o.stores.0 c.in_ok-stores.ensures.keepers;
   ledgers = as_many (λ cell. cell.first) c.in_ok-objects.objects.ledgers.items c.in_ok-ledgers.ledgers.items o.ledgers.0 ∙ c.in_ok-ledgers.ensures.wide;
-  plans = all_unmap (λ ledger. plans_of ledger ≡ []) (λ cell. cell.first) c.in_ok-objects.objects.ledgers.items (subst (All (λ ledger. plans_of ledger ≡ [])) (sym o.ledgers.0) c.in_ok-ledgers.ensures.bare);
+  plans = all_unmap (λ ledger. plans_of ledger ≡ plans_in c.args.config) (λ cell. cell.first) c.in_ok-objects.objects.ledgers.items (subst (All (λ ledger. plans_of ledger ≡ plans_in c.args.config)) (sym o.ledgers.0) c.in_ok-ledgers.ensures.planned);
   breakers = made_of policy_of (λ cell. cell.first) c.in_ok-objects.objects.breakers.items c.in_ok-breakers.breakers.items _ o.breakers.0 c.in_ok-breakers.ensures.policies ∙ c.breakers.ensures.exact;
   notes = ap pairs_of o.notes.0 ∙ c.new-2.ensures.empty;
   store_roots = o.stores.1;
