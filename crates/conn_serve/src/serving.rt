@@ -5,9 +5,10 @@ ghost use Rattle.conn_serve.specs.Going.{Going, After, Continues, EndsBy};
 ghost use Rattle.conn_serve.specs.Served.{Served};
 
 use crate::answering::answer;
+use crate::buffers::empty;
 use crate::ending::{finish_refused, finish_without_memory};
 use crate::wanting::want;
-use crate::{Ended, Handler};
+use crate::{Buffers, Ended, Handler};
 use http_frames::laws::{answers_go_on, between_requests_nothing_is_left, bytes_go_on};
 use http_frames::{FrameErr, Framer, Step, continue_bytes};
 use side_base::Blob;
@@ -15,27 +16,22 @@ use side_world::{Sink, Source};
 use std::alloc::Global;
 use std::sync::Wait;
 
-/// How many bytes are read at once.
-const PIECE: usize = 16_384;
-
-/// What a connection keeps while it is served.
+/// How far a connection has come.
 #[derive(Drop)]
 struct Progress {
     framer: Framer,
-    /// Where bytes are read to.
-    piece: [u8; PIECE],
-    /// Responses that are not sent yet.
-    out: Blob,
     /// How many requests were answered.
     answered: u32,
 }
 
 /// Serves one connection: reads requests from `source`, answers each by `handler`, in order, and writes the responses to `sink`.
 ///
-/// Responses to requests that came together go out together, before more is read.
+/// Responses to requests that came together go out together, before more is read. Nothing of what the buffers hold is served, and they are lent to one connection
+/// after the other.
 pub fn serve<H: Handler, S: Source, N: Sink, W: Wait>(
     rt: &W,
     alloc: Global,
+    buffers: &mut Buffers,
     handler: &mut H,
     source: &mut S,
     sink: &mut N,
@@ -44,14 +40,14 @@ pub fn serve<H: Handler, S: Source, N: Sink, W: Wait>(
     ensures { Served (H.exchange handler.old) (λ events. H.did handler.old events handler.new) (H.shows handler.new) (source_at S.Source source.old) (source_at S.Source source.new) (sink_at N.Sink sink.old) (sink_at N.Sink sink.new) result }
 {
     bytes_go_on();
+    empty(alloc, &mut buffers.out);
     let mut progress = Progress {
         framer: Framer::new(alloc),
-        piece: [0; PIECE],
-        out: Blob::new(alloc),
         answered: 0,
     };
     for _ in rt.forever() {
-        if let Some(ended) = turn(rt, alloc, &mut progress, handler, source, sink) {
+        if let Some(ended) = turn(rt, alloc, &mut progress, buffers, handler, source, sink) {
+            empty(alloc, &mut buffers.out);
             return ended;
         }
     }
@@ -63,6 +59,7 @@ fn turn<H: Handler, S: Source, N: Sink, W: Wait>(
     rt: &W,
     alloc: Global,
     progress: &mut Progress,
+    buffers: &mut Buffers,
     handler: &mut H,
     source: &mut S,
     sink: &mut N,
@@ -71,14 +68,14 @@ fn turn<H: Handler, S: Source, N: Sink, W: Wait>(
     requires below { progress.old.answered < 100000 }
     ensures ready { H.ready handler.new }
     ensures below { result ≡ None → progress.new.answered < 100000 }
-    ensures after { (first : H) (source0 : SourceAt) (sink0 : SinkAt) (state : State) → Stands state progress.old.framer → Going (H.exchange first) (λ events. H.did first events handler.old) source0 (source_at S.Source source.old) sink0 (sink_at N.Sink sink.old) state progress.old.answered progress.old.out → After (H.exchange first) (λ events. H.did first events handler.new) (H.shows handler.new) source0 (source_at S.Source source.new) sink0 (sink_at N.Sink sink.new) progress.new.framer progress.new.answered progress.new.out result }
+    ensures after { (first : H) (source0 : SourceAt) (sink0 : SinkAt) (state : State) → Stands state progress.old.framer → Going (H.exchange first) (λ events. H.did first events handler.old) source0 (source_at S.Source source.old) sink0 (sink_at N.Sink sink.old) state progress.old.answered buffers.old.out → After (H.exchange first) (λ events. H.did first events handler.new) (H.shows handler.new) source0 (source_at S.Source source.new) sink0 (sink_at N.Sink sink.new) progress.new.framer progress.new.answered buffers.new.out result }
 {
     bytes_go_on();
     answers_go_on();
     between_requests_nothing_is_left();
     match progress.framer.next() {
-        Ok(step) => take(rt, alloc, progress, step, handler, source, sink),
-        Err(why) => Some(refuse(alloc, why, &mut progress.out, sink)),
+        Ok(step) => take(rt, alloc, progress, buffers, step, handler, source, sink),
+        Err(why) => Some(refuse(alloc, why, &mut buffers.out, sink)),
     }
 }
 
@@ -87,6 +84,7 @@ fn take<H: Handler, S: Source, N: Sink, W: Wait>(
     rt: &W,
     alloc: Global,
     progress: &mut Progress,
+    buffers: &mut Buffers,
     step: Step,
     handler: &mut H,
     source: &mut S,
@@ -96,7 +94,7 @@ fn take<H: Handler, S: Source, N: Sink, W: Wait>(
     requires below { progress.old.answered < 100000 }
     ensures ready { H.ready handler.new }
     ensures below { result ≡ None → progress.new.answered < 100000 }
-    ensures after { (first : H) (source0 : SourceAt) (sink0 : SinkAt) (state new : State) → Stands new progress.old.framer → IsNext state (Ok step) new → Going (H.exchange first) (λ events. H.did first events handler.old) source0 (source_at S.Source source.old) sink0 (sink_at N.Sink sink.old) state progress.old.answered progress.old.out → After (H.exchange first) (λ events. H.did first events handler.new) (H.shows handler.new) source0 (source_at S.Source source.new) sink0 (sink_at N.Sink sink.new) progress.new.framer progress.new.answered progress.new.out result }
+    ensures after { (first : H) (source0 : SourceAt) (sink0 : SinkAt) (state new : State) → Stands new progress.old.framer → IsNext state (Ok step) new → Going (H.exchange first) (λ events. H.did first events handler.old) source0 (source_at S.Source source.old) sink0 (sink_at N.Sink sink.old) state progress.old.answered buffers.old.out → After (H.exchange first) (λ events. H.did first events handler.new) (H.shows handler.new) source0 (source_at S.Source source.new) sink0 (sink_at N.Sink sink.new) progress.new.framer progress.new.answered buffers.new.out result }
 {
     bytes_go_on();
     answers_go_on();
@@ -105,21 +103,14 @@ fn take<H: Handler, S: Source, N: Sink, W: Wait>(
         Step::Request(request) => {
             progress.answered += 1;
             let number = progress.answered;
-            answer(
-                rt,
-                alloc,
-                handler,
-                number,
-                &request,
-                &mut progress.out,
-                sink,
-            )
+            answer(rt, alloc, handler, number, &request, &mut buffers.out, sink)
         }
-        Step::Continue => gather_continue(&mut progress.out, sink),
+        Step::Continue => gather_continue(&mut buffers.out, sink),
         Step::Need => want(
+            alloc,
             &mut progress.framer,
-            &mut progress.piece,
-            &mut progress.out,
+            &mut buffers.piece,
+            &mut buffers.out,
             source,
             sink,
         ),
