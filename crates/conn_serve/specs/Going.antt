@@ -72,8 +72,8 @@ pub record Stage : Type 0 where
   pub source : SourceAt
   pub sink : SinkAt
 
-abbrev pub stage : {S N : Type 0} → Gives S → Takes N → Progress → S → N → Stage
-stage gives takes progress source sink = record { kept = progress.framer; number = progress.answered; out = progress.out; source = source_at gives source; sink = sink_at takes sink }
+abbrev pub stage : {S N : Type 0} → Gives S → Takes N → Progress → List ℕ → S → N → Stage
+stage gives takes progress out source sink = record { kept = progress.framer; number = progress.answered; out = out; source = source_at gives source; sink = sink_at takes sink }
 
 module _ {H E : Type 0} (exchange : H → Request → List E → Result Response ApiErr → Type 0) (did : H → List E → H → Type 0) (shows : H → Request → ℕ → Type 0) (handler handler' : H) (at after : Stage) (result : Option Ended) where
   -- what went on from its beginning goes on to this stage in this state; and from there the handler has led it to the later one

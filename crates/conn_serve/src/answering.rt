@@ -34,7 +34,7 @@ pub(crate) fn answer<H: Handler, N: Sink, W: Wait>(
     ensures answered { Responded H.exchange H.did H.shows handler.old handler.new request.now (λ reply. Answers number request.now out.old out.new (sink_at N.Sink sink.old) (sink_at N.Sink sink.new) reply result) }
 {
     match handler.respond(rt, request) {
-        Ok(response) => say(number, request, &response, out, sink),
+        Ok(response) => say(alloc, number, request, &response, out, sink),
         Err(ApiErr::NoMemory) => Some(finish_without_memory(Ended::NoMemory, out, sink)),
         Err(ApiErr::Exhausted { count }) => Some(finish_spent(
             alloc,
@@ -48,6 +48,7 @@ pub(crate) fn answer<H: Handler, N: Sink, W: Wait>(
 
 /// Gathers the response to the request of this number, and sends what is gathered where the session ends with it, or where it is much.
 fn say<N: Sink>(
+    alloc: Global,
     number: u32,
     request: &Request,
     response: &Response,
@@ -61,27 +62,27 @@ fn say<N: Sink>(
     if push_response(out, response, is_head(request.method), stop.is_some()).is_err() {
         return Some(finish_without_memory(Ended::NoMemory, out, sink));
     }
-    go_on(stop, out, sink)
+    go_on(alloc, stop, out, sink)
 }
 
 /// Sends what is gathered where the session ends, or where it is much.
-fn go_on<N: Sink>(stop: Option<Ended>, out: &mut Blob, sink: &mut N) -> Option<Ended>
+fn go_on<N: Sink>(alloc: Global, stop: Option<Ended>, out: &mut Blob, sink: &mut N) -> Option<Ended>
     ensures { Went stop out.old out.new (sink_at N.Sink sink.old) (sink_at N.Sink sink.new) result }
 {
     match stop {
         Some(ended) => Some(finish(ended, out, sink)),
-        None => make_room(out, sink),
+        None => make_room(alloc, out, sink),
     }
 }
 
 /// Sends what is gathered where it is much.
-fn make_room<N: Sink>(out: &mut Blob, sink: &mut N) -> Option<Ended>
+fn make_room<N: Sink>(alloc: Global, out: &mut Blob, sink: &mut N) -> Option<Ended>
     ensures { MakesRoom out.old out.new (sink_at N.Sink sink.old) (sink_at N.Sink sink.new) result }
 {
     if out.len() < GATHERED {
         return None;
     }
-    match flush(out, sink) {
+    match flush(alloc, out, sink) {
         Ok(()) => None,
         Err(Failed) => Some(Ended::SinkFailed),
     }

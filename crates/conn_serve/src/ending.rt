@@ -5,6 +5,7 @@ ghost use Rattle.conn_serve.specs.Ends.{Sent, Cut, IsFinish, sink_at};
 ghost use Rattle.conn_serve.specs.Answering.{FinishesRefused};
 
 use crate::Ended;
+use crate::buffers::empty;
 use api_error::{Code, error_response, no_memory_response};
 use http_frames::{FrameErr, push_response};
 use side_base::{Blob, NoMemory};
@@ -12,13 +13,13 @@ use side_world::{Failed, Sink, send};
 use std::alloc::Global;
 
 /// Sends what was gathered.
-pub(crate) fn flush<N: Sink>(out: &mut Blob, sink: &mut N) -> Result<(), Failed>
+pub(crate) fn flush<N: Sink>(alloc: Global, out: &mut Blob, sink: &mut N) -> Result<(), Failed>
     ensures sent { OnOk result (Sent out.old (sink_at N.Sink sink.old) (sink_at N.Sink sink.new)) }
     ensures bare { OnOk result (out.new ≡ []) }
     ensures cut { OnErr result (Cut out.old (sink_at N.Sink sink.old) (sink_at N.Sink sink.new)) }
 {
     send(sink, out.bytes())?;
-    out.clear();
+    empty(alloc, out);
     Ok(())
 }
 

@@ -4,9 +4,10 @@ ghost use Rattle.conn_serve.specs.Going.{Continues, EndsBy, TakeLeads, TurnLeads
 ghost use Rattle.conn_serve.specs.Served.{Served};
 
 use crate::answering::answer;
+use crate::buffers::empty;
 use crate::ending::{finish_refused, finish_without_memory};
 use crate::wanting::want;
-use crate::{Ended, Handler};
+use crate::{Buffers, Ended, Handler};
 use http_frames::laws::{answers_go_on, between_requests_nothing_is_left, bytes_go_on};
 use http_frames::{FrameErr, Framer, Step, continue_bytes};
 use side_base::Blob;
@@ -14,27 +15,22 @@ use side_world::{Sink, Source};
 use std::alloc::Global;
 use std::sync::Wait;
 
-/// How many bytes are read at once.
-const PIECE: usize = 16_384;
-
-/// What a connection keeps while it is served.
+/// How far a connection has come.
 #[derive(Drop)]
 struct Progress {
     framer: Framer,
-    /// Where bytes are read to.
-    piece: [u8; PIECE],
-    /// Responses that are not sent yet.
-    out: Blob,
     /// How many requests were answered.
     answered: u32,
 }
 
 /// Serves one connection: reads requests from `source`, answers each by `handler`, in order, and writes the responses to `sink`.
 ///
-/// Responses to requests that came together go out together, before more is read.
+/// Responses to requests that came together go out together, before more is read. Nothing of what the buffers hold is served, and they are lent to one connection
+/// after the other.
 pub fn serve<H: Handler, S: Source, N: Sink, W: Wait>(
     rt: &W,
     alloc: Global,
+    buffers: &mut Buffers,
     handler: &mut H,
     source: &mut S,
     sink: &mut N,
@@ -43,14 +39,14 @@ pub fn serve<H: Handler, S: Source, N: Sink, W: Wait>(
     ensures { Served (H.exchange handler.old) (λ xs. H.did handler.old xs handler.new) (H.shows handler.new) (source_at S.Source source.old) (source_at S.Source source.new) (sink_at N.Sink sink.old) (sink_at N.Sink sink.new) result }
 {
     bytes_go_on();
+    empty(alloc, &mut buffers.out);
     let mut progress = Progress {
         framer: Framer::new(alloc),
-        piece: [0; PIECE],
-        out: Blob::new(alloc),
         answered: 0,
     };
     for _ in rt.forever() {
-        if let Some(ended) = turn(rt, alloc, &mut progress, handler, source, sink) {
+        if let Some(ended) = turn(rt, alloc, &mut progress, buffers, handler, source, sink) {
+            empty(alloc, &mut buffers.out);
             return ended;
         }
     }
@@ -62,6 +58,7 @@ fn turn<H: Handler, S: Source, N: Sink, W: Wait>(
     rt: &W,
     alloc: Global,
     progress: &mut Progress,
+    buffers: &mut Buffers,
     handler: &mut H,
     source: &mut S,
     sink: &mut N,
@@ -70,14 +67,14 @@ fn turn<H: Handler, S: Source, N: Sink, W: Wait>(
     requires below { progress.old.answered < 100000 }
     ensures ready { H.ready handler.new }
     ensures below { result ≡ None → progress.new.answered < 100000 }
-    ensures after { TurnLeads H.exchange H.did H.shows handler.old handler.new (stage S.Source N.Sink progress.old source.old sink.old) (stage S.Source N.Sink progress.new source.new sink.new) result }
+    ensures after { TurnLeads H.exchange H.did H.shows handler.old handler.new (stage S.Source N.Sink progress.old buffers.old.out source.old sink.old) (stage S.Source N.Sink progress.new buffers.new.out source.new sink.new) result }
 {
     bytes_go_on();
     answers_go_on();
     between_requests_nothing_is_left();
     match progress.framer.next() {
-        Ok(step) => take(rt, alloc, progress, step, handler, source, sink),
-        Err(why) => Some(refuse(alloc, why, &mut progress.out, sink)),
+        Ok(step) => take(rt, alloc, progress, buffers, step, handler, source, sink),
+        Err(why) => Some(refuse(alloc, why, &mut buffers.out, sink)),
     }
 }
 
@@ -86,6 +83,7 @@ fn take<H: Handler, S: Source, N: Sink, W: Wait>(
     rt: &W,
     alloc: Global,
     progress: &mut Progress,
+    buffers: &mut Buffers,
     step: Step,
     handler: &mut H,
     source: &mut S,
@@ -95,7 +93,7 @@ fn take<H: Handler, S: Source, N: Sink, W: Wait>(
     requires below { progress.old.answered < 100000 }
     ensures ready { H.ready handler.new }
     ensures below { result ≡ None → progress.new.answered < 100000 }
-    ensures after { TakeLeads H.exchange H.did H.shows handler.old handler.new (stage S.Source N.Sink progress.old source.old sink.old) (stage S.Source N.Sink progress.new source.new sink.new) result step }
+    ensures after { TakeLeads H.exchange H.did H.shows handler.old handler.new (stage S.Source N.Sink progress.old buffers.old.out source.old sink.old) (stage S.Source N.Sink progress.new buffers.new.out source.new sink.new) result step }
 {
     bytes_go_on();
     answers_go_on();
@@ -104,21 +102,14 @@ fn take<H: Handler, S: Source, N: Sink, W: Wait>(
         Step::Request(request) => {
             progress.answered += 1;
             let number = progress.answered;
-            answer(
-                rt,
-                alloc,
-                handler,
-                number,
-                &request,
-                &mut progress.out,
-                sink,
-            )
+            answer(rt, alloc, handler, number, &request, &mut buffers.out, sink)
         }
-        Step::Continue => gather_continue(&mut progress.out, sink),
+        Step::Continue => gather_continue(&mut buffers.out, sink),
         Step::Need => want(
+            alloc,
             &mut progress.framer,
-            &mut progress.piece,
-            &mut progress.out,
+            &mut buffers.piece,
+            &mut buffers.out,
             source,
             sink,
         ),

@@ -8,9 +8,11 @@ use crate::ending::{finish_without_memory, flush};
 use http_frames::Framer;
 use side_base::Blob;
 use side_world::{Failed, Sink, Source};
+use std::alloc::Global;
 
 /// Sends what was gathered, and gives the framer more bytes of the source; says how the session ends, if it does.
 pub(crate) fn want<S: Source, N: Sink>(
+    alloc: Global,
     framer: &mut Framer,
     piece: &mut [u8],
     out: &mut Blob,
@@ -21,7 +23,7 @@ pub(crate) fn want<S: Source, N: Sink>(
     requires short { length piece.old ≤ 16384 }
     ensures { (state : State) → Stands state framer.old → Wants state out.old out.new framer.new (source_at S.Source source.old) (source_at S.Source source.new) (sink_at N.Sink sink.old) (sink_at N.Sink sink.new) result }
 {
-    if let Err(Failed) = flush(out, sink) {
+    if let Err(Failed) = flush(alloc, out, sink) {
         return Some(Ended::SinkFailed);
     }
     source.between(framer.is_between());

@@ -1,6 +1,6 @@
 //! A session is a line of a text: how it ends, how its bytes are cut, which calls fail, what comes in, and what must go out.
 use crate::desk::Desk;
-use conn_serve::serve;
+use conn_serve::{Buffers, serve};
 use side_base::{Blob, NoMemory, Sequence};
 use side_memory::{MemorySink, MemorySource, Sizes};
 use std::alloc::Global;
@@ -27,13 +27,26 @@ struct Session<'a> {
 }
 
 impl Session<'_> {
-    /// Plays the session, whose reads give so many bytes.
-    fn plays<R: Abort + Wait>(&self, rt: &R, alloc: Global, reads: Sizes) -> Result<(), NoMemory> {
+    /// Plays the session, whose reads give so many bytes, with buffers that other sessions may have had before.
+    fn plays<R: Abort + Wait>(
+        &self,
+        rt: &R,
+        alloc: Global,
+        buffers: &mut Buffers,
+        reads: Sizes,
+    ) -> Result<(), NoMemory> {
         let failing = list(alloc, self.failing_reads)?;
         let mut source = MemorySource::new(self.input.copy()?, reads, failing);
         let failing = list(alloc, self.failing_writes)?;
         let mut sink = MemorySink::new(alloc, list(alloc, self.writes)?, failing);
-        let ended = serve(rt, alloc, &mut Desk::new(alloc), &mut source, &mut sink);
+        let ended = serve(
+            rt,
+            alloc,
+            buffers,
+            &mut Desk::new(alloc),
+            &mut source,
+            &mut sink,
+        );
         let told = format!(in alloc; "{ended:?}")?;
         assert_eq!(rt; told.as_str(), self.ended);
         assert_eq!(rt; sink.bytes(), self.output.bytes());
@@ -41,12 +54,17 @@ impl Session<'_> {
     }
 
     /// Plays the session byte by byte, and cut at each place into two pieces.
-    fn plays_however_cut<R: Abort + Wait>(&self, rt: &R, alloc: Global) -> Result<(), NoMemory> {
-        self.plays(rt, alloc, single_bytes(alloc, self.input.len())?)?;
+    fn plays_however_cut<R: Abort + Wait>(
+        &self,
+        rt: &R,
+        alloc: Global,
+        buffers: &mut Buffers,
+    ) -> Result<(), NoMemory> {
+        self.plays(rt, alloc, buffers, single_bytes(alloc, self.input.len())?)?;
         for place in 1..=self.input.len() {
             let mut reads = Sizes::new(alloc);
             reads.push(place)?;
-            self.plays(rt, alloc, reads)?;
+            self.plays(rt, alloc, buffers, reads)?;
         }
         Ok(())
     }

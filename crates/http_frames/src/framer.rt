@@ -1,5 +1,4 @@
 ghost use Rattle.std.specs.Prelude.{◌≡◌, ◌≤◌, ◌+◌, [], false, IsTrue, ◌↔◌, OnOk, OnErr, length, drop};
-ghost use Rattle.std.specs.Vec.{vec_capacity};
 ghost use Rattle.http_frames.specs.Framing.{State, Stands, Answers, waiting, fed, held, stored};
 
 use crate::lines::{Place, start};
@@ -10,9 +9,6 @@ use side_base::NoMemory;
 use std::alloc::Global;
 use std::marker::Model;
 use std::mem;
-
-/// A buffer with more room is not kept for another stream.
-const MOST_ROOM: usize = 65_536;
 
 /// Where the stream stands.
 #[derive(Debug, Drop)]
@@ -63,17 +59,6 @@ impl Framer {
             continued: false,
             stage: Stage::Head(start()),
         }
-    }
-
-    /// Begins anew: it stands as one that was fed nothing, whatever it was fed before, and keeps its buffer, where that has room for at most 64 KiB. Takes no
-    /// memory.
-    pub fn restart(&mut self)
-        ensures { Stands (waiting [] false) self.new }
-    {
-        empty(self.alloc, &mut self.bytes);
-        self.start = 0;
-        self.continued = false;
-        self.stage = Stage::Head(start());
     }
 
     /// Takes the bytes that came: those of a content that are due move into it once. A refused stream takes none. Without memory nothing has changed.
@@ -152,18 +137,6 @@ impl Framer {
             Stage::Content(_) => false,
             Stage::Refused(_) => false,
         }
-    }
-}
-
-/// Removes all bytes, and gives a large room back.
-fn empty(alloc: Global, bytes: &mut Vec<u8>)
-    ensures bare { bytes.new.items ≡ [] }
-    ensures small { vec_capacity bytes.new ≤ 65536 }
-{
-    if bytes.capacity() > MOST_ROOM {
-        *bytes = Vec::new(alloc);
-    } else {
-        bytes.clear();
     }
 }
 

@@ -8,7 +8,7 @@ ghost use Rattle.sidecar_core.specs.Shown.{ShownFor};
 use crate::desk::Desk;
 use crate::kinds::ObjectKinds;
 use crate::{Pass, Shared};
-use conn_serve::{Ended, serve};
+use conn_serve::{Buffers, Ended, serve};
 use keeper_core::Keeper;
 use rand_core::Rng;
 use side_world::{Clock, Link, Sink, Source};
@@ -16,11 +16,12 @@ use state_core::Store;
 use std::sync::Wait;
 
 /// Serves one connection over the shared objects: its requests are answered in order, each by its exchange, whatever other passes do
-/// meanwhile, and the responses are written as a session has them.
+/// meanwhile, and the responses are written as a session has them. The buffers are lent, and nothing of what they hold is served.
 pub fn serve_connection<K: Keeper, S: Source, N: Sink, L: Link, C: Clock, R: Rng, W: Wait>(
     rt: &W,
     shared: &Shared<K>,
     pass: &mut Pass<K>,
+    buffers: &mut Buffers,
     source: &mut S,
     sink: &mut N,
     link: &mut L,
@@ -38,5 +39,5 @@ pub fn serve_connection<K: Keeper, S: Source, N: Sink, L: Link, C: Clock, R: Rng
         clock,
         rng,
     };
-    serve(rt, shared.alloc, &mut desk, source, sink)
+    serve(rt, shared.alloc, buffers, &mut desk, source, sink)
 }

@@ -2,7 +2,7 @@
 ghost use Rattle.std.specs.Prelude.{None, ◌≡◌};
 
 use crate::desk::Desk;
-use conn_serve::{Ended, serve};
+use conn_serve::{Buffers, Ended, serve};
 use side_world::{Failed, Sink, Source};
 use std::cell::Cell;
 use std::test::Fail;
@@ -75,7 +75,15 @@ fn a_response_goes_out_before_more_is_read(rt: HostRuntime) -> Result<(), Fail> 
         faults: 0,
     };
     let mut sink = Getting { got: &got };
-    let ended = serve(&rt, alloc, &mut Desk::new(alloc), &mut source, &mut sink);
+    let mut buffers = Buffers::new(alloc);
+    let ended = serve(
+        &rt,
+        alloc,
+        &mut buffers,
+        &mut Desk::new(alloc),
+        &mut source,
+        &mut sink,
+    );
     assert_eq!(rt; ended, Ended::Done);
     assert_eq!(rt; source.asked, 3);
     Ok(())

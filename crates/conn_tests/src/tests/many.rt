@@ -1,4 +1,5 @@
 use super::{Session, message, single_bytes};
+use conn_serve::Buffers;
 use side_base::{Blob, NoMemory};
 use side_memory::Sizes;
 use std::alloc::Global;
@@ -53,7 +54,8 @@ fn long_then_short(alloc: Global) -> Result<Session<'static>, NoMemory> {
 fn long_responses_are_not_gathered(rt: HostRuntime) -> Result<(), Fail> {
     let alloc = rt.alloc();
     let session = long_then_short(alloc)?;
-    Ok(session.plays(&rt, alloc, Sizes::new(alloc))?)
+    let mut buffers = Buffers::new(alloc);
+    Ok(session.plays(&rt, alloc, &mut buffers, Sizes::new(alloc))?)
 }
 
 #[test]
@@ -61,8 +63,9 @@ fn a_pipeline_is_answered_in_one_piece_and_byte_by_byte(rt: HostRuntime) -> Resu
     let alloc = rt.alloc();
     let output = repeated(alloc, "HTTP/1.1 204 No Content;;", 1_000)?;
     let session = pipeline(alloc, "Done", 1_000, output)?;
-    session.plays(&rt, alloc, Sizes::new(alloc))?;
-    Ok(session.plays(&rt, alloc, single_bytes(alloc, 29_000)?)?)
+    let mut buffers = Buffers::new(alloc);
+    session.plays(&rt, alloc, &mut buffers, Sizes::new(alloc))?;
+    Ok(session.plays(&rt, alloc, &mut buffers, single_bytes(alloc, 29_000)?)?)
 }
 
 // The 100,000th request is the last one that is answered, and its response says so.
@@ -72,5 +75,6 @@ fn a_connection_has_at_most_100_000_requests(rt: HostRuntime) -> Result<(), Fail
     let mut output = repeated(alloc, "HTTP/1.1 204 No Content;;", 99_999)?;
     output.push(message(alloc, "HTTP/1.1 204 No Content;Connection: close;;")?.bytes())?;
     let session = pipeline(alloc, "Limit", 100_001, output)?;
-    Ok(session.plays(&rt, alloc, Sizes::new(alloc))?)
+    let mut buffers = Buffers::new(alloc);
+    Ok(session.plays(&rt, alloc, &mut buffers, Sizes::new(alloc))?)
 }

@@ -1,4 +1,5 @@
 use super::{Session, list, message};
+use conn_serve::Buffers;
 use side_base::NoMemory;
 use std::alloc::Global;
 use std::process::Abort;
@@ -101,7 +102,12 @@ fn cut(text: &str) -> (&str, &str) {
 }
 
 /// Plays the session of a line.
-fn plays_line<R: Abort + Wait>(rt: &R, alloc: Global, line: &str) -> Result<(), NoMemory> {
+fn plays_line<R: Abort + Wait>(
+    rt: &R,
+    alloc: Global,
+    buffers: &mut Buffers,
+    line: &str,
+) -> Result<(), NoMemory> {
     let (ended, rest) = cut(line);
     let (reads, rest) = cut(rest);
     let (failing_reads, rest) = cut(rest);
@@ -117,16 +123,17 @@ fn plays_line<R: Abort + Wait>(rt: &R, alloc: Global, line: &str) -> Result<(), 
         output: message(alloc, output)?,
     };
     if reads == "*" {
-        return session.plays_however_cut(rt, alloc);
+        return session.plays_however_cut(rt, alloc, buffers);
     }
-    session.plays(rt, alloc, list(alloc, reads)?)
+    session.plays(rt, alloc, buffers, list(alloc, reads)?)
 }
 
-/// Plays a text.
+/// Plays a text, whose sessions have the same buffers one after the other.
 fn plays<R: Abort + Wait>(rt: &R, alloc: Global, text: &str) -> Result<(), NoMemory> {
+    let mut buffers = Buffers::new(alloc);
     for line in text.lines() {
         if !line.starts_with('#') {
-            plays_line(rt, alloc, line)?;
+            plays_line(rt, alloc, &mut buffers, line)?;
         }
     }
     Ok(())

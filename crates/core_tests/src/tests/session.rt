@@ -6,7 +6,7 @@ ghost use Rattle.sidecar_core.specs.Sites.{stores_of};
 
 use super::script::Script;
 use super::sidecar::{Setting, config_of, keepers_of};
-use conn_serve::Ended;
+use conn_serve::{Buffers, Ended};
 use keeper_core::Keeper;
 use rand_core::SeedableRng;
 use rand_pcg::Pcg64;
@@ -177,8 +177,17 @@ pub(super) fn served<K: Keeper, W: Wait>(
     let mut link = MemoryLink::new(alloc, Sequence::new(alloc), Sequence::new(alloc));
     let mut clock = MemoryClock::new(alloc, first_moment(), steps);
     let mut rng = Pcg64::seed_from_u64(7);
+    let mut buffers = Buffers::new(alloc);
     serve_connection(
-        rt, shared, pass, source, sink, &mut link, &mut clock, &mut rng,
+        rt,
+        shared,
+        pass,
+        &mut buffers,
+        source,
+        sink,
+        &mut link,
+        &mut clock,
+        &mut rng,
     )
 }
 

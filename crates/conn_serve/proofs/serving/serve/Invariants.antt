@@ -12,5 +12,5 @@ invariant-loop g l = record {
   below : l.progress.answered < 100000;
   state : State;
   stands : Stands state l.progress.framer;
-  going : Going (g.H.Handler.exchange l.initial.handler) (λ xs. g.H.Handler.did l.initial.handler xs l.handler) (source_at g.S.Source l.initial.source) (source_at g.S.Source l.source) (sink_at g.N.Sink l.initial.sink) (sink_at g.N.Sink l.sink) state l.progress.answered l.progress.out;
+  going : Going (g.H.Handler.exchange l.initial.handler) (λ xs. g.H.Handler.did l.initial.handler xs l.handler) (source_at g.S.Source l.initial.source) (source_at g.S.Source l.source) (sink_at g.N.Sink l.initial.sink) (sink_at g.N.Sink l.sink) state l.progress.answered l.buffers.out;
 }
