@@ -3,7 +3,7 @@ ghost use Rattle.std.specs.Prelude.{◌≡◌, true};
 ghost use Rattle.turn_cell.specs.Sitting.{IsSeatOf};
 
 use crate::counter::Counter;
-use crate::rounds::{Caller, Pace, locks, often, owns, places};
+use crate::rounds::{Caller, Calls, Pace, locks, often, owns, places};
 use std::alloc::Global;
 use std::io;
 use std::rt::Clock;
@@ -19,20 +19,17 @@ struct Figures {
     late: u64,
 }
 
-/// The figures of threads that made so many calls in all in this time; each tells what its calls took.
-fn sum_up(
-    alloc: Global,
-    calls: u64,
-    time: Duration,
-    all: Vec<io::Result<Vec<u64>>>,
-) -> io::Result<Figures> {
+/// The figures of threads that made these calls in this time.
+fn sum_up(alloc: Global, time: Duration, mut all: Vec<Calls>) -> io::Result<Figures> {
+    let mut made: u64 = 0;
     let mut took = Vec::new(alloc);
-    for one in all {
-        took.append(&mut one?)?;
+    for calls in &mut all {
+        made = made.saturating_add(calls.made);
+        took.append(&mut calls.took)?;
     }
     took.sort_unstable();
     let late = took.get(took.len() / 100 * 99).copied().unwrap_or(0);
-    let rate = u128::from(calls) * 1000000000 / time.as_nanos().max(1);
+    let rate = u128::from(made).saturating_mul(1000000000) / time.as_nanos().max(1);
     Ok(Figures {
         rate: u64::try_from(rate).unwrap_or(u64::MAX),
         late,
@@ -46,10 +43,9 @@ fn called<R: Threads + Wait + Sync + Clock, C: Caller + Send + Drop>(
     callers: Vec<C>,
     pace: Pace,
 ) -> io::Result<Figures> {
-    let calls = u64::from(pace.calls).saturating_mul(callers.len() as u64);
     let begin = Instant::now(rt)?;
     let all = map_vec(rt, callers, &|caller| often(rt, alloc, caller, pace))?;
-    sum_up(alloc, calls, begin.elapsed(rt)?, all)
+    sum_up(alloc, begin.elapsed(rt)?, all)
 }
 
 /// So many threads on one cell, and one more.

@@ -119,21 +119,38 @@ pub fn locks(alloc: Global, count: u32) -> Result<Vec<Mutex<Counter>>, AllocErro
     Ok(locks)
 }
 
-/// The moment, where there is work between calls: a call by itself would be small beside two looks at the clock.
-fn moment<R: Clock>(rt: &R, pace: Pace) -> io::Result<Option<Instant>> {
-    if pace.work == 0 {
-        return Ok(None);
-    }
-    Ok(Some(Instant::now(rt)?))
+/// The calls that a thread made.
+#[derive(Drop)]
+pub struct Calls {
+    pub made: u64,
+    /// How many nanoseconds each took, where there is work between calls: a call by itself would be small beside two looks at the clock.
+    pub took: Vec<u64>,
 }
 
-/// Notes how many nanoseconds have passed.
-fn note<R: Clock>(rt: &R, begin: Option<Instant>, took: &mut Vec<u64>) -> io::Result<()> {
-    if let Some(begin) = begin {
-        let nanos = begin.elapsed(rt)?.as_nanos();
-        took.push(u64::try_from(nanos).unwrap_or(u64::MAX))?;
+/// Makes a step; whether it was made, and what it took was noted where there is work between calls.
+fn timed<R: Wait + Clock, C: Caller>(
+    rt: &R,
+    caller: &mut C,
+    amount: u64,
+    pace: Pace,
+    took: &mut Vec<u64>,
+) -> bool {
+    if pace.work == 0 {
+        return caller.step(rt, amount, pace);
     }
-    Ok(())
+    let Ok(begin) = Instant::now(rt) else {
+        return false;
+    };
+    caller.step(rt, amount, pace) && note(rt, begin, took)
+}
+
+/// Notes how many nanoseconds have passed; whether it could.
+fn note<R: Clock>(rt: &R, begin: Instant, took: &mut Vec<u64>) -> bool {
+    let Ok(time) = begin.elapsed(rt) else {
+        return false;
+    };
+    took.push(u64::try_from(time.as_nanos()).unwrap_or(u64::MAX))
+        .is_ok()
 }
 
 fn step_of(hold: Option<HostRuntime>, amount: u64, pace: Pace) -> Step {
@@ -146,22 +163,21 @@ fn step_of(hold: Option<HostRuntime>, amount: u64, pace: Pace) -> Step {
     }
 }
 
-/// Makes steps as often as the pace says, and tells how many nanoseconds each took.
+/// Makes steps as often as the pace says, or until one can't be made.
 pub fn often<R: Wait + Clock, C: Caller + Drop>(
     rt: &R,
     alloc: Global,
     mut caller: C,
     pace: Pace,
-) -> io::Result<Vec<u64>> {
+) -> Calls {
+    let mut made = 0;
     let mut took = Vec::new(alloc);
-    let mut amount = 1;
-    for _ in 0..pace.calls {
-        amount = rounds(amount, pace.work);
-        let begin = moment(rt, pace)?;
-        if !caller.step(rt, amount, pace) {
+    for call in 1..=pace.calls {
+        let amount = rounds(u64::from(call), pace.work);
+        if !timed(rt, &mut caller, amount, pace, &mut took) {
             break;
         }
-        note(rt, begin, &mut took)?;
+        made = u64::from(call);
     }
-    Ok(took)
+    Calls { made, took }
 }
