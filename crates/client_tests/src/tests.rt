@@ -121,6 +121,28 @@ fn content_has_at_most_4_mib(rt: HostRuntime) -> Result<(), Fail> {
     Ok(())
 }
 
+/// The reply in chunks behind which so many trailers of six bytes come, as a text.
+fn read_trailers(alloc: Global, count: usize) -> Result<Text, ReplyErr> {
+    let mut bytes = Blob::from_bytes(
+        alloc,
+        b"HTTP/1.1 200 OK\r\nTransfer-Encoding: chunked\r\n\r\n2\r\nhi\r\n0\r\n",
+    )?;
+    for _ in 0..count {
+        bytes.push(b"A: b\r\n")?;
+    }
+    bytes.push(b"\r\n")?;
+    let (reply, _) = read_reply(alloc, BytesSource::new(bytes), false);
+    Ok(spelled(alloc, &reply?)?)
+}
+
+#[test]
+fn trailers_have_at_most_16_kib(rt: HostRuntime) -> Result<(), Fail> {
+    let reply = read_trailers(rt.alloc(), 2730)?;
+    assert_eq!(rt; reply.as_str(), "200: hi");
+    assert!(rt; read_trailers(rt.alloc(), 2731).is_err());
+    Ok(())
+}
+
 /// Two fields, of which the link says the second itself.
 fn two_fields(alloc: Global) -> Result<Fields, NoMemory> {
     let mut fields = Sequence::new(alloc);

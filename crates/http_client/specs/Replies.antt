@@ -1,21 +1,17 @@
--- What a reply to a request is (RFC 9112, sections 4, 6, 6.3 and 7.1; RFC 9110, sections 7.6.1, 15.2 and 15.4.5). Heads, chunk lines and
--- trailers are those of the grammar of heads.
+-- What a reply to a request is (RFC 9112, sections 4, 6 and 6.3; RFC 9110, sections 7.6.1, 15.2 and 15.4.5). Heads are those of the
+-- grammar of heads, and content in chunks is what `http_chunks` says.
 use Rattle.std.specs.Prelude.{◌≡◌, ◌≢◌, ℕ, ◌<◌, ◌≤◌, List, [], ◌∷◌, ◌++◌, length, Bool, ◌||◌, not, ◌==◌, if◌then◌else◌, codes, map, All, Option, Some, None, true, false}
 use Rattle.std.specs.List.{flat_map, filter}
 use Rattle.std.specs.Str.Parse.{AllDigits, digits_value}
-use Rattle.httparse.specs.Ascii.{crlf_bytes}
 use Rattle.httparse.specs.Grammar as grammar
-use Rattle.httparse.specs.Grammar.{ResponseHead, IsResponseHead, print_response, status_code, ChunkLine, IsChunkLine, print_chunk_line, chunk_size, IsField, LineEnd, print_section}
+use Rattle.httparse.specs.Grammar.{ResponseHead, IsResponseHead, print_response, status_code}
 use Rattle.side_base.specs.declared.message.Field.{Field}
 use Rattle.side_base.specs.declared.message.Response.{Response}
 use Rattle.side_base.specs.Field.{is_same_word, is_named, has_item}
 use Rattle.side_world.specs.Told.{Took, IsDrained}
+use Rattle.http_chunks.specs.Chunked.{ReadsChunks}
 use Rattle.http_client.specs.declared.framing.Framing.{Framing}
 use Rattle.http_client.specs.declared.framing.Framing.TheVariants as framing
-
--- the most bytes of a reply's content
-abbrev pub BODY_LIMIT : ℕ
-BODY_LIMIT = 4194304
 
 -- a field line of a head, as a field: its name, and its value without white space around
 abbrev pub field_of : grammar.Field → Field
@@ -92,48 +88,11 @@ IsFraming to_head status minor fields framing.Chunks = (is_bare to_head status �
 IsFraming to_head status minor fields framing.ToEnd = (is_bare to_head status ≡ false)
     × (values_of (codes "transfer-encoding") fields ≡ []) × (values_of (codes "content-length") fields ≡ [])
 
--- chunk = chunk-size [ chunk-ext ] CRLF chunk-data CRLF
-pub record Chunk : Type 0 where
-  pub line : ChunkLine
-  pub bytes : List ℕ
-
-abbrev pub print_chunk : Chunk → List ℕ
-print_chunk chunk = print_chunk_line chunk.line ++ chunk.bytes ++ crlf_bytes
-
--- a chunk has the bytes that its line counts, and at least one
-pub record IsChunk (chunk : Chunk) : Type 0 where
-  pub line : IsChunkLine chunk.line
-  pub size : chunk_size chunk.line ≡ length chunk.bytes
-  pub some : 0 < length chunk.bytes
-
--- last-chunk trailer-section CRLF
-pub record Ending : Type 0 where
-  pub line : ChunkLine
-  pub trailers : List grammar.Field
-  pub last : LineEnd
-
-abbrev pub print_ending : Ending → List ℕ
-print_ending ending = print_chunk_line ending.line ++ print_section ending.trailers ending.last
-
-pub record IsEnding (ending : Ending) : Type 0 where
-  pub line : IsChunkLine ending.line
-  pub size : chunk_size ending.line ≡ 0
-  pub trailers : All IsField ending.trailers
-
--- the text is chunks and their ending, and these are the chunks' bytes, joined
-pub record AreChunks (text body : List ℕ) : Type 0 where
-  pub chunks : List Chunk
-  pub ending : Ending
-  pub each : All IsChunk chunks
-  pub ends : IsEnding ending
-  pub whole : text ≡ flat_map print_chunk chunks ++ print_ending ending
-  pub joins : body ≡ flat_map (λ (chunk : Chunk). chunk.bytes) chunks
-
 -- the text is this content, framed so
 abbrev pub IsContent : Framing → List ℕ → List ℕ → Type 0
 IsContent framing.Nothing text body = (text ≡ []) × (body ≡ [])
 IsContent (framing.Length n) text body = (text ≡ body) × (length body ≡ n)
-IsContent framing.Chunks text body = AreChunks text body
+IsContent framing.Chunks text body = ReadsChunks text body []
 IsContent framing.ToEnd text body = text ≡ body
 
 -- a head with a status from 100 to 199, behind which the reply follows; not of one that changes the protocol

@@ -1,12 +1,16 @@
 -- What the readers of a reply take, for the clauses of private functions.
-use Rattle.std.specs.Prelude.{◌≡◌, ℕ, ◌==◌, ◌&&◌, not, nat_le, nat_lt, Bool, List, ◌++◌, All}
+use Rattle.std.specs.Prelude.{◌≡◌, ℕ, ◌+◌, ◌-◌, ◌*◌, ◌<◌, ◌≤◌, ◌==◌, ◌&&◌, not, nat_le, nat_lt, Bool, List, ◌++◌, length, drop, All, Option, Some, None}
 use Rattle.std.specs.List.{flat_map}
-use Rattle.httparse.specs.Grammar as grammar
-use Rattle.httparse.specs.Grammar.{IsField, LineEnd, print_section, ResponseHead, IsResponseHead, print_response, status_code, ChunkLine, IsChunkLine, print_chunk_line, chunk_size}
+use Rattle.httparse.specs.Grammar.{ResponseHead, IsResponseHead, print_response, status_code}
 use Rattle.httparse.specs.declared.spans.HeaderSpan.{HeaderSpan}
 use Rattle.httparse.specs.Spans.{span_bytes}
 use Rattle.side_base.specs.declared.message.Field.{Field}
-use Rattle.http_client.specs.Replies.{fields_of, IsInterim}
+use Rattle.side_world.specs.Told.{Took}
+use Rattle.http_chunks.specs.Chunked.{LINE_LIMIT, BODY_LIMIT, ReadsChunks}
+use Rattle.http_chunks.specs.ContentSteps.{IsInChunks}
+use Rattle.http_chunks.specs.LinePlaces.{IsLooked}
+use Rattle.http_chunks.specs.declared.content.Body.{Body}
+use Rattle.http_client.specs.Replies.{ahead, fields_of, IsInterim}
 use Rattle.http_client.specs.declared.head.Head.{Head}
 
 -- the field whose name and value the spans cover
@@ -41,16 +45,37 @@ pub record IsFinal (text : List ℕ) (head : Head) : Type 0 where
   pub whole : text ≡ flat_map print_response interims ++ print_response h
   pub is : head ≡ head_of h
 
--- the text is a chunk line that counts so many bytes
-pub record IsLine (text : List ℕ) (size : ℕ) : Type 0 where
-  pub line : ChunkLine
-  pub valid : IsChunkLine line
-  pub whole : text ≡ print_chunk_line line
-  pub counts : size ≡ chunk_size line
+-- what was taken and what is pending is content in chunks that was read up to there, and the body is what came of it
+pub record AreRead (first : Option (List ℕ)) (pending : List ℕ) (left : Option (List ℕ)) (body : Body) : Type 0 where
+  pub taken : List ℕ
+  pub took : Took first (ahead pending left) taken
+  pub chunks : IsInChunks (taken ++ pending) pending body.bytes body.left
+  pub looked : IsLooked pending body.left body.looked
 
--- the text is trailers and the empty line that ends them
-pub record AreTrailers (text : List ℕ) : Type 0 where
-  pub fields : List grammar.Field
-  pub last : LineEnd
-  pub valid : All IsField fields
-  pub whole : text ≡ print_section fields last
+-- what was taken and so many of the bytes that are pending are content in chunks, and the body is all of it
+pub record IsWhole (first : Option (List ℕ)) (pending : List ℕ) (left : Option (List ℕ)) (body : Body) (len : ℕ) : Type 0 where
+  pub within : len ≤ length pending
+  pub taken : List ℕ
+  pub took : Took first (ahead pending left) taken
+  pub reads : ReadsChunks (taken ++ pending) body.bytes (drop len pending)
+
+-- the parts of a chunk that come before the next byte of content: its line, and before it the line end of the one before
+abbrev pub parts_due : Option ℕ → ℕ
+parts_due None = 1
+parts_due (Some left) = 2 - 2 * left
+
+-- a number of parts that the content may still have within its limit: each byte, a line and a line end of a chunk counts
+abbrev pub most_parts : Body → ℕ
+most_parts body = 3 * (BODY_LIMIT - length body.bytes) + parts_due body.left
+
+-- the bytes that are pending are fewer than a line and trailers may have, and where some were read a part was
+pub record AreFewer (before pending : List ℕ) (old body : Body) : Type 0 where
+  pub short : length pending < LINE_LIMIT + LINE_LIMIT
+  pub fewer : length pending ≤ length before
+  pub parts : most_parts body ≤ most_parts old
+  pub read : length pending < length before → most_parts body < most_parts old
+
+-- so many of the bytes that are pending end the content, or more of them are needed
+abbrev pub IsFound : Option (List ℕ) → List ℕ → List ℕ → Option (List ℕ) → Body → Body → Option ℕ → Type 0
+IsFound first before pending left old body (Some len) = IsWhole first pending left body len
+IsFound first before pending left old body None = AreRead first pending left body × AreFewer before pending old body

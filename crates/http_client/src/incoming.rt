@@ -1,5 +1,5 @@
 //! The bytes of a reply, as they come.
-ghost use Rattle.std.specs.Prelude.{◌≡◌, ◌+◌, ◌<◌, ◌≤◌, ◌++◌, [], false, take, drop, length, IfOk, IfErr, OnOk, IsTrue};
+ghost use Rattle.std.specs.Prelude.{◌≡◌, ◌+◌, ◌<◌, ◌≤◌, ◌++◌, [], ℕ, List, false, take, drop, length, IfOk, IfErr, OnOk, IsTrue};
 ghost use Rattle.side_world.specs.Faults.{Rose};
 ghost use Rattle.side_world.specs.Told.{Took, IsDrained};
 ghost use Rattle.http_client.specs.declared.incoming.ReplyErr.TheVariants.{SourceFailed};
@@ -13,7 +13,7 @@ use std::marker::Model;
 /// The most bytes that are read at once.
 const PIECE: usize = 16_384;
 
-/// The most bytes of a head, of a chunk's line and of trailers.
+/// The most bytes of a head.
 pub(crate) const HEAD_LIMIT: usize = 16_384;
 
 /// Why a reply was not read.
@@ -110,6 +110,7 @@ impl<S: Source> Incoming<S> {
     pub(crate) fn fill(&mut self) -> Result<bool, ReplyErr>
         ensures same { OnOk result (ahead self.new.pending (S.left self.new.source) ≡ ahead self.old.pending (S.left self.old.source)) }
         ensures more { IfOk result (λ came. IsTrue came → length self.old.pending < length self.new.pending) }
+        ensures grown { IfOk result (λ came. IsTrue came → (piece : List ℕ) × (self.new.pending ≡ self.old.pending ++ piece)) }
         ensures kept { IfOk result (λ came. came ≡ false → self.new.pending ≡ self.old.pending) }
         ensures ended { IfOk result (λ came. came ≡ false → IsDrained (S.left self.new.source)) }
         ensures no_fault { OnOk result (S.faults self.new.source ≡ S.faults self.old.source) }
@@ -137,6 +138,17 @@ impl<S: Source> Incoming<S> {
         if self.pending.bytes().len() >= HEAD_LIMIT {
             return Err(ReplyErr::Bad);
         }
+        self.fill_on()
+    }
+
+    /// Reads once more, where the end of the input is no end of a reply.
+    pub(crate) fn fill_on(&mut self) -> Result<(), ReplyErr>
+        ensures same { OnOk result (ahead self.new.pending (S.left self.new.source) ≡ ahead self.old.pending (S.left self.old.source)) }
+        ensures more { OnOk result (length self.old.pending < length self.new.pending) }
+        ensures grown { OnOk result ((piece : List ℕ) × (self.new.pending ≡ self.old.pending ++ piece)) }
+        ensures no_fault { OnOk result (S.faults self.new.source ≡ S.faults self.old.source) }
+        ensures failed { IfErr result (λ why. why ≡ SourceFailed → Rose (S.faults self.old.source) (S.faults self.new.source)) }
+    {
         if self.fill()? {
             Ok(())
         } else {

@@ -4,11 +4,12 @@ ghost use Rattle.side_world.specs.Faults.{Rose};
 ghost use Rattle.side_world.specs.Told.{Took, IsDrained};
 ghost use Rattle.side_world.specs.Link.{IsReply};
 ghost use Rattle.http_client.specs.declared.incoming.ReplyErr.TheVariants.{SourceFailed};
-ghost use Rattle.http_client.specs.Replies.{ahead, IsReplyOf, IsReplyText, IsContent, BODY_LIMIT};
+ghost use Rattle.http_chunks.specs.Chunked.{BODY_LIMIT};
+ghost use Rattle.http_client.specs.Replies.{ahead, IsReplyOf, IsReplyText, IsContent};
 
-use crate::chunks::BODY_LIMIT;
 use crate::framing::{Framing, framing_of, kept};
 use crate::incoming::{Incoming, Pending, ReplyErr};
+use http_chunks::BODY_LIMIT;
 use side_base::{Blob, Response};
 use side_world::Source;
 use std::alloc::Global;
@@ -86,7 +87,7 @@ impl<S: Source> Incoming<S> {
         ensures no_fault { OnOk result (S.faults self.new.source ≡ S.faults self.old.source) }
         ensures failed { IfErr result (λ why. why ≡ SourceFailed → Rose (S.faults self.old.source) (S.faults self.new.source)) }
     {
-        if len > BODY_LIMIT as u64 {
+        if len > BODY_LIMIT {
             return Err(ReplyErr::Bad);
         }
         let there = self.fill_to(len as usize)?;
@@ -104,7 +105,7 @@ impl<S: Source> Incoming<S> {
         ensures no_fault { OnOk result (S.faults self.new.source ≡ S.faults self.old.source) }
         ensures failed { IfErr result (λ why. why ≡ SourceFailed → Rose (S.faults self.old.source) (S.faults self.new.source)) }
     {
-        let more = self.fill_to(BODY_LIMIT + 1)?;
+        let more = self.fill_to(BODY_LIMIT as usize + 1)?;
         if more {
             return Err(ReplyErr::Bad);
         }

@@ -1,13 +1,20 @@
-use Rattle.http_client.proofs.ChunksLemmas.{one_more_chunk, all_chunks}
 use Rattle.std.proofs.Common.{rules}
+use Rattle.http_client.proofs.ChunksLemmas.{came_on, all_taken, fewer_rounds}
 use Rattle.http_client.proofs.incoming.Incoming.take_chunks.Goals as goal
 
-pub returns-then-size-eq0-clause-took : goal.returns-then-size-eq0-clause-took
-returns-then-size-eq0-clause-took g c = all_chunks _ _ _ _ _ _ _ c.loop-body.invariant.0 c.in_ok-size.ensures.took.1 (search rules) c.in_ok-take_trailers.ensures.took.1 c.in_ok-take_trailers.ensures.took.2
+pub skip-requires : goal.skip-requires
+skip-requires g c = (rw c.in-Some.is at (c.in_ok-found.ensures.found _ c.loop-body.invariant.1)).within
+
+pub returns-in-Some-clause-took : goal.returns-in-Some-clause-took
+returns-in-Some-clause-took g c =
+    all_taken _ _ _ _ _ c.in-Some.len (rw c.in-Some.is at (c.in_ok-found.ensures.found _ c.loop-body.invariant.1)) c.skip.ensures.took
 
 pub loop-body-preserved : goal.loop-body-preserved
-loop-body-preserved g c = (
-  one_more_chunk _ _ _ _ _ _ _ _ _ c.loop-body.invariant.0 c.in_ok-size.ensures.took.1 c.in_ok-size.ensures.took.2 (search rules) (search rules)
-      c.in_ok-take_chunk_data.ensures.took.1 c.in_ok-take_chunk_data.ensures.took.2 c.in_ok-take_chunk_data.ensures.took.3,
-  search rules,
-)
+loop-body-preserved g c =
+    let found = rw c.in-None.is at (c.in_ok-found.ensures.found _ c.loop-body.invariant.1) in
+    (search rules, came_on _ _ _ _ _ _ _ c.in_ok-fill_on-in-None.ensures.same c.in_ok-fill_on-in-None.ensures.grown.1 found.0, search rules)
+
+pub loop-body-smaller : goal.loop-body-smaller
+loop-body-smaller g c =
+    let found = rw c.in-None.is at (c.in_ok-found.ensures.found _ c.loop-body.invariant.1) in
+    fewer_rounds _ _ _ _ _ found.1 c.in_ok-fill_on-in-None.ensures.more
