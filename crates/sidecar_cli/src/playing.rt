@@ -15,7 +15,7 @@ use crate::counting::tell_ledgers;
 use crate::starting::start_objects;
 use crate::status::status_after;
 use crate::{Status, World};
-use conn_serve::Ended;
+use conn_serve::{Buffers, Ended};
 use keeper_core::Keeper;
 use keeper_journal::AnyKeeper;
 use rand_core::{Rng, SeedableRng};
@@ -101,7 +101,7 @@ fn keep<S: Source, N: Sink, E: Sink, F: Files, L: Link, C: Clock, O: Outside, R:
     ensures { IsKept O.Disk.Disk ⟦<AnyKeeper<O::Disk> as Keeper>⟧ ⟦<Store<AnyKeeper<O::Disk>> as ObjectKinds>⟧.kinds config (R.stream rng.old) (world_at S.Source N.Sink E.Sink F.Files L.Link C.Clock O.Outside world.old) (world_at S.Source N.Sink E.Sink F.Files L.Link C.Clock O.Outside world.new) result }
 {
     match start_objects(alloc, config, secret, &mut world.outside) {
-        Ok(up) => session(rt, up.shared, up.pass, up.room, rng, world),
+        Ok(up) => session(rt, alloc, up.shared, up.pass, up.room, rng, world),
         Err(status) => status,
     }
 }
@@ -109,6 +109,7 @@ fn keep<S: Source, N: Sink, E: Sink, F: Files, L: Link, C: Clock, O: Outside, R:
 /// Plays the session by a pass that is alone, tells the counts of the ledgers, ends the cells, and gives the disks back.
 fn session<S: Source, N: Sink, E: Sink, F: Files, L: Link, C: Clock, O: Outside, R: Rng, W: Wait>(
     rt: &W,
+    alloc: Global,
     shared: Shared<AnyKeeper<O::Disk>>,
     mut pass: Pass<AnyKeeper<O::Disk>>,
     room: Room<AnyKeeper<O::Disk>>,
@@ -122,7 +123,7 @@ fn session<S: Source, N: Sink, E: Sink, F: Files, L: Link, C: Clock, O: Outside,
     requires fit { AllFit (stores_of shared.config.components) (map (λ cell. keeper_of cell.first) shared.objects.stores.items) }
     ensures { IsSession O.Disk.Disk ⟦<AnyKeeper<O::Disk> as Keeper>⟧ ⟦<Store<AnyKeeper<O::Disk>> as ObjectKinds>⟧.kinds shared.config shared.objects pass (R.stream rng.old) (world_at S.Source N.Sink E.Sink F.Files L.Link C.Clock O.Outside world.old) (world_at S.Source N.Sink E.Sink F.Files L.Link C.Clock O.Outside world.new) result }
 {
-    let ended = served(rt, &shared, &mut pass, rng, world);
+    let ended = served(rt, alloc, &shared, &mut pass, rng, world);
     let spent = finish(rt, shared, pass, room, &mut world.note, &mut world.outside);
     status_after(ended, spent)
 }
@@ -130,6 +131,7 @@ fn session<S: Source, N: Sink, E: Sink, F: Files, L: Link, C: Clock, O: Outside,
 /// Answers the requests of the one connection.
 fn served<S: Source, N: Sink, E: Sink, F: Files, L: Link, C: Clock, O: Outside, R: Rng, W: Wait>(
     rt: &W,
+    alloc: Global,
     shared: &Shared<AnyKeeper<O::Disk>>,
     pass: &mut Pass<AnyKeeper<O::Disk>>,
     rng: &mut R,
@@ -139,10 +141,12 @@ fn served<S: Source, N: Sink, E: Sink, F: Files, L: Link, C: Clock, O: Outside, 
     ensures served { IsServed O.Disk.Disk ⟦<AnyKeeper<O::Disk> as Keeper>⟧ ⟦<Store<AnyKeeper<O::Disk>> as ObjectKinds>⟧.kinds shared.now.config shared.now.objects pass.old pass.new (R.stream rng.old) (world_at S.Source N.Sink E.Sink F.Files L.Link C.Clock O.Outside world.old) (world_at S.Source N.Sink E.Sink F.Files L.Link C.Clock O.Outside world.new) result }
     ensures pass { IsPassOf (cells_of shared.now.objects) (seats_of pass.new) }
 {
+    let mut buffers = Buffers::new(alloc);
     serve_connection(
         rt,
         shared,
         pass,
+        &mut buffers,
         &mut world.source,
         &mut world.sink,
         &mut world.link,

@@ -6,6 +6,7 @@ use denote.Struct.Declared as declared
 use Rattle.std.proofs.alloc.Global.TheSendSync as global
 use Rattle.std.proofs.Crossing.{crosses}
 use Rattle.keeper_core.specs.declared.keeper.Keeper.{Ghosts}
+use Rattle.conn_serve.proofs.buffers.Buffers.TheSendSync as buffers
 use Rattle.api_routes.specs.contracts.routers.Routers as Routers
 use Rattle.ledger_core.specs.contracts.ledger.Ledger as Ledger
 use Rattle.ledger_core.proofs.tree.Tree.TheLaws.TheKnot as tree
@@ -71,4 +72,4 @@ module _ (T : RattleType) (g : Ghosts T.Denot) where
 module _ (ℓ : NamedLft) (T A L C R S N : RattleType) (g : Ghosts T.Denot) (accepts : Accepts A.Denot S.Denot N.Denot) (reads : Reads S.Denot) (writes : Writes N.Denot) (asks : Asks L.Denot) (times : Times C.Denot) (draws : Draws R.Denot) where
   pub serving_send : IsSend T → IsSend A → IsSend L → IsSend C → IsSend R → IsSend S → IsSend N → IsSend (Serving.the_row ℓ T A L C R S N g accepts reads writes asks times draws)
   serving_send t a l c r s n = recorded_send (Serving.the_field ℓ T A L C R S N g accepts reads writes asks times draws).row _ _ (Serving.the_type ℓ T A L C R S N g accepts reads writes asks times draws).to_one
-      (struct_send (declared.shape (Serving.the_type ℓ T A L C R S N g accepts reads writes asks times draws)) (shr_send _ _ _ (shared_sync T g t), (pass_send T g t, (a, (l, (c, (r, (due.the_field_send S N s n, (search (exit.the_send, crosses, sendable) depth 60 fits 20000, tt)))))))))
+      (struct_send (declared.shape (Serving.the_type ℓ T A L C R S N g accepts reads writes asks times draws)) (shr_send _ _ _ (shared_sync T g t), (pass_send T g t, (buffers.the_field_send, (a, (l, (c, (r, (due.the_field_send S N s n, (search (exit.the_send, crosses, sendable) depth 60 fits 20000, tt))))))))))

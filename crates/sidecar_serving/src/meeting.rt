@@ -84,6 +84,7 @@ fn meet<'a, K: Keeper, O: Outside, R: Rng + Drop>(
     let Serving {
         shared: _,
         pass: other,
+        buffers: _,
         acceptor,
         link,
         clock,

@@ -11,6 +11,7 @@ ghost use Rattle.sidecar_serving.specs.Slots.{IsOpenedSlot};
 
 use crate::due::Due;
 use crate::serving::Serving;
+use conn_serve::Buffers;
 use keeper_core::Keeper;
 use rand_core::Rng;
 use side_base::NoMemory;
@@ -112,6 +113,7 @@ fn open<'a, K: Keeper, O: Outside, R: Rng + Drop>(
                 work: Serving {
                     shared,
                     pass: own,
+                    buffers: Buffers::new(alloc),
                     acceptor,
                     link,
                     clock,

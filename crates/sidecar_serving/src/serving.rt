@@ -2,16 +2,19 @@ ghost use Rattle.sidecar_core.specs.Did.{IsPassOf};
 ghost use Rattle.sidecar_core.specs.Pass.{cells_of, seats_of};
 
 use crate::due::Due;
+use conn_serve::Buffers;
 use keeper_core::Keeper;
 use rand_core::Rng;
 use side_world::{Acceptor, Clock, Link};
 use sidecar_core::{Pass, Shared};
 use sidecar_workers::Exit;
 
-/// What one worker works with: a pass of its own over the shared objects, an acceptor, a link, a clock and random words.
+/// What one worker works with: a pass of its own over the shared objects, buffers, an acceptor, a link, a clock and random words.
 pub(crate) struct Serving<'a, K: Keeper, A: Acceptor, L: Link, C: Clock, R: Rng> {
     pub(crate) shared: &'a Shared<K>,
     pub(crate) pass: Pass<K>,
+    /// Lent to one connection after the other.
+    pub(crate) buffers: Buffers,
     pub(crate) acceptor: A,
     pub(crate) link: L,
     pub(crate) clock: C,
