@@ -1,5 +1,5 @@
 -- Each answer of the ledger in a turn fits its command.
-use Rattle.std.proofs.Common.{◌≡◌, ℕ, Bool, true, false, List, [], ◌∷◌, ◌++◌, refl, sym, subst, ◌∙◌}
+use Rattle.std.proofs.Common.{◌≡◌, ℕ, Bool, true, false, List, [], ◌∷◌, ◌++◌, sym, subst}
 use Rattle.std.specs.Prelude.{Result}
 use Rattle.breaker_core.specs.declared.command.BreakerReply.{BreakerReply}
 use Rattle.ledger_core.specs.declared.plan.Aim.{Aim}

@@ -14,7 +14,7 @@ use Rattle.policy_run.specs.Turn.{Asks, Reports}
 use Rattle.delivery_turn.specs.declared.turn.Turn.TheVariants.{Delivered}
 use Rattle.delivery_turn.specs.Settling.{Own, asked, Row, Settles, settled}
 use Rattle.delivery_turn.specs.Posting.{missed, free, timed, DeadAims, nowhere, Draws, again}
-use Rattle.delivery_turn.specs.Delivery.{Setting, Sent, Tried, Concludes, Takes, Delivery, taken}
+use Rattle.delivery_turn.specs.Delivery.{Sent, Tried, Concludes, Takes, Delivery, taken}
 use Rattle.delivery_turn.specs.Delivery as turns
 use Rattle.delivery_turn.specs.Samples.{orders, letters, guarded_shop, hurried_shop, ledger_step, stepped, post_of, breaker_step, failed_so, late_so}
 
