@@ -1,10 +1,10 @@
 -- The event of the message that is written out, by its bytes: the body is read, and wrapped at the moment 0.
-use Rattle.std.proofs.Common.{◌≡◌, ◌≤◌, ℕ, Bool, true, false, List, [], ◌∷◌, ◌++◌, codes, Option, Some, None, if◌then◌else◌, refl, sym, ap, subst, ◌∙◌, arith, rules}
-use Rattle.std.specs.Prelude.{IsUtf8, option_map, pos}
-use Rattle.std.specs.Str.{bytes_eq}
+use Rattle.std.proofs.Common.{◌≡◌, ◌≤◌, ℕ, Bool, true, false, List, [], ◌∷◌, codes, Option, Some, None, if◌then◌else◌, refl, sym, ap, subst, ◌∙◌, arith, rules}
+use Rattle.std.specs.Prelude.{option_map, pos}
+use Rattle.std.specs.Fmt.{digits}
+use Rattle.std.specs.Str.{bytes_eq, is_utf8}
 use Rattle.std.proofs.lemmas.Slice.Eq.{bytes_eq-Decides}
-use Rattle.std.proofs.lemmas.Str.{IsUtf8-from_ascii}
-use Rattle.jiff.specs.Words.{epoch_day}
+use Rattle.std.proofs.lemmas.Str.{IsUtf8-from_ascii, is_utf8-from_IsUtf8}
 use Rattle.jiff.proofs.OnLiterals.{jiff_on_literals}
 use Rattle.byte_lanes.specs.Spelling.{spelled_byte}
 use Rattle.side_base.specs.Field.{first_named, first_value, is_same_word, trimmed}
@@ -16,12 +16,9 @@ use Rattle.json_text.specs.Grammar.{IsText, word, nested, member_name, turn, clo
 use Rattle.json_text.specs.Shape.{nesting}
 use Rattle.json_text.specs.Unescape.{unescaped_from}
 use Rattle.json_text.proofs.Depths.{nothing_wrong}
-use Rattle.cloud_events.specs.declared.clock.Day.{Day}
-use Rattle.cloud_events.specs.declared.item.Item.{Item}
-use Rattle.cloud_events.specs.declared.media.Form.TheVariants.{Event}
 use Rattle.cloud_events.specs.declared.sent.Sent.{Sent}
 use Rattle.cloud_events.specs.Clock.{IsTimeOf}
-use Rattle.cloud_events.specs.Event.{Attribute, IsEvent, NamesRise, event_bytes, filled_members, set_members, spelled, table, text_member, value_in}
+use Rattle.cloud_events.specs.Event.{Attribute, NamesRise, event_bytes, filled_members, set_members, spelled, table, text_member, value_in}
 use Rattle.cloud_events.specs.Items.{item_at, said}
 use Rattle.cloud_events.specs.Judge.{AreEvents, AreRight, are_both, is_wrong}
 use Rattle.cloud_events.specs.Media.{form_of}
@@ -43,16 +40,12 @@ sent = sent_by shop_config order_request (codes "pubsub") (codes "orders")
 abbrev event_type : List ℕ
 event_type = codes "application/cloudevents+json"
 
-type_text : IsUtf8 event_type
-type_text = IsUtf8-from_ascii event_type (ascii_by event_type refl)
+type_text : is_utf8 event_type ≡ true
+type_text = is_utf8-from_IsUtf8 event_type (IsUtf8-from_ascii event_type (ascii_by event_type refl))
 
 type_is : sent.content_type ≡ Some event_type
 unfolding first_value first_named is_same_word
 type_is = ap (λ (b : Bool). if b then Some event_type else None) type_text
-
-form_is : form_of (Some event_type) ≡ Event
-unfolding trimmed is_same_word
-form_is = refl
 
 -- ---- its body
 
@@ -81,72 +74,72 @@ body_read = record { text = body_text; clean = nothing_wrong order_body _ body_t
 
 -- ---- its members
 
-abbrev told : List ℕ → Option Item
-told = said order_body children
+same_one : {X : Type 0} (one other : X) → Some one ≡ Some other → one ≡ other
+same_one one other e = cc
 
-some_item : (one other : Item) → Some one ≡ Some other → one ≡ other
-some_item one other e = cc
-
-data_right : (item : Item) → told (codes "data") ≡ Some item → is_wrong item ≡ false
+data_right : (item : _) → said order_body children (codes "data") ≡ Some item → is_wrong item ≡ false
 unfolding unescaped_from
-data_right item e = subst (λ i. is_wrong i ≡ false) (some_item (item_at order_body (codes "data") data_spot) item e) refl
+data_right item e = subst (λ i. is_wrong i ≡ false) (same_one (item_at order_body (codes "data") data_spot) item e) refl
 
-id_right : (item : Item) → told (codes "id") ≡ Some item → is_wrong item ≡ false
+id_right : (item : _) → said order_body children (codes "id") ≡ Some item → is_wrong item ≡ false
 unfolding unescaped_from
-id_right item e = subst (λ i. is_wrong i ≡ false) (some_item (item_at order_body (codes "id") id_spot) item e) refl
+id_right item e = subst (λ i. is_wrong i ≡ false) (same_one (item_at order_body (codes "id") id_spot) item e) refl
 
-told_none : (name : List ℕ) → bytes_eq (codes "data") name ≡ false → bytes_eq (codes "id") name ≡ false → told name ≡ None
+told_none : (name : List ℕ) → bytes_eq (codes "data") name ≡ false → bytes_eq (codes "id") name ≡ false → said order_body children name ≡ None
 unfolding unescaped_from
 told_none name d i =
     ap (λ (b : Bool). option_map (item_at order_body name) (unless_null (or_else (or_else None (if b then Some data_spot else None)) (if bytes_eq (codes "id") name then Some id_spot else None)))) d
     ∙ ap (λ (b : Bool). option_map (item_at order_body name) (unless_null (if b then Some id_spot else None))) i
 
-all_right : AreRight told
+all_right : AreRight (said order_body children)
 all_right name item e = by (bytes_eq (codes "data") name) (bytes_eq (codes "id") name) refl refl
   where
     by : (d i : Bool) → bytes_eq (codes "data") name ≡ d → bytes_eq (codes "id") name ≡ i → is_wrong item ≡ false
-    by true i d-is i-is = data_right item (subst (λ n. told n ≡ Some item) (sym ((bytes_eq-Decides (codes "data") name).0 d-is)) e)
-    by false true d-is i-is = id_right item (subst (λ n. told n ≡ Some item) (sym ((bytes_eq-Decides (codes "id") name).0 i-is)) e)
+    by true i d-is i-is = data_right item (subst (λ n. said order_body children n ≡ Some item) (sym ((bytes_eq-Decides (codes "data") name).0 d-is)) e)
+    by false true d-is i-is = id_right item (subst (λ n. said order_body children n ≡ Some item) (sym ((bytes_eq-Decides (codes "id") name).0 i-is)) e)
     by false false d-is i-is = let bad = sym (told_none name d-is i-is) ∙ e in absurd (cc)
 
-one_data : are_both told ≡ false
+one_data : are_both (said order_body children) ≡ false
 unfolding unescaped_from
 one_data = refl
 
-no_base : told (codes "data_base64") ≡ None
+no_base : said order_body children (codes "data_base64") ≡ None
 unfolding unescaped_from
 no_base = refl
 
-no_time : told (codes "time") ≡ None
+no_time : said order_body children (codes "time") ≡ None
 unfolding unescaped_from
 no_time = refl
 
-are_events : AreEvents told
+are_events : AreEvents (said order_body children)
 are_events = record { right = all_right; one = one_data; base = λ item e. let bad = sym no_base ∙ e in absurd (cc); time = λ item e. let bad = sym no_time ∙ e in absurd (cc) }
 
 abbrev given : List ℕ → Option (List ℕ)
-given name = option_map (spelled order_body) (told name)
+given name = option_map (spelled order_body) (said order_body children name)
 
 sent_event : IsSentEvent order_body given
 sent_event = record { spot = body_spot; children = children; later = empty; read = body_read; is_map = refl; events = are_events; are = λ name. refl }
 
+given_so : IsGiven (form_of (Some event_type)) sent given
+unfolding trimmed is_same_word
+given_so = sent_event
+
 is_given : IsGiven (form_of sent.content_type) sent given
-is_given = subst (λ f. IsGiven f sent given) (sym (ap form_of type_is ∙ form_is)) sent_event
+is_given = subst (λ t. IsGiven (form_of t) sent given) (sym type_is) given_so
 
 -- ---- the moment
 
 abbrev time : List ℕ
 time = codes "1970-01-01T00:00:00Z"
 
-abbrev first_day : Day
-first_day = record { date = record { year = pos 1970; month = 1; day = 1; year_in = search rules; month_in = search rules; day_in = search rules } }
-
-day_is : epoch_day first_day.date ≡ pos 0
-unfolding jiff_on_literals
-day_is = refl
-
 is_time : IsTimeOf 0 time
-is_time = record { day = first_day; number = day_is; spelled = refl; utf8 = IsUtf8-from_ascii time (ascii_by time refl) }
+unfolding jiff_on_literals digits
+is_time = record {
+  day = record { date = record { year = pos 1970; month = 1; day = 1; year_in = search rules; month_in = search rules; day_in = search rules } };
+  number = refl;
+  spelled = refl;
+  utf8 = IsUtf8-from_ascii time (ascii_by time refl);
+}
 
 -- ---- the event
 
@@ -163,7 +156,7 @@ members =
     ∷ []
 
 names_rise : NamesRise members
-names_rise = (refl, refl, refl, refl, refl, refl, refl, tt)
+names_rise = (refl, (refl, (refl, (refl, (refl, (refl, (refl, tt)))))))
 
 bytes_are : order_event ≡ event_bytes members
 unfolding spelled_byte
@@ -217,9 +210,16 @@ module _ (stamp : Stamp) where
   elsewhere : (name : List ℕ) → Absent name members → Same name
   unfolding first_value first_named is_same_word
   elsewhere name n =
+      let from-id = n.1 in
+      let from-pubsub = from-id.1 in
+      let from-source = from-pubsub.1 in
+      let from-version = from-source.1 in
+      let from-time = from-version.1 in
+      let from-topic = from-time.1 in
+      let from-type = from-topic.1 in
       value_none name members n
-      ∙ sym (or_none (value_in name (set_members sent)) (given name) (value_in name (filled_members sent (id_of stamp) time)) (value_none name (set_members sent) (n.2, n.6, tt))
-          (ap (option_map (spelled order_body)) (told_none name n.0 n.1)) (value_none name (filled_members sent (id_of stamp) time) (n.1, n.3, n.4, n.5, n.7, tt)))
+      ∙ sym (or_none (value_in name (set_members sent)) (given name) (value_in name (filled_members sent (id_of stamp) time)) (value_none name (set_members sent) (from-pubsub.0, (from-topic.0, tt)))
+          (ap (option_map (spelled order_body)) (told_none name n.0 from-id.0)) (value_none name (filled_members sent (id_of stamp) time) (from-id.0, (from-source.0, (from-version.0, (from-time.0, (from-type.0, tt)))))))
 
   at : (literal name : List ℕ) → bytes_eq literal name ≡ true → Same literal → Same name
   at literal name e same = subst Same ((bytes_eq-Decides literal name).0 e) same
@@ -236,7 +236,7 @@ module _ (stamp : Stamp) where
       by false false false false false true g h p q r s t u v w = at (codes "time") name u at_time
       by false false false false false false true h p q r s t u v w = at (codes "topic") name v at_topic
       by false false false false false false false true p q r s t u v w = at (codes "type") name w at_type
-      by false false false false false false false false p q r s t u v w = elsewhere name (p, q, r, s, t, u, v, w, tt)
+      by false false false false false false false false p q r s t u v w = elsewhere name (p, (q, (r, (s, (t, (u, (v, (w, tt))))))))
 
   wrapped : IsWrapped sent (id_of stamp) 0 order_event
   wrapped = record { given = given; is = is_given; time = time; moment = is_time; event_is = record { members = members; rise = names_rise; are = are; spelled = bytes_are } }
