@@ -219,7 +219,7 @@ module _ (stamp : Stamp) where
       let from-type = from-topic.1 in
       value_none name members n
       ∙ sym (or_none (value_in name (set_members sent)) (given name) (value_in name (filled_members sent (id_of stamp) time)) (value_none name (set_members sent) (from-pubsub.0, (from-topic.0, tt)))
-          (ap (option_map (spelled order_body)) (told_none name n.0 from-id.0)) (value_none name (filled_members sent (id_of stamp) time) (from-id.0, (from-source.0, (from-version.0, (from-time.0, (from-type.0, tt)))))))
+      (ap (option_map (spelled order_body)) (told_none name n.0 from-id.0)) (value_none name (filled_members sent (id_of stamp) time) (from-id.0, (from-source.0, (from-version.0, (from-time.0, (from-type.0, tt)))))))
 
   at : (literal name : List ℕ) → bytes_eq literal name ≡ true → Same literal → Same name
   at literal name e same = subst Same ((bytes_eq-Decides literal name).0 e) same

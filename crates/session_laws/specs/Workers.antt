@@ -35,8 +35,10 @@ HadNotEnded config answers = (answer : Answer) (events : List Doing) (exit : Opt
 
 -- ---- what is said of a worker today, and over any exchanges and turns
 
-abbrev pub HasDoneSo : {O : Type 0} → Config → Kinds O → CellsAt O → Standing O → Owed → Reached O → Type 0
-HasDoneSo config kinds cells start owes reached = HasDone config kinds cells start owes (Unit {0}) reached → HasDoneBy (Exchange config) Delivers kinds cells start owes (Unit {0}) reached
+abbrev pub HasDoneSo : {O : Type 0} → Kinds O → Type 0
+HasDoneSo {O} kinds = (config : Config) (cells : CellsAt O) (start : Standing O) (owes : Owed) (reached : Reached O)
+    → HasDone config kinds cells start owes (Unit {0}) reached → HasDoneBy (Exchange config) Delivers kinds cells start owes (Unit {0}) reached
 
-abbrev pub HasDoneToday : {O : Type 0} → Config → Kinds O → CellsAt O → Standing O → Owed → Reached O → Type 0
-HasDoneToday config kinds cells start owes reached = HasDoneBy (Exchange config) Delivers kinds cells start owes (Unit {0}) reached → HasDone config kinds cells start owes (Unit {0}) reached
+abbrev pub HasDoneToday : {O : Type 0} → Kinds O → Type 0
+HasDoneToday {O} kinds = (config : Config) (cells : CellsAt O) (start : Standing O) (owes : Owed) (reached : Reached O)
+    → HasDoneBy (Exchange config) Delivers kinds cells start owes (Unit {0}) reached → HasDone config kinds cells start owes (Unit {0}) reached

@@ -11,10 +11,7 @@ ghost use Rattle.sidecar_core.specs.declared.doing.Doing.{Doing};
 ghost use Rattle.sidecar_core.specs.Delivery.{Delivers};
 ghost use Rattle.sidecar_core.specs.Doing.{asked_in};
 ghost use Rattle.sidecar_core.specs.Exchange.{Exchange};
-ghost use Rattle.state_core.specs.declared.store.Store.{Store as StoreRecord};
-ghost use Rattle.sidecar_core.specs.Did.{CellsAt, Standing};
-ghost use Rattle.sidecar_workers.specs.declared.work.Owed.{Owed};
-ghost use Rattle.sidecar_serving.specs.Worker.{Reached, Worked, HasExit};
+ghost use Rattle.sidecar_serving.specs.Worker.{Worked, HasExit};
 ghost use Rattle.session_laws.specs.Stores.{HasStore, saves_at, reads_at};
 ghost use Rattle.session_laws.specs.Publishing.{Stamp};
 ghost use Rattle.session_laws.specs.WorkedBy.{WorkedBy};
@@ -52,8 +49,8 @@ pub fn any_worker_is_said_so()
 /// The same of all that a worker has done since it began: what its answers say, and where it ended on an exhausted cell a seat of its pass
 /// shows the count.
 pub fn any_worker_has_done_so<K: Keeper>()
-    ensures general { (config : Config) (cells : CellsAt (StoreRecord K K.Keeper)) (start : Standing (StoreRecord K K.Keeper)) (owes : Owed) (reached : Reached (StoreRecord K K.Keeper)) → HasDoneSo config ⟦<Store<K> as ObjectKinds>⟧.kinds cells start owes reached }
-    ensures today { (config : Config) (cells : CellsAt (StoreRecord K K.Keeper)) (start : Standing (StoreRecord K K.Keeper)) (owes : Owed) (reached : Reached (StoreRecord K K.Keeper)) → HasDoneToday config ⟦<Store<K> as ObjectKinds>⟧.kinds cells start owes reached }
+    ensures general { HasDoneSo ⟦<Store<K> as ObjectKinds>⟧.kinds }
+    ensures today { HasDoneToday ⟦<Store<K> as ObjectKinds>⟧.kinds }
 {}
 
 /// Where messages are served, a worker takes one on its connection, delivers it by the one call of the link when it is idle, and ends as
