@@ -6,3 +6,4 @@ pub mod SampleEvent
 pub mod Written
 pub mod Missed
 pub mod Refused
+pub mod Fitting

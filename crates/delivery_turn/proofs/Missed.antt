@@ -14,7 +14,7 @@ use Rattle.policy_run.specs.Turn.{Asks, Reports}
 use Rattle.delivery_turn.specs.declared.turn.Turn.TheVariants.{Delivered}
 use Rattle.delivery_turn.specs.Settling.{Own, asked, Row, Settles, settled}
 use Rattle.delivery_turn.specs.Posting.{missed, free, timed, DeadAims, nowhere, Draws, again}
-use Rattle.delivery_turn.specs.Delivery.{Setting, Sent, Tried, Concludes, Takes, Delivery, taken}
+use Rattle.delivery_turn.specs.Delivery.{Sent, Tried, Concludes, Takes, Delivery, taken}
 use Rattle.delivery_turn.specs.Delivery as turns
 use Rattle.delivery_turn.specs.Samples.{orders, letters, guarded_shop, hurried_shop, ledger_step, stepped, post_of, breaker_step, failed_so, late_so}
 
@@ -26,7 +26,7 @@ module _ (rules : List Rule) (drawn : ℕ) (event : List ℕ) where
   take = moment 4 ∷ stepped (Take 4) (Taken 2 1 1 event (codes "/dead") 1) ∷ []
 
   takes : Takes row 1 take
-  takes = record { now = 4; step = ledger_step (Take 4) (Taken 2 1 1 event (codes "/dead") 1); told = refl; answer = refl; whole = refl }
+  takes = record { now = 4; step = ledger_step (Take 4) (Taken 2 1 1 event (codes "/dead") 1); told = refl; answer = refl; fits = tt; whole = refl }
 
   no_letter : DeadAims (orders rules ∷ letters ∷ []) row []
   no_letter = nowhere letters refl refl refl
@@ -41,7 +41,7 @@ module _ (rules : List Rule) (drawn : ℕ) (event : List ℕ) where
   some_again due e = let bad : ⊥ = cc in bad
 
   settles : (now due : ℕ) → Settles row (λ at. Retry) drawn [] (settling now due) (Delivered 2 1 (Again due))
-  settles now due = settled (Again due) (some_again due) (record { now = now; step = ledger_step (Settle 2 1 1 Retry now drawn []) (Again due); told = refl; answer = refl; whole = refl }) refl
+  settles now due = settled (Again due) (some_again due) (record { now = now; step = ledger_step (Settle 2 1 1 Retry now drawn []) (Again due); told = refl; answer = refl; fits = tt; whole = refl }) refl
 
   -- ---- the call fails
 

@@ -1,5 +1,5 @@
 -- The turns that are written out are turns of deliveries.
-use Rattle.std.proofs.Common.{◌≡◌, ℕ, false, List, [], ◌∷◌, ◌++◌, Ok, refl, ap, codes}
+use Rattle.std.proofs.Common.{◌≡◌, ℕ, false, List, [], ◌∷◌, ◌++◌, Ok, refl, ap, subst, codes}
 use Rattle.std.specs.Prelude.{◌≢◌}
 use Rattle.json_text.specs.Forest.{Forest}
 use Rattle.breaker_core.specs.declared.command.BreakerCmd.TheVariants.{Admit}
@@ -7,6 +7,7 @@ use Rattle.breaker_core.specs.Fits.{Fits}
 use Rattle.ledger_core.specs.declared.command.Finish.TheVariants.{Success, Retry, Later}
 use Rattle.ledger_core.specs.declared.command.LedgerCmd.TheVariants.{Take, Settle}
 use Rattle.ledger_core.specs.declared.reply.LedgerReply.{LedgerReply}
+use Rattle.ledger_core.specs.Fits.{FitsEnd}
 use Rattle.ledger_core.specs.declared.reply.LedgerReply.TheVariants.{Taken, Done, Again, NoMemory}
 use Rattle.cloud_events.specs.declared.outcome.Verdict.TheVariants as verdict
 use Rattle.cloud_events.specs.Wrapped.{IsRead}
@@ -44,7 +45,7 @@ module _ (rules : List Rule) (now number drawn : ℕ) (event : List ℕ) (values
   first_settling = moment now ∷ stepped (Settle 1 0 number Retry now drawn letter_aims) reply ∷ []
 
   first_takes : Takes first_row number first_take
-  first_takes = record { now = now; step = ledger_step (Take now) (Taken 1 0 number event (codes "/orders") number); told = refl; answer = refl; whole = refl }
+  first_takes = record { now = now; step = ledger_step (Take now) (Taken 1 0 number event (codes "/orders") number); told = refl; answer = refl; fits = tt; whole = refl }
 
   first_sent : Sent (shop rules) first_row 0 (replied wants_again) first_post
   first_sent = record { admission = []; post = first_post; answer = Ok wants_again; late = false; admitted = refl; posted = free refl refl refl; is_heard = refl; whole = refl }
@@ -52,14 +53,14 @@ module _ (rules : List Rule) (now number drawn : ℕ) (event : List ℕ) (values
   first_tried : Tried (shop rules) first_row (replied wants_again) first_post
   first_tried = record { generation = 0; call = first_post; report = []; sent = first_sent; reported = refl; whole = refl }
 
-  first_settles : reply ≢ NoMemory → Settles first_row (λ at. Retry) drawn letter_aims first_settling (Delivered 1 0 reply)
-  first_settles some = settled reply some (record { now = now; step = ledger_step (Settle 1 0 number Retry now drawn letter_aims) reply; told = refl; answer = refl; whole = refl }) refl
+  first_settles : reply ≢ NoMemory → FitsEnd Retry reply → Settles first_row (λ at. Retry) drawn letter_aims first_settling (Delivered 1 0 reply)
+  first_settles some fits = settled reply some (record { now = now; step = ledger_step (Settle 1 0 number Retry now drawn letter_aims) reply; told = refl; answer = refl; fits = fits; whole = refl }) refl
 
   first_dead : IsRead event values → DeadAims (orders rules ∷ letters ∷ []) first_row letter_aims
   first_dead read = matched (orders rules) (codes "dead") values refl refl read (letter_is rules event values)
 
-  first_concludes : reply ≢ NoMemory → IsRead event values → Concludes (shop rules) first_row (replied wants_again) (word drawn ∷ first_settling) (Delivered 1 0 reply)
-  first_concludes some read = record {
+  first_concludes : reply ≢ NoMemory → FitsEnd Retry reply → IsRead event values → Concludes (shop rules) first_row (replied wants_again) (word drawn ∷ first_settling) (Delivered 1 0 reply)
+  first_concludes some fits read = record {
     finish = Retry;
     drawn = drawn;
     dead = letter_aims;
@@ -67,14 +68,14 @@ module _ (rules : List Rule) (now number drawn : ℕ) (event : List ℕ) (values
     settling = first_settling;
     is_finish = (verdict.Retry, wants_again_judged, refl);
     draws = again refl (first_dead read) refl;
-    settles = first_settles some;
+    settles = first_settles some fits;
     whole = refl;
   }
 
-  pub attempt : reply ≢ NoMemory → IsRead event values → Delivery (shop rules) (attempt_at now number drawn event reply) (Delivered 1 0 reply)
-  attempt some read =
+  pub attempt : reply ≢ NoMemory → FitsEnd Retry reply → IsRead event values → Delivery (shop rules) (attempt_at now number drawn event reply) (Delivered 1 0 reply)
+  attempt some fits read =
       taken first_row number first_take (first_post ++ word drawn ∷ first_settling) first_takes
-      (turns.tried (replied wants_again) first_post (word drawn ∷ first_settling) first_tried (first_concludes some read) refl) refl
+      (turns.tried (replied wants_again) first_post (word drawn ∷ first_settling) first_tried (first_concludes some fits read) refl) refl
 
 -- ---- the letter
 
@@ -92,7 +93,7 @@ module _ (rules : List Rule) (now claim : ℕ) (event : List ℕ) where
   letter_settling = moment now ∷ stepped (Settle 2 1 claim Success now 0 []) Done ∷ []
 
   letter_takes : Takes letter_row 1 letter_take
-  letter_takes = record { now = now; step = ledger_step (Take now) (Taken 2 1 claim event (codes "/dead") 1); told = refl; answer = refl; whole = refl }
+  letter_takes = record { now = now; step = ledger_step (Take now) (Taken 2 1 claim event (codes "/dead") 1); told = refl; answer = refl; fits = tt; whole = refl }
 
   letter_sent : Sent (shop rules) letter_row 0 (replied accepts) letter_post
   letter_sent = record { admission = []; post = letter_post; answer = Ok accepts; late = false; admitted = refl; posted = free refl refl refl; is_heard = refl; whole = refl }
@@ -107,7 +108,7 @@ module _ (rules : List Rule) (now claim : ℕ) (event : List ℕ) where
   not_again e = let bad : ⊥ = cc in bad
 
   letter_settles : Settles letter_row (λ at. Success) 0 [] letter_settling (Delivered 2 1 Done)
-  letter_settles = settled Done some_done (record { now = now; step = ledger_step (Settle 2 1 claim Success now 0 []) Done; told = refl; answer = refl; whole = refl }) refl
+  letter_settles = settled Done some_done (record { now = now; step = ledger_step (Settle 2 1 claim Success now 0 []) Done; told = refl; answer = refl; fits = tt; whole = refl }) refl
 
   letter_concludes : Concludes (shop rules) letter_row (replied accepts) letter_settling (Delivered 2 1 Done)
   letter_concludes = record {
@@ -141,7 +142,7 @@ module _ (rules : List Rule) (event : List ℕ) (refusal : Refusal) (due : ℕ) 
   refused_settling = moment 7 ∷ stepped (Settle 1 0 1 (Later due) 7 0 []) (Again due) ∷ []
 
   refused_takes : Takes refused_row 1 refused_take
-  refused_takes = record { now = 4; step = ledger_step (Take 4) (Taken 1 0 1 event (codes "/orders") 1); told = refl; answer = refl; whole = refl }
+  refused_takes = record { now = 4; step = ledger_step (Take 4) (Taken 1 0 1 event (codes "/orders") 1); told = refl; answer = refl; fits = tt; whole = refl }
 
   asks : Fits (Admit 5) (reply_of refusal) → Asks (reply_of refusal) refused_asks
   asks fits = record { now = 5; step = breaker_step (Admit 5) (reply_of refusal); answers = record { cmd = refl; reply = refl; fits = fits }; whole = refl }
@@ -150,7 +151,7 @@ module _ (rules : List Rule) (event : List ℕ) (refusal : Refusal) (due : ℕ) 
   some_again e = let bad : ⊥ = cc in bad
 
   refused_settles : Later due ≡ postponed refusal 7 → Settles refused_row (postponed refusal) 0 [] refused_settling (Delivered 1 0 (Again due))
-  refused_settles e = settled (Again due) some_again (record { now = 7; step = ledger_step (Settle 1 0 1 (Later due) 7 0 []) (Again due); told = ap (λ f. Settle 1 0 1 f 7 0 []) e; answer = refl; whole = refl }) refl
+  refused_settles e = settled (Again due) some_again (record { now = 7; step = ledger_step (Settle 1 0 1 (Later due) 7 0 []) (Again due); told = ap (λ f. Settle 1 0 1 f 7 0 []) e; answer = refl; fits = subst (λ f. FitsEnd f (Again due)) e refl; whole = refl }) refl
 
   is_postponed : Fits (Admit 5) (reply_of refusal) → Later due ≡ postponed refusal 7 → Postponed (guarded_shop rules) refused_row (refused_asks ++ refused_settling) (Delivered 1 0 (Again due))
   is_postponed fits e = record { refusal = refusal; asks = refused_asks; settling = refused_settling; guards = refl; refused = asks fits; settles = refused_settles e; whole = refl }

@@ -10,6 +10,7 @@ use Rattle.ledger_core.specs.declared.command.LedgerCmd.{LedgerCmd}
 use Rattle.ledger_core.specs.declared.command.LedgerCmd.TheVariants.{Accept, Take, Settle, Counts}
 use Rattle.ledger_core.specs.declared.reply.LedgerReply.{LedgerReply}
 use Rattle.ledger_core.specs.declared.reply.LedgerReply.TheVariants.{Taken}
+use Rattle.ledger_core.specs.Fits.{Fits}
 use Rattle.policy_run.specs.Event.{Event, own, guarded, word, moment, pause}
 use Rattle.delivery_turn.specs.declared.turn.Turn.{Turn}
 use Rattle.delivery_turn.specs.declared.turn.Turn.TheVariants.{Exhausted}
@@ -156,3 +157,13 @@ BeginsByTaking (kind ∷ kinds) = ⊥
 -- no cell was exhausted
 abbrev pub IsUnspent : Turn → Type 0
 IsUnspent turn = (count : ℕ) → turn ≢ Exhausted count
+
+-- each answer of the ledger is one that fits its command
+abbrev pub AllFit : List (Event Own) → Type 0
+AllFit [] = ⊤
+AllFit (own (entered step) ∷ events) = Fits step.cmd step.reply × AllFit events
+AllFit (own (asked made) ∷ events) = AllFit events
+AllFit (guarded step ∷ events) = AllFit events
+AllFit (word w ∷ events) = AllFit events
+AllFit (moment m ∷ events) = AllFit events
+AllFit (pause ms ∷ events) = AllFit events

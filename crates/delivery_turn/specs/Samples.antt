@@ -183,3 +183,11 @@ overdrawn drawn event =
     ∷ word drawn
     ∷ moment 9 ∷ stepped (Settle 2 1 1 Success 9 drawn []) Done
     ∷ []
+
+-- a settling with `Success` that is answered as one with `Retry`
+abbrev pub misanswered : List ℕ → List (Event Own)
+misanswered event =
+    moment 4 ∷ stepped (Take 4) (Taken 2 1 1 event (codes "/dead") 1)
+    ∷ own (asked (post_of 0 (codes "/dead") event (Ok accepts)))
+    ∷ moment 9 ∷ stepped (Settle 2 1 1 Success 9 0 []) (Again 1009)
+    ∷ []

@@ -8,6 +8,7 @@ use Rattle.ledger_core.specs.declared.command.LedgerCmd.{LedgerCmd}
 use Rattle.ledger_core.specs.declared.command.LedgerCmd.TheVariants.{Settle}
 use Rattle.ledger_core.specs.declared.reply.LedgerReply.{LedgerReply}
 use Rattle.ledger_core.specs.declared.reply.LedgerReply.TheVariants as says
+use Rattle.ledger_core.specs.Fits.{Fits}
 use Rattle.ledger_core.specs.Message.{Step}
 use Rattle.policy_run.specs.declared.outcome.Refusal.{Refusal}
 use Rattle.policy_run.specs.declared.outcome.Refusal.TheVariants as refusal
@@ -20,12 +21,13 @@ pub data Own : Type 0 where
   entered : Step → Own
   asked : LinkCall → Own
 
--- a moment was read, and then the ledger answered the command of that moment so
+-- a moment was read, and then the ledger answered the command of that moment so; the answer is one that fits the command
 pub record Answered (cmd : ℕ → LedgerCmd) (reply : LedgerReply) (events : List (Event Own)) : Type 0 where
   pub now : ℕ
   pub step : Step
   pub told : step.cmd ≡ cmd now
   pub answer : step.reply ≡ reply
+  pub fits : Fits (cmd now) reply
   pub whole : events ≡ moment now ∷ own (entered step) ∷ []
 
 -- a moment was read, and then the ledger's cell was exhausted: no step

@@ -15,8 +15,8 @@ ghost use Rattle.delivery_turn.specs.declared.turn.Turn.TheVariants.{Delivered};
 ghost use Rattle.delivery_turn.specs.Settling.{Own};
 ghost use Rattle.delivery_turn.specs.Posting.{IsJudged};
 ghost use Rattle.delivery_turn.specs.Delivery.{Setting, guarded, Delivery};
-ghost use Rattle.delivery_turn.specs.Kinds.{BeginsByTaking, IsUnspent, kinds_of, so_many, is_settling, is_retry, is_call, is_refusal, is_report, is_draw};
-ghost use Rattle.delivery_turn.specs.Samples.{attempt_at, called_first, called_idly, failed_so, guarded_shop, hurried_shop, late_so, letter_at, order_event, overdrawn, refused_so, settled_twice, shop, undrawn, unreported, wants_again};
+ghost use Rattle.delivery_turn.specs.Kinds.{AllFit, BeginsByTaking, IsUnspent, kinds_of, so_many, is_settling, is_retry, is_call, is_refusal, is_report, is_draw};
+ghost use Rattle.delivery_turn.specs.Samples.{attempt_at, called_first, called_idly, failed_so, guarded_shop, hurried_shop, late_so, letter_at, misanswered, order_event, overdrawn, refused_so, settled_twice, shop, undrawn, unreported, wants_again};
 
 /// A turn settles its row once at most.
 pub fn a_row_is_settled_once()
@@ -87,6 +87,12 @@ pub fn a_refused_delivery_is_postponed()
 pub fn a_delivery_without_a_reply_is_made_again()
     ensures failed { (rules : List Rule) (event : List ℕ) (drawn : ℕ) → Delivery (guarded_shop rules) (failed_so drawn event) (Delivered 2 1 (Again 1009)) }
     ensures late { (rules : List Rule) (event : List ℕ) (drawn : ℕ) (response : Response) → Delivery (hurried_shop rules) (late_so drawn event response) (Delivered 2 1 (Again 1056)) }
+{}
+
+/// Each answer of the ledger is one that fits the command: no settling with `Success` is answered as one with `Retry`.
+pub fn each_answer_fits()
+    ensures fits { (setting : Setting) (events : List (Event Own)) (turn : Turn) → Delivery setting events turn → AllFit events }
+    ensures wrong { (setting : Setting) (event : List ℕ) (turn : Turn) → ¬ Delivery setting (misanswered event) turn }
 {}
 
 /// Some turns are none, whatever the setting is: one that settles twice, one that does not report a call to the breaker that guards

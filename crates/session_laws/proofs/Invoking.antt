@@ -30,17 +30,17 @@ abbrev first_byte : List ℕ → ℕ
 first_byte [] = 0
 first_byte (byte ∷ bytes) = byte
 
-not_own : codes "b" ≡ codes "a" → ⊥
+pub not_own : codes "b" ≡ codes "a" → ⊥
 not_own e = let bytes : 98 ≡ 97 = ap first_byte e in omega (arith, bytes)
 
 unknown_is_other : codes "zz" ≡ codes "a" → ⊥
 unknown_is_other e = let bytes : 122 ≡ 97 = ap first_byte e in omega (arith, bytes)
 
-abbrev at_b : Place
+abbrev pub at_b : Place
 at_b = peer_place (record { id = codes "b"; host = codes "127.0.0.1"; port = 3501 }) (codes "do?x=1")
 
 -- the fields of the connection itself are kept back
-do_is : request_at at_b asks_do ≡ do_at_b
+pub do_is : request_at at_b asks_do ≡ do_at_b
 unfolding is_same_word
 do_is = refl
 

@@ -23,3 +23,9 @@ pub mod Waiting
 pub mod Working
 pub mod WorkingBy
 pub mod Wrongly
+pub mod Draining
+pub mod Starting
+pub mod Running
+pub mod Binding
+pub mod Rows
+pub mod Witness

@@ -25,7 +25,8 @@ use Rattle.sidecar_workers.specs.declared.exit.Exit.{Exit}
 use Rattle.sidecar_workers.specs.declared.exit.Exit.TheVariants as exits
 use Rattle.sidecar_serving.specs.Worker.{HasExit}
 use Rattle.session_laws.specs.Delivering.{DeliversFrom, IsIdle, idled, none_left, turn_events, went}
-use Rattle.session_laws.specs.Messaging.{Deliveries, IsOrder, Messages, WorksAtShop, delivers_order, is_told_once, order_call, publishes_order, settles_order, shop_config, shop_subs, takes_order}
+use Rattle.session_laws.specs.Messaging.{Deliveries, IsOrder, WorksAtShop, delivers_order, is_told_once, order_call, publishes_order, settles_order, shop_setup, takes_order}
+use Rattle.session_laws.specs.Routed.{ExchangeBy}
 use Rattle.session_laws.specs.Publishing.{Stamp}
 use Rattle.session_laws.specs.Sessions.{no_content}
 use Rattle.session_laws.specs.WorkedBy.{AddsBy, Exchanges, TurnedBy, Turns, WorkedBy, answered, unasked}
@@ -50,7 +51,7 @@ module _ (rules : List Rule) (now later : ℕ) (event : List ℕ) where
   settling = moment later ∷ stepped (Settle 1 0 1 Success later 0 []) says.Done ∷ []
 
   takes : Takes row 1 taking
-  takes = record { now = now; step = ledger_step (Take now) (says.Taken 1 0 1 event (codes "/orders") 1); told = refl; answer = refl; whole = refl }
+  takes = record { now = now; step = ledger_step (Take now) (says.Taken 1 0 1 event (codes "/orders") 1); told = refl; answer = refl; fits = tt; whole = refl }
 
   sent : Sent (shop rules) row 0 (replied accepts) post
   sent = record { admission = []; post = post; answer = Ok accepts; late = false; admitted = refl; posted = free refl refl refl; is_heard = refl; whole = refl }
@@ -65,7 +66,7 @@ module _ (rules : List Rule) (now later : ℕ) (event : List ℕ) where
   not_again e = let bad : ⊥ = cc in bad
 
   settles : Settles row (λ at. Success) 0 [] settling (came.Delivered 1 0 says.Done)
-  settles = settled says.Done some_done (record { now = later; step = ledger_step (Settle 1 0 1 Success later 0 []) says.Done; told = refl; answer = refl; whole = refl }) refl
+  settles = settled says.Done some_done (record { now = later; step = ledger_step (Settle 1 0 1 Success later 0 []) says.Done; told = refl; answer = refl; fits = tt; whole = refl }) refl
 
   concludes : Concludes (shop rules) row (replied accepts) settling (came.Delivered 1 0 says.Done)
   concludes = record {
@@ -86,10 +87,13 @@ module _ (rules : List Rule) (now later : ℕ) (event : List ℕ) where
   busy : ¬ IsIdle (came.Delivered 1 0 says.Done)
   busy i = let is = i.1 in let bad : ⊥ = cc in bad
 
-  turned : TurnedBy (Deliveries shop_config (shop_subs rules) (Some 8080)) (delivers_order now later event) None
+  pub there : DeliversFrom 0 (shop rules ∷ []) (delivers_order now later event) (came.Delivered 1 0 says.Done)
+  there = first 0 (shop rules) [] (taking ++ post ++ settling) (came.Delivered 1 0 says.Done) delivery busy
+
+  turned : TurnedBy (Deliveries (shop_setup rules)) (delivers_order now later event) None
   turned = record {
     turn = turns.Delivered 1 0 says.Done;
-    delivered = record { came = came.Delivered 1 0 says.Done; delivers = first 0 (shop rules) [] (taking ++ post ++ settling) (came.Delivered 1 0 says.Done) delivery busy; told = refl };
+    delivered = record { came = came.Delivered 1 0 says.Done; delivers = there; told = refl };
     exit_is = refl;
   }
 
@@ -182,8 +186,8 @@ module _ (rules : List Rule) where
   pub has_turn : (events : List Doing) (exit : Option Exit) → WorksAtShop rules events exit → turns_in events ≡ true
   has_turn events exit worked =
       let at = came_back publishes_order no_content in
-      let exchange = Messages shop_config (shop_subs rules) in
-      let delivers = Deliveries shop_config (shop_subs rules) (Some 8080) in
+      let exchange = ExchangeBy (shop_setup rules) in
+      let delivers = Deliveries (shop_setup rules) in
       let last = last_by exchange delivers is_told_once events exit worked (at ∷ idle ∷ []) closed refl in
       let middle = last_by exchange delivers (at ∷ idle ∷ []) last.before None last.worked (at ∷ []) idle refl in
       let begun = ledger_first (shop rules) middle.added middle.adds.delivered.came middle.adds.delivered.delivers in

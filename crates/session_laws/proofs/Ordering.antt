@@ -1,5 +1,5 @@
 -- The message that is written out is published, and it is delivered.
-use Rattle.std.proofs.Common.{◌≡◌, ◌≢◌, ℕ, All, Bool, false, List, [], ◌∷◌, ◌++◌, map, codes, inl, inr, Some, None, if◌then◌else◌, Ok, refl, sym, ap, subst, ◌∙◌, arith, append-nil}
+use Rattle.std.proofs.Common.{◌≡◌, ◌≢◌, ◌≤◌, ℕ, All, Bool, false, List, [], ◌∷◌, ◌++◌, map, length, take, codes, inl, inr, None, if◌then◌else◌, Ok, refl, sym, ap, subst, ◌∙◌, arith, append-nil}
 use Rattle.std.specs.Prelude.{IsUtf8}
 use Rattle.std.proofs.lemmas.Str.{IsUtf8-from_ascii}
 use Rattle.std.proofs.lemmas.List.Elements.{All-nil, All-cons}
@@ -28,8 +28,10 @@ use Rattle.state_api.specs.Response.{done}
 use Rattle.topic_spec.specs.declared.sub.Rule.{Rule}
 use Rattle.conn_serve.specs.declared.ended.Ended.TheVariants as ends
 use Rattle.conn_serve.specs.Exchanged.{Exchanged, IsStop, answer_bytes, is_head, response_bytes}
+use Rattle.conn_serve.specs.Session.{Session}
 use Rattle.sidecar_core.specs.declared.doing.Doing.{Doing}
-use Rattle.session_laws.specs.Messaging.{Deliveries, IsOrder, Messages, order_body, order_request, publishes_order, shop_config, shop_subs, takes_order}
+use Rattle.session_laws.specs.Messaging.{Deliveries, IsOrder, order_body, order_request, publishes_order, shop_setup, takes_order}
+use Rattle.session_laws.specs.Routed.{ExchangeBy}
 use Rattle.session_laws.specs.Publishing.{Stamp, accepted, published}
 use Rattle.session_laws.specs.Sessions.{no_content}
 use Rattle.session_laws.specs.WorkedBy.{AddsBy}
@@ -64,7 +66,7 @@ order_plain = record { valid = order_valid; same = refl; accepted = refl; plain 
 order_start : Start (codes "POST") target
 order_start = record { token = post_token; some = omega arith; bytes = AllPass-from_list_all is_uri_byte target refl; text = IsUtf8-from_ascii target (ascii_by target refl) }
 
-order_one : IsOneWhole publishes_order order_request
+pub order_one : IsOneWhole publishes_order order_request
 unfolding print_request
 order_one = one_whole (codes "POST") target Post (host ∷ length_of (codes "25") ∷ event_type ∷ []) order_body publishes_order order_start post_is order_plain refl (omega arith)
 
@@ -112,44 +114,39 @@ order_goes = ((λ means. no_shutdown (means-one Post target (route.Publish (code
 -- ---- its connection
 
 module _ (rules : List Rule) (stamp : Stamp) (event : List ℕ) (values : Forest) (message : IsOrder rules stamp event values) where
-  order_ran : Messages shop_config (shop_subs rules) order_request (takes_order rules stamp event values) (Ok done)
+  order_ran : ExchangeBy (shop_setup rules) order_request (takes_order rules stamp event values) (Ok done)
   order_ran = record {
     routed = Ok (route.Publish (codes "pubsub") (codes "orders"));
     routes = publish_means;
     answered = published 0 broker (record { named = refl; there = refl }) refl (accepted stamp event values _ (record { message = message; told = refl }) refl (inl refl));
   }
 
-  abbrev one : Exchanged Doing
+  abbrev pub one : Exchanged Doing
   one = record { whole = order_one.whole; trace = takes_order rules stamp event values; response = done; stop = None }
 
   one_bytes : answer_bytes one ≡ no_content
   one_bytes = ap (λ (b : Bool). (if b then continue_bytes else []) ++ response_bytes one) order_one.quiet ∙ ap (λ (r : Request). written done (is_head r.method) false) order_one.is ∙ no_content_bytes
 
-  pub connected : AddsBy (Messages shop_config (shop_subs rules)) (Deliveries shop_config (shop_subs rules) (Some 8080)) (came_back publishes_order no_content) (takes_order rules stamp event values) None
-  connected = record {
-    done = one ∷ [];
-    more = None;
-    ended = ends.Done;
-    session = record {
-      answered = (
-        subst (λ r. Messages shop_config (shop_subs rules) r (takes_order rules stamp event values) (Ok done)) (sym order_one.is) order_ran,
-        subst (λ r. IsStop 1 r None) (sym order_one.is) order_goes,
-        tt,
-      );
-      ends = record {
-        all = record {
-          going = All-cons (λ (y : Exchanged Doing). y.stop ≡ None) one [] refl (All-nil (λ (y : Exchanged Doing). y.stop ≡ None));
-          stream = record {
-            begins = ([], subst (λ t. ReadsWhole t order_one.whole.head order_one.whole.body []) (append-nil publishes_order) (order_one.reads []), refl);
-            none = empty_whole;
-          };
-          accepted = empty_accepted;
+  pub order_session : Session (ExchangeBy (shop_setup rules)) publishes_order (one ∷ []) None (λ out. no_content ≡ out) (λ out. (k : ℕ) × (k ≤ length out) × (no_content ≡ take k out)) ends.Done
+  order_session = record {
+    answered = (
+      subst (λ r. ExchangeBy (shop_setup rules) r (takes_order rules stamp event values) (Ok done)) (sym order_one.is) order_ran,
+      subst (λ r. IsStop 1 r None) (sym order_one.is) order_goes,
+      tt,
+    );
+    ends = record {
+      all = record {
+        going = All-cons (λ (y : Exchanged Doing). y.stop ≡ None) one [] refl (All-nil (λ (y : Exchanged Doing). y.stop ≡ None));
+        stream = record {
+          begins = ([], subst (λ t. ReadsWhole t order_one.whole.head order_one.whole.body []) (append-nil publishes_order) (order_one.reads []), refl);
+          none = empty_whole;
         };
-        no-more = refl;
-        wrote = sym (append-nil (answer_bytes one) ∙ one_bytes);
+        accepted = empty_accepted;
       };
+      no-more = refl;
+      wrote = sym (append-nil (answer_bytes one) ∙ one_bytes);
     };
-    whole = refl;
-    cause = ((refl, refl), refl);
-    exit_is = refl;
   }
+
+  pub connected : AddsBy (ExchangeBy (shop_setup rules)) (Deliveries (shop_setup rules)) (came_back publishes_order no_content) (takes_order rules stamp event values) None
+  connected = record { done = one ∷ []; more = None; ended = ends.Done; session = order_session; whole = refl; cause = ((refl, refl), refl); exit_is = refl }

@@ -4,10 +4,13 @@ use Rattle.side_world.specs.Answer.{Answer, conn, idle, closed, failed}
 use Rattle.sidecar_core.specs.declared.config.Config.{Config}
 use Rattle.sidecar_core.specs.declared.doing.Doing.{Doing}
 use Rattle.sidecar_core.specs.Delivery.{Delivers}
+use Rattle.sidecar_core.specs.Did.{CellsAt, Kinds, Standing}
 use Rattle.sidecar_core.specs.Exchange.{Exchange}
 use Rattle.sidecar_workers.specs.declared.exit.Exit.{Exit}
-use Rattle.sidecar_serving.specs.Worker.{Adds, Worked, nothing, further}
-use Rattle.session_laws.specs.WorkedBy.{AddsBy, WorkedBy, answered, unasked}
+use Rattle.sidecar_workers.specs.declared.work.Owed.{Owed}
+use Rattle.sidecar_workers.specs.declared.work.Owed.TheVariants as owed
+use Rattle.sidecar_serving.specs.Worker.{Adds, HasDone, Reached, Worked, WorkedSoFar, nothing, further}
+use Rattle.session_laws.specs.WorkedBy.{AddsBy, HasDoneBy, WorkedBy, WorkedSoFarBy, answered, unasked}
 
 module _ (config : Config) where
   adds_to : (answer : Answer) (events : List Doing) (exit : Option Exit) → Adds config answer events exit → AddsBy (Exchange config) Delivers answer events exit
@@ -31,3 +34,21 @@ module _ (config : Config) where
   pub from_any : (answers : List Answer) (events : List Doing) (exit : Option Exit) → WorkedBy (Exchange config) Delivers answers events exit → Worked config answers events exit
   from_any answers events exit unasked = nothing
   from_any answers events exit (answered before done added answer ended worked adds) = further before done added answer ended (from_any before done None worked) (adds_from answer added ended adds)
+
+  so_far_to : (owes : Owed) (answers : List Answer) (events : List Doing) (exit : Option Exit) → WorkedSoFar config owes answers events exit → WorkedSoFarBy (Exchange config) Delivers owes answers events exit
+  so_far_to owed.Nothing answers events exit worked = to_any answers events exit worked
+  so_far_to owed.Serve answers events exit worked = (worked.0, worked.1, worked.2, to_any worked.0 events None worked.3)
+  so_far_to owed.Turn answers events exit worked = (worked.0, worked.1, worked.2, to_any worked.0 events None worked.3)
+
+  so_far_from : (owes : Owed) (answers : List Answer) (events : List Doing) (exit : Option Exit) → WorkedSoFarBy (Exchange config) Delivers owes answers events exit → WorkedSoFar config owes answers events exit
+  so_far_from owed.Nothing answers events exit worked = from_any answers events exit worked
+  so_far_from owed.Serve answers events exit worked = (worked.0, worked.1, worked.2, from_any worked.0 events None worked.3)
+  so_far_from owed.Turn answers events exit worked = (worked.0, worked.1, worked.2, from_any worked.0 events None worked.3)
+
+-- what a worker has done
+module _ {O : Type 0} (config : Config) (kinds : Kinds O) (cells : CellsAt O) (start : Standing O) (owes : Owed) (fresh : Type 0) (reached : Reached O) where
+  pub done_to : HasDone config kinds cells start owes fresh reached → HasDoneBy (Exchange config) Delivers kinds cells start owes fresh reached
+  done_to d = record { events = d.events; went = d.went; worked = λ answers told. so_far_to config owes answers d.events reached.exit (d.worked answers told); new = d.new; shown = d.shown }
+
+  pub done_from : HasDoneBy (Exchange config) Delivers kinds cells start owes fresh reached → HasDone config kinds cells start owes fresh reached
+  done_from d = record { events = d.events; went = d.went; worked = λ answers told. so_far_from config owes answers d.events reached.exit (d.worked answers told); new = d.new; shown = d.shown }

@@ -1,16 +1,10 @@
 -- A worker that takes a message on a connection, and delivers it when it is idle, as it will be; no code does it yet.
-use Rattle.std.specs.Prelude.{◌≡◌, ℕ, List, [], ◌∷◌, ◌++◌, codes, Option, Some, None, Result, Ok}
+use Rattle.std.specs.Prelude.{◌≡◌, ℕ, List, [], ◌∷◌, ◌++◌, codes, Option, Some, None, Ok}
 use Rattle.side_base.specs.declared.method.Method.TheVariants.{Post}
 use Rattle.side_base.specs.declared.message.Request.{Request}
-use Rattle.side_base.specs.declared.message.Response.{Response}
 use Rattle.side_world.specs.Answer.{Answer, idle, closed}
 use Rattle.side_world.specs.declared.link.LinkCall.{LinkCall}
-use Rattle.turn_cell.specs.declared.error.ApiErr.{ApiErr}
 use Rattle.json_text.specs.Forest.{Forest}
-use Rattle.api_routes.specs.declared.route.Route.{Route}
-use Rattle.api_routes.specs.declared.route.Route.TheVariants.{Publish}
-use Rattle.api_routes.specs.declared.route.RouteErr.{RouteErr}
-use Rattle.api_routes.specs.Route.{Answers}
 use Rattle.ledger_core.specs.declared.command.Finish.TheVariants.{Success}
 use Rattle.ledger_core.specs.declared.command.LedgerCmd.TheVariants.{Settle, Take}
 use Rattle.ledger_core.specs.declared.reply.LedgerReply.TheVariants.{Done, Taken}
@@ -18,34 +12,23 @@ use Rattle.topic_spec.specs.declared.sub.Rule.{Rule}
 use Rattle.topic_spec.specs.declared.sub.Sub.{Sub}
 use Rattle.delivery_turn.specs.declared.turn.Turn.{Turn as Came}
 use Rattle.delivery_turn.specs.declared.turn.Turn.TheVariants as came
-use Rattle.delivery_turn.specs.Samples.{accepts, few, ledger_step, letters, orders, post_of}
+use Rattle.delivery_turn.specs.Samples.{accepts, few, ledger_step, letters, order_event, orders, post_of}
 use Rattle.sidecar_core.specs.declared.config.Config.{Config}
 use Rattle.sidecar_core.specs.declared.delivering.Turn.{Turn}
 use Rattle.sidecar_core.specs.declared.delivering.Turn.TheVariants as turns
 use Rattle.sidecar_core.specs.declared.doing.Doing.{Doing}
 use Rattle.sidecar_core.specs.declared.doing.Doing.TheVariants.{Asked, Entered, Timed}
-use Rattle.sidecar_core.specs.Exchange.{Answered}
 use Rattle.sidecar_workers.specs.declared.exit.Exit.{Exit}
 use Rattle.session_laws.specs.Delivering.{DeliversBy}
 use Rattle.session_laws.specs.Invocations.{publishes_at}
-use Rattle.session_laws.specs.Publishing.{IsMessage, PublishAnswers, Stamp, sent_by}
+use Rattle.session_laws.specs.Publishing.{IsMessage, Stamp, sent_by}
+use Rattle.session_laws.specs.Routed.{ExchangeBy, Setup}
 use Rattle.session_laws.specs.Sessions.{line, no_content}
 use Rattle.session_laws.specs.Stores.{usual}
 use Rattle.session_laws.specs.WorkedBy.{WorkedBy}
 use Rattle.session_laws.specs.Workers.{came_back}
 
--- ---- exchanges and turns, where messages are served
-
--- a request to publish is answered by its broker, and any other as it is today
-abbrev pub AnsweredBy : Config → List Sub → Request → Result Route RouteErr → List Doing → Result Response ApiErr → Type 0
-AnsweredBy config subs request (Ok (Publish pubsub topic)) events reply = PublishAnswers config subs request pubsub topic events reply
-AnsweredBy config subs request routed events reply = Answered config request routed events reply
-
--- the method and the target say the route, and the route says what is done and answered
-pub record Messages (config : Config) (subs : List Sub) (request : Request) (events : List Doing) (reply : Result Response ApiErr) : Type 0 where
-  pub routed : Result Route RouteErr
-  pub routes : Answers request.method request.target routed
-  pub answered : AnsweredBy config subs request routed events reply
+-- ---- turns, and workers, where messages are served
 
 -- what a turn on ledgers came to, as it is told to a worker
 abbrev pub told_of : Came → Turn
@@ -55,14 +38,14 @@ told_of came.Held = turns.Held
 told_of (came.Exhausted count) = turns.Exhausted count
 
 -- a turn on the ledgers of all brokers
-pub record Deliveries (config : Config) (subs : List Sub) (port : Option ℕ) (events : List Doing) (turn : Turn) : Type 0 where
+pub record Deliveries (setup : Setup) (events : List Doing) (turn : Turn) : Type 0 where
   pub came : Came
-  pub delivers : DeliversBy config subs port events came
+  pub delivers : DeliversBy setup.config setup.subs setup.apps.port events came
   pub told : turn ≡ told_of came
 
 -- what a worker does by these answers where messages are served
-abbrev pub WorkedWith : Config → List Sub → Option ℕ → List Answer → List Doing → Option Exit → Type 0
-WorkedWith config subs port answers events exit = WorkedBy (Messages config subs) (Deliveries config subs port) answers events exit
+abbrev pub WorkedWith : Setup → List Answer → List Doing → Option Exit → Type 0
+WorkedWith setup answers events exit = WorkedBy (ExchangeBy setup) (Deliveries setup) answers events exit
 
 -- ---- a message that is published and delivered
 
@@ -76,6 +59,10 @@ shop_config = record usual {
 -- to `orders`, whatever the rules are, and to its dead-letter topic
 abbrev pub shop_subs : List Rule → List Sub
 shop_subs rules = orders rules ∷ letters ∷ []
+
+-- it listens on the port 8080, and knows no other app
+abbrev pub shop_setup : List Rule → Setup
+shop_setup rules = record { config = shop_config; apps = record { port = Some 8080; peers = [] }; subs = shop_subs rules }
 
 abbrev pub order_body : List ℕ
 order_body = codes "{\"id\":\"7\",\"data\":{\"n\":1}}"
@@ -126,9 +113,13 @@ delivers_order now later event = Timed now ∷ Entered 0 (ledger_step (Take now)
 abbrev pub IsOrder : List Rule → Stamp → List ℕ → Forest → Type 0
 IsOrder rules stamp event values = IsMessage (shop_subs rules) (sent_by shop_config order_request (codes "pubsub") (codes "orders")) stamp event values
 
+-- at 0, with these words, the message has the event of 159 bytes that is written out, which is a JSON text
+abbrev pub HasOrderEvent : List Rule → ℕ → ℕ → Type 0
+HasOrderEvent rules first second = (values : Forest) × IsOrder rules (record { first = first; second = second; now = 0 }) order_event values
+
 -- by these answers a worker of that app does this
 abbrev pub WorksAtShop : List Rule → List Doing → Option Exit → Type 0
-WorksAtShop rules events exit = WorkedWith shop_config (shop_subs rules) (Some 8080) is_told_once events exit
+WorksAtShop rules events exit = WorkedWith (shop_setup rules) is_told_once events exit
 
 -- the message is published, and then it is delivered
 abbrev pub PublishesAndDelivers : List Rule → Type 0

@@ -9,10 +9,14 @@ use Rattle.conn_serve.specs.Exchanged.{Exchanged, Unanswered}
 use Rattle.conn_serve.specs.Session.{Session, trace_of}
 use Rattle.sidecar_core.specs.declared.delivering.Turn.{Turn}
 use Rattle.sidecar_core.specs.declared.doing.Doing.{Doing}
+use Rattle.sidecar_core.specs.Did.{CellsAt, Kinds, Shows, Standing, Went}
 use Rattle.sidecar_workers.specs.declared.exit.Exit.{Exit}
+use Rattle.sidecar_workers.specs.declared.exit.Exit.TheVariants as exits
+use Rattle.sidecar_workers.specs.declared.work.Owed.{Owed}
+use Rattle.sidecar_workers.specs.declared.work.Owed.TheVariants as owed
 use Rattle.sidecar_workers.specs.Works.{exit_of_served, exit_of_turned}
 use Rattle.sidecar_serving.specs.Ending.{served_of, turned_of}
-use Rattle.sidecar_serving.specs.Worker.{IsCause}
+use Rattle.sidecar_serving.specs.Worker.{IsCause, Reached}
 
 -- what is done for a request, and what is answered
 abbrev pub Exchanges : Type 1
@@ -51,3 +55,18 @@ pub data WorkedBy (exchange : Exchanges) (delivers : Turns) : List Answer → Li
   unasked : WorkedBy exchange delivers [] [] None
   answered : (answers : List Answer) (events added : List Doing) (answer : Answer) (exit : Option Exit) → WorkedBy exchange delivers answers events None → AddsBy exchange delivers answer added exit
       → WorkedBy exchange delivers (answers ++ answer ∷ []) (events ++ added) exit
+
+-- the same while it owes a `serve` for its last answer, a connection that is out, or a turn
+abbrev pub WorkedSoFarBy : Exchanges → Turns → Owed → List Answer → List Doing → Option Exit → Type 0
+WorkedSoFarBy exchange delivers owed.Nothing answers events exit = WorkedBy exchange delivers answers events exit
+WorkedSoFarBy exchange delivers owed.Serve answers events exit = (before : List Answer) × (answers ≡ before ++ conn None ∷ []) × (exit ≡ None) × WorkedBy exchange delivers before events None
+WorkedSoFarBy exchange delivers owed.Turn answers events exit = (before : List Answer) × (answers ≡ before ++ idle ∷ []) × (exit ≡ None) × WorkedBy exchange delivers before events None
+
+-- From this beginning a worker has done exactly what the answers of its acceptor say, where they are told, by these exchanges and turns; and where it ended on an exhausted
+-- cell, a seat of its pass shows the count
+pub record HasDoneBy {O : Type 0} (exchange : Exchanges) (delivers : Turns) (kinds : Kinds O) (cells : CellsAt O) (start : Standing O) (owes : Owed) (fresh : Type 0) (reached : Reached O) : Type 0 where
+  pub events : List Doing
+  pub went : Went kinds cells start events reached.at
+  pub worked : (answers : List Answer) → reached.told ≡ Some answers → WorkedSoFarBy exchange delivers owes answers events reached.exit
+  pub new : fresh
+  pub shown : (count : ℕ) → reached.exit ≡ Some (exits.Spent count) → Shows reached.at.seats count

@@ -6,6 +6,7 @@
 pub mod calls;
 pub mod deliveries;
 pub mod routes;
+pub mod runs;
 pub mod sessions;
 pub mod stores;
 pub mod workers;

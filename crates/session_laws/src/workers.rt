@@ -15,8 +15,13 @@ ghost use Rattle.sidecar_serving.specs.Worker.{Worked, HasExit};
 ghost use Rattle.session_laws.specs.Stores.{HasStore, saves_at, reads_at};
 ghost use Rattle.session_laws.specs.Publishing.{Stamp};
 ghost use Rattle.session_laws.specs.WorkedBy.{WorkedBy};
+ghost use Rattle.session_laws.specs.Workers.{HasDoneSo, HasDoneToday};
 ghost use Rattle.session_laws.specs.Messaging.{NoneLeftIdle, NoneUntaken, PublishesAndDelivers, delivers_order, is_told_once, order_call, takes_order};
 ghost use Rattle.session_laws.specs.Workers.{HadNotEnded, is_asked_once, is_written_once, is_shut_down};
+
+use keeper_core::Keeper;
+use sidecar_core::ObjectKinds;
+use state_core::Store;
 
 /// A worker serves a connection, waits in vain, and ends as its acceptor is closed; or it ends as a connection asked for it.
 pub fn a_worker_serves_and_waits()
@@ -39,6 +44,13 @@ pub fn wrong_workers_are_refused()
 pub fn any_worker_is_said_so()
     ensures general { (config : Config) (answers : List Answer) (events : List Doing) (exit : Option Exit) → Worked config answers events exit → WorkedBy (Exchange config) Delivers answers events exit }
     ensures today { (config : Config) (answers : List Answer) (events : List Doing) (exit : Option Exit) → WorkedBy (Exchange config) Delivers answers events exit → Worked config answers events exit }
+{}
+
+/// The same of all that a worker has done since it began: what its answers say, and where it ended on an exhausted cell a seat of its pass
+/// shows the count.
+pub fn any_worker_has_done_so<K: Keeper>()
+    ensures general { HasDoneSo ⟦<Store<K> as ObjectKinds>⟧.kinds }
+    ensures today { HasDoneToday ⟦<Store<K> as ObjectKinds>⟧.kinds }
 {}
 
 /// Where messages are served, a worker takes one on its connection, delivers it by the one call of the link when it is idle, and ends as

@@ -1,5 +1,5 @@
 -- A request to an output binding. It is not built yet; this is what it will do.
-use Rattle.std.specs.Prelude.{◌≡◌, ℕ, Bool, true, false, ◌&&◌, nat_le, if◌then◌else◌, List, [], ◌∷◌, ◌++◌, codes, decimal, bytes_eq, find, Option, Some, None, Result, Ok, Err}
+use Rattle.std.specs.Prelude.{◌≡◌, ℕ, Bool, true, false, ◌&&◌, ◌==◌, nat_le, if◌then◌else◌, List, [], ◌∷◌, ◌++◌, codes, decimal, bytes_eq, find, Option, Some, None, Result, Ok, Err}
 use Rattle.side_base.specs.declared.method.Method.{Method}
 use Rattle.side_base.specs.declared.method.Method.TheVariants as method
 use Rattle.side_base.specs.declared.message.Field.{Field}
@@ -100,8 +100,13 @@ ask_in bytes value =
 
 -- ---- what is asked, and answered
 
+-- a request line has an absolute path (RFC 9112, section 3.2.1): where no slash begins one, there is one before it
+abbrev pub origin_form : List ℕ → List ℕ
+origin_form [] = 47 ∷ []
+origin_form (byte ∷ bytes) = if byte == 47 then byte ∷ bytes else 47 ∷ byte ∷ bytes
+
 abbrev pub request_to : Address → Ask → LinkRequest
-request_to address ask = record { host = address.host; port = address.port; method = ask.method; target = address.path ++ ask.path; fields = json_type ∷ []; body = ask.body }
+request_to address ask = record { host = address.host; port = address.port; method = ask.method; target = origin_form (address.path ++ ask.path); fields = json_type ∷ []; body = ask.body }
 
 -- an error of this route
 abbrev pub not_bound : List ℕ → Response

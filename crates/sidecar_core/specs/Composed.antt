@@ -18,14 +18,19 @@ use Rattle.sidecar_core.specs.Doing.{stored_at, entered_at, broke_at, noted_in, 
 use Rattle.sidecar_core.specs.Did.{Kinds, CellsAt, SeatsAt, Did, IsPassOf, IsLone, IsSoundPass, Standing, Went, Does}
 
 -- one part after another
-pub did_on : {O : Type 0} (kinds : Kinds O) (cells : CellsAt O) (seats : SeatsAt O) (first : List Doing) (between : SeatsAt O) (second : List Doing) (seats' : SeatsAt O) (clock middle clock' : Clocked) (calls told calls' : Option (List LinkCall)) (drawn drawn-then drawn-all : List ℕ → Type 0)
+pub did_on : {O : Type 0} (kinds : Kinds O) (cells : CellsAt O) (seats : SeatsAt O) (first : List Doing) (between : SeatsAt O) (second : List Doing) (seats' : SeatsAt O)
+    (clock middle clock' : Clocked) (calls told calls' : Option (List LinkCall)) (drawn drawn-then drawn-all : List ℕ → Type 0)
     → ((xs ys : List ℕ) → drawn xs → drawn-then ys → drawn-all (xs ++ ys))
     → Did kinds cells seats first between clock middle calls told drawn → Did kinds cells between second seats' middle clock' told calls' drawn-then → Did kinds cells seats (first ++ second) seats' clock clock' calls calls' drawn-all
 did_on kinds cells seats first between second seats' clock middle clock' calls told calls' drawn drawn-then drawn-all drawn-on d e = record {
-  stores = each_same kinds.store cells.stores seats.stores _ (λ k. flat_map (stored_at k) (first ++ second)) seats'.stores (λ k. sym (flat_map-append (stored_at k) first second)) (each_on kinds.store cells.stores seats.stores (λ k. flat_map (stored_at k) first) between.stores (λ k. flat_map (stored_at k) second) seats'.stores d.stores e.stores);
-  ledgers = each_same kinds.ledger cells.ledgers seats.ledgers _ (λ k. flat_map (entered_at k) (first ++ second)) seats'.ledgers (λ k. sym (flat_map-append (entered_at k) first second)) (each_on kinds.ledger cells.ledgers seats.ledgers (λ k. flat_map (entered_at k) first) between.ledgers (λ k. flat_map (entered_at k) second) seats'.ledgers d.ledgers e.ledgers);
-  breakers = each_same kinds.breaker cells.breakers seats.breakers _ (λ k. flat_map (broke_at k) (first ++ second)) seats'.breakers (λ k. sym (flat_map-append (broke_at k) first second)) (each_on kinds.breaker cells.breakers seats.breakers (λ k. flat_map (broke_at k) first) between.breakers (λ k. flat_map (broke_at k) second) seats'.breakers d.breakers e.breakers);
-  notes = subst (λ l. Grew kinds.notes cells.notes.first seats.notes l seats'.notes) (sym (flat_map-append noted_in first second)) (grew_more kinds.notes cells.notes.first seats.notes (flat_map noted_in first) between.notes (flat_map noted_in second) seats'.notes d.notes e.notes);
+  stores = each_same kinds.store cells.stores seats.stores _ (λ k. flat_map (stored_at k) (first ++ second)) seats'.stores (λ k. sym (flat_map-append (stored_at k) first second))
+      (each_on kinds.store cells.stores seats.stores (λ k. flat_map (stored_at k) first) between.stores (λ k. flat_map (stored_at k) second) seats'.stores d.stores e.stores);
+  ledgers = each_same kinds.ledger cells.ledgers seats.ledgers _ (λ k. flat_map (entered_at k) (first ++ second)) seats'.ledgers (λ k. sym (flat_map-append (entered_at k) first second))
+      (each_on kinds.ledger cells.ledgers seats.ledgers (λ k. flat_map (entered_at k) first) between.ledgers (λ k. flat_map (entered_at k) second) seats'.ledgers d.ledgers e.ledgers);
+  breakers = each_same kinds.breaker cells.breakers seats.breakers _ (λ k. flat_map (broke_at k) (first ++ second)) seats'.breakers (λ k. sym (flat_map-append (broke_at k) first second))
+      (each_on kinds.breaker cells.breakers seats.breakers (λ k. flat_map (broke_at k) first) between.breakers (λ k. flat_map (broke_at k) second) seats'.breakers d.breakers e.breakers);
+  notes = subst (λ l. Grew kinds.notes cells.notes.first seats.notes l seats'.notes) (sym (flat_map-append noted_in first second))
+      (grew_more kinds.notes cells.notes.first seats.notes (flat_map noted_in first) between.notes (flat_map noted_in second) seats'.notes d.notes e.notes);
   queued = flat_map-append queued_in first second ∙ ap (λ l. l ++ flat_map queued_in second) d.queued ∙ e.queued;
   rang = flat_map-append rang_in first second ∙ ap (λ l. l ++ flat_map rang_in second) d.rang ∙ e.rang;
   times = subst (λ ms. Between clock.last ms clock'.last) (sym (flat_map-append moment_in first second)) (between_on clock.last (flat_map moment_in first) middle.last (flat_map moment_in second) clock'.last d.times e.times);
@@ -58,7 +63,8 @@ module _ {O : Type 0} (kinds : Kinds O) (cells : CellsAt O) where
   pub went_nowhere : (at : Standing O) → Went kinds cells at [] at
   went_nowhere at = did_none kinds cells at.seats at.clock at.calls (λ ws. Drawn next_u64 at.words ws at.words) (drawn_nothing next_u64 at.words)
 
-  pub went_on : (at : Standing O) (first : List Doing) (between : Standing O) (second : List Doing) (after : Standing O) → Went kinds cells at first between → Went kinds cells between second after → Went kinds cells at (first ++ second) after
+  pub went_on : (at : Standing O) (first : List Doing) (between : Standing O) (second : List Doing) (after : Standing O)
+      → Went kinds cells at first between → Went kinds cells between second after → Went kinds cells at (first ++ second) after
   went_on at first between second after one two = did_on kinds cells at.seats first between.seats second after.seats at.clock between.clock after.clock at.calls between.calls after.calls
       (λ ws. Drawn next_u64 at.words ws between.words) (λ ws. Drawn next_u64 between.words ws after.words) (λ ws. Drawn next_u64 at.words ws after.words)
       (λ xs ys d e. drawn_on next_u64 at.words xs between.words ys after.words d e) one two

@@ -52,7 +52,8 @@ module _ {S O : Type 0} (kinds : Kinds O) (cells_at : S → CellsAt O) where
     went = went_on kinds (cells_at shared) at first between second after one.went (subst (λ s. Went kinds (cells_at s) between second after) one.same two.went);
   }
 
-  pub stays_there : (shared : S) (held : Borrowed) (at : Standing O) (events : List Doing) (shared' : S) (held' : Borrowed) (after : Standing O) → IsPassOf (cells_at shared) at.seats → Goes kinds cells_at shared held at events shared' held' after → IsPassOf (cells_at shared') after.seats
+  pub stays_there : (shared : S) (held : Borrowed) (at : Standing O) (events : List Doing) (shared' : S) (held' : Borrowed) (after : Standing O) → IsPassOf (cells_at shared) at.seats
+      → Goes kinds cells_at shared held at events shared' held' after → IsPassOf (cells_at shared') after.seats
   stays_there shared held at events shared' held' after of goes = subst (λ s. IsPassOf (cells_at s) after.seats) (sym goes.same) (pass_stays kinds (cells_at shared) at events after goes.went of)
 
 -- ---- no room for the response
@@ -92,11 +93,13 @@ list_unsaid config (told.Full names bytes) response says = says
 list_unsaid config (told.Listed pairs) response says = inr refl
 list_unsaid config told.NoMemory response says = refl
 
-ran_unsaid : (replies : NotesReply → Result Response ApiErr → Type 0) (ran : Result NotesReply ApiErr) (response : Response) → ((answer : NotesReply) → replies answer (Ok response) → replies answer no_room) → NotesReplies replies ran (Ok response) → NotesReplies replies ran no_room
+ran_unsaid : (replies : NotesReply → Result Response ApiErr → Type 0) (ran : Result NotesReply ApiErr) (response : Response) → ((answer : NotesReply) → replies answer (Ok response)
+    → replies answer no_room) → NotesReplies replies ran (Ok response) → NotesReplies replies ran no_room
 ran_unsaid replies (Ok answer) response each says = each answer says
 ran_unsaid replies (Err e) response each says = absurd (subst is_ok says tt)
 
-notes_unsaid : (cmd : NotesCmd) (replies : NotesReply → Result Response ApiErr → Type 0) (events : List Doing) (response : Response) → ((answer : NotesReply) → replies answer (Ok response) → replies answer no_room) → AtNotes cmd replies events (Ok response) → AtNotes cmd replies events no_room
+notes_unsaid : (cmd : NotesCmd) (replies : NotesReply → Result Response ApiErr → Type 0) (events : List Doing) (response : Response) → ((answer : NotesReply) → replies answer (Ok response)
+    → replies answer no_room) → AtNotes cmd replies events (Ok response) → AtNotes cmd replies events no_room
 notes_unsaid cmd replies events response each at = record { ran = at.ran; steps = at.steps; says = ran_unsaid replies at.ran response each at.says }
 
 set_unsaid : (name value : List ℕ) (events : List Doing) (response : Response) → SetsNote name value events (Ok response) → SetsNote name value events no_room

@@ -1,6 +1,7 @@
 pub mod Doing
 pub mod Did
 pub mod Composed
+pub mod Connection
 pub mod Ran
 pub mod Pass
 pub mod Site

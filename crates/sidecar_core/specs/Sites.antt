@@ -1,5 +1,6 @@
 -- The stores of a configuration, and what metadata tells of its components.
-use Rattle.std.specs.Prelude.{◌≡◌, ℕ, Bool, true, false, List, map, filter, bytes_eq, position, Option, Some}
+use Rattle.std.specs.Prelude.{◌≡◌, ◌<◌, ℕ, All, Bool, true, false, List, length, map, filter, bytes_eq, position, Option, Some}
+use Rattle.std.specs.Option.{ForSome}
 use mathlib.Core.Option.{some}
 use lib.ListN.{get_elem?}
 use Rattle.resource_spec.specs.declared.component.ComponentKind.{ComponentKind}
@@ -61,3 +62,7 @@ sub_note_of sub = record { pubsub = sub.pubsub; topic = sub.topic; dead = sub.de
 
 abbrev pub sub_notes_of : Config → List SubscriptionNote
 sub_notes_of config = map sub_note_of config.subs
+
+-- the breaker that is bound to each of these stores is one of those of the policies
+abbrev pub HaveBreakers : Config → List Site → Type 0
+HaveBreakers config sites = All (λ site. ForSome site.bound.breaker (λ place. place < length config.policies.breakers)) sites

@@ -1,9 +1,6 @@
-ghost use Rattle.conn_serve.specs.Ends.{sink_at, source_at};
-ghost use Rattle.conn_serve.specs.Served.{Served};
-ghost use Rattle.sidecar_core.specs.Did.{IsPassOf, Went};
-ghost use Rattle.sidecar_core.specs.Pass.{cells_of, seats_of, standing};
-ghost use Rattle.sidecar_core.specs.Exchange.{Exchange};
-ghost use Rattle.sidecar_core.specs.Shown.{ShownFor};
+ghost use Rattle.sidecar_core.specs.Connection.{Serves};
+ghost use Rattle.sidecar_core.specs.Did.{IsPassOf};
+ghost use Rattle.sidecar_core.specs.Pass.{cells_of, seats_of};
 
 use crate::desk::Desk;
 use crate::kinds::ObjectKinds;
@@ -29,7 +26,7 @@ pub fn serve_connection<K: Keeper, S: Source, N: Sink, L: Link, C: Clock, R: Rng
     rng: &mut R,
 ) -> Ended
     requires pass { IsPassOf (cells_of shared.now.objects) (seats_of pass.old) }
-    ensures served { Served (Exchange shared.now.config) (λ events. Went ⟦<Store<K> as ObjectKinds>⟧.kinds (cells_of shared.now.objects) (standing L.Link C.Clock pass.old link.old clock.old (R.stream rng.old)) events (standing L.Link C.Clock pass.new link.new clock.new (R.stream rng.new))) (ShownFor shared.now.config (seats_of pass.new)) (source_at S.Source source.old) (source_at S.Source source.new) (sink_at N.Sink sink.old) (sink_at N.Sink sink.new) result }
+    ensures served { Serves ⟦<Store<K> as ObjectKinds>⟧.kinds L.Link C.Clock R.stream S.Source N.Sink shared.now pass.old pass.new link.old link.new clock.old clock.new rng.old rng.new source.old source.new sink.old sink.new result }
     ensures pass { IsPassOf (cells_of shared.now.objects) (seats_of pass.new) }
 {
     let mut desk = Desk {

@@ -1,9 +1,6 @@
-ghost use Rattle.std.specs.Prelude.{◌≡◌, ◌<◌, ℕ, List, length, Option, Err};
-ghost use Rattle.rand_core.specs.Stream.{Stream};
-ghost use Rattle.side_world.specs.declared.link.LinkCall.{LinkCall};
-ghost use Rattle.policy_run.specs.Effects.{Clocked, clocked};
-ghost use Rattle.sidecar_core.specs.Did.{IsPassOf, Does, ShowsAt};
-ghost use Rattle.sidecar_core.specs.Pass.{cells_of, seats_of};
+ghost use Rattle.std.specs.Prelude.{◌≡◌, ◌<◌, ℕ, length, Err};
+ghost use Rattle.sidecar_core.specs.Did.{IsPassOf, ShowsAt};
+ghost use Rattle.sidecar_core.specs.Pass.{DoesAlone, DoesBy, cells_of, seats_of};
 ghost use Rattle.sidecar_core.specs.Delivery.{Counted, Delivers};
 
 use crate::kinds::ObjectKinds;
@@ -49,7 +46,7 @@ impl<K: Keeper> Shared<K> {
     ) -> Result<LedgerReply, Exhausted>
         requires pass { IsPassOf (cells_of self.now.objects) (seats_of pass.old) }
         requires place { place < length self.now.objects.ledgers.items }
-        ensures does { (clock : Clocked) (calls : Option (List LinkCall)) (words : Stream) → Does ⟦<Store<K> as ObjectKinds>⟧.kinds (cells_of self.now.objects) (record { seats = seats_of pass.old; clock = clock; calls = calls; words = words }) (record { seats = seats_of pass.new; clock = clock; calls = calls; words = words }) (λ events. Counted place events result) }
+        ensures does { DoesAlone ⟦<Store<K> as ObjectKinds>⟧.kinds self.now.objects pass.old pass.new (Counted place) result }
         ensures shows { (count : ℕ) → result ≡ Err (record { count = count }) → ShowsAt place count pass.new.ledgers.items }
     {
         self.objects.ledgers[place].call(rt, &mut pass.ledgers[place], &LedgerCmd::Counts)
@@ -67,7 +64,7 @@ pub fn deliver<K: Keeper, L: Link, C: Clock, R: Rng, W: Wait>(
     rng: &mut R,
 ) -> Turn
     requires pass { IsPassOf (cells_of shared.now.objects) (seats_of pass.old) }
-    ensures does { Does ⟦<Store<K> as ObjectKinds>⟧.kinds (cells_of shared.now.objects) (record { seats = seats_of pass.old; clock = clocked C.Clock clock.old; calls = L.calls link.old; words = R.stream rng.old }) (record { seats = seats_of pass.new; clock = clocked C.Clock clock.new; calls = L.calls link.new; words = R.stream rng.new }) (λ events. Delivers events result) }
+    ensures does { DoesBy ⟦<Store<K> as ObjectKinds>⟧.kinds L.Link C.Clock R.stream shared.now.objects pass.old pass.new link.old link.new clock.old clock.new rng.old rng.new Delivers result }
 {
     Turn::Idle { next: None }
 }

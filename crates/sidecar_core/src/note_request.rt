@@ -1,13 +1,10 @@
 //! Requests for metadata, at the book of its entries.
-ghost use Rattle.std.specs.Prelude.{◌≡◌, ℕ, List, Option, Some, Err, IfOk, [], Ok};
-ghost use Rattle.rand_core.specs.Stream.{Stream};
-ghost use Rattle.side_world.specs.declared.link.LinkCall.{LinkCall};
+ghost use Rattle.std.specs.Prelude.{◌≡◌, ℕ, List, Some, Err, IfOk};
 ghost use Rattle.turn_cell.specs.declared.error.ApiErr.TheVariants as error;
-ghost use Rattle.policy_run.specs.Effects.{Clocked};
 ghost use Rattle.meta_api.specs.declared.command.NotesCmd.TheVariants as ask;
 ghost use Rattle.meta_api.specs.Fits.{Fits};
-ghost use Rattle.sidecar_core.specs.Did.{IsPassOf, Does};
-ghost use Rattle.sidecar_core.specs.Pass.{cells_of, seats_of};
+ghost use Rattle.sidecar_core.specs.Did.{IsPassOf};
+ghost use Rattle.sidecar_core.specs.Pass.{DoesAlone, cells_of, seats_of};
 ghost use Rattle.sidecar_core.specs.Exchange.{AtNotes, ListReplies, NotesRan, PutReplies, SetsNote};
 
 use crate::given::given;
@@ -32,7 +29,7 @@ pub(crate) fn put<K: Keeper, W: Wait>(
     value: &[u8],
 ) -> Result<Response, ApiErr>
     requires pass { IsPassOf (cells_of shared.now.objects) (seats_of pass.old) }
-    ensures does { (clock : Clocked) (calls : Option (List LinkCall)) (words : Stream) → Does ⟦<Store<K> as ObjectKinds>⟧.kinds (cells_of shared.now.objects) (record { seats = seats_of pass.old; clock = clock; calls = calls; words = words }) (record { seats = seats_of pass.new; clock = clock; calls = calls; words = words }) (λ events. SetsNote name.now value.now events result) }
+    ensures does { DoesAlone ⟦<Store<K> as ObjectKinds>⟧.kinds shared.now.objects pass.old pass.new (SetsNote name.now value.now) result }
     ensures shows { (count : ℕ) → result ≡ Err (error.Exhausted count) → pass.new.notes.count ≡ Some count }
 {
     match put_command(shared.alloc, name, value) {
@@ -51,7 +48,7 @@ fn put_by<K: Keeper, W: Wait>(
 ) -> Result<Response, ApiErr>
     requires pass { IsPassOf (cells_of shared.now.objects) (seats_of pass.old) }
     requires put { (name value : List ℕ) × (cmd.now ≡ ask.Put name value) }
-    ensures does { (clock : Clocked) (calls : Option (List LinkCall)) (words : Stream) → Does ⟦<Store<K> as ObjectKinds>⟧.kinds (cells_of shared.now.objects) (record { seats = seats_of pass.old; clock = clock; calls = calls; words = words }) (record { seats = seats_of pass.new; clock = clock; calls = calls; words = words }) (λ events. AtNotes cmd.now PutReplies events result) }
+    ensures does { DoesAlone ⟦<Store<K> as ObjectKinds>⟧.kinds shared.now.objects pass.old pass.new (AtNotes cmd.now PutReplies) result }
     ensures shows { (count : ℕ) → result ≡ Err (error.Exhausted count) → pass.new.notes.count ≡ Some count }
 {
     match note(rt, shared, pass, cmd) {
@@ -67,7 +64,7 @@ pub(crate) fn list<K: Keeper, W: Wait>(
     pass: &mut Pass<K>,
 ) -> Result<Response, ApiErr>
     requires pass { IsPassOf (cells_of shared.now.objects) (seats_of pass.old) }
-    ensures does { (clock : Clocked) (calls : Option (List LinkCall)) (words : Stream) → Does ⟦<Store<K> as ObjectKinds>⟧.kinds (cells_of shared.now.objects) (record { seats = seats_of pass.old; clock = clock; calls = calls; words = words }) (record { seats = seats_of pass.new; clock = clock; calls = calls; words = words }) (λ events. AtNotes ask.List (ListReplies shared.now.config) events result) }
+    ensures does { DoesAlone ⟦<Store<K> as ObjectKinds>⟧.kinds shared.now.objects pass.old pass.new (AtNotes ask.List (ListReplies shared.now.config)) result }
     ensures shows { (count : ℕ) → result ≡ Err (error.Exhausted count) → pass.new.notes.count ≡ Some count }
 {
     match note(rt, shared, pass, &NotesCmd::List) {
@@ -84,7 +81,7 @@ fn note<K: Keeper, W: Wait>(
     cmd: &NotesCmd,
 ) -> Result<NotesReply, ApiErr>
     requires pass { IsPassOf (cells_of shared.now.objects) (seats_of pass.old) }
-    ensures does { (clock : Clocked) (calls : Option (List LinkCall)) (words : Stream) → Does ⟦<Store<K> as ObjectKinds>⟧.kinds (cells_of shared.now.objects) (record { seats = seats_of pass.old; clock = clock; calls = calls; words = words }) (record { seats = seats_of pass.new; clock = clock; calls = calls; words = words }) (λ events. NotesRan cmd.now events result) }
+    ensures does { DoesAlone ⟦<Store<K> as ObjectKinds>⟧.kinds shared.now.objects pass.old pass.new (NotesRan cmd.now) result }
     ensures fits { IfOk result (Fits cmd.now) }
     ensures shows { (count : ℕ) → result ≡ Err (error.Exhausted count) → pass.new.notes.count ≡ Some count }
 {

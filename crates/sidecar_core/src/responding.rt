@@ -1,13 +1,10 @@
-ghost use Rattle.std.specs.Prelude.{◌≡◌, ℕ, List, [], Option, None, Ok, Err, IfOk, option_map};
-ghost use Rattle.rand_core.specs.Stream.{Stream};
+ghost use Rattle.std.specs.Prelude.{◌≡◌, ℕ, [], None, Ok, Err, IfOk, option_map};
 ghost use Rattle.http.specs.StatusCode.{IsStatusCode};
 ghost use Rattle.side_base.specs.declared.message.Request.{Request as RequestRecord};
-ghost use Rattle.side_world.specs.declared.link.LinkCall.{LinkCall};
 ghost use Rattle.turn_cell.specs.declared.error.ApiErr.TheVariants as error;
-ghost use Rattle.policy_run.specs.Effects.{Clocked, clocked};
-ghost use Rattle.sidecar_core.specs.Did.{IsPassOf, Does};
+ghost use Rattle.sidecar_core.specs.Did.{IsPassOf};
 ghost use Rattle.sidecar_core.specs.declared.config.Config.{Config as ConfigRecord};
-ghost use Rattle.sidecar_core.specs.Pass.{cells_of, seats_of};
+ghost use Rattle.sidecar_core.specs.Pass.{DoesAlone, DoesBy, DoesUncalled, cells_of, seats_of};
 ghost use Rattle.sidecar_core.specs.Exchange.{Answered, Exchange, store_in};
 ghost use Rattle.sidecar_core.specs.Shown.{RouteShows, ShownFor};
 
@@ -42,7 +39,7 @@ pub fn respond<K: Keeper, L: Link, C: Clock, R: Rng, W: Wait>(
     rng: &mut R,
 ) -> Result<Response, ApiErr>
     requires pass { IsPassOf (cells_of shared.now.objects) (seats_of pass.old) }
-    ensures exchange { Does ⟦<Store<K> as ObjectKinds>⟧.kinds (cells_of shared.now.objects) (record { seats = seats_of pass.old; clock = clocked C.Clock clock.old; calls = L.calls link.old; words = R.stream rng.old }) (record { seats = seats_of pass.new; clock = clocked C.Clock clock.new; calls = L.calls link.new; words = R.stream rng.new }) (λ events. Exchange shared.now.config request.now events result) }
+    ensures exchange { DoesBy ⟦<Store<K> as ObjectKinds>⟧.kinds L.Link C.Clock R.stream shared.now.objects pass.old pass.new link.old link.new clock.old clock.new rng.old rng.new (Exchange shared.now.config request.now) result }
     ensures pass { IsPassOf (cells_of shared.now.objects) (seats_of pass.new) }
     ensures shows { (count : ℕ) → result ≡ Err (error.Exhausted count) → ShownFor shared.now.config (seats_of pass.new) request.now count }
     ensures status { IfOk result (λ response. IsStatusCode response.status) }
@@ -64,7 +61,7 @@ fn answer<K: Keeper, C: Clock, R: Rng, W: Wait>(
     rng: &mut R,
 ) -> Result<Response, ApiErr>
     requires pass { IsPassOf (cells_of shared.now.objects) (seats_of pass.old) }
-    ensures does { (calls : Option (List LinkCall)) → Does ⟦<Store<K> as ObjectKinds>⟧.kinds (cells_of shared.now.objects) (record { seats = seats_of pass.old; clock = clocked C.Clock clock.old; calls = calls; words = R.stream rng.old }) (record { seats = seats_of pass.new; clock = clocked C.Clock clock.new; calls = calls; words = R.stream rng.new }) (λ events. Answered shared.now.config request.now (Ok route.now) events result) }
+    ensures does { DoesUncalled ⟦<Store<K> as ObjectKinds>⟧.kinds C.Clock R.stream shared.now.objects pass.old pass.new clock.old clock.new rng.old rng.new (Answered shared.now.config request.now (Ok route.now)) result }
     ensures shows { (count : ℕ) → result ≡ Err (error.Exhausted count) → RouteShows shared.now.config (seats_of pass.new) route.now count }
 {
     match store_in(route) {
@@ -103,7 +100,7 @@ fn answer_plainly<K: Keeper, W: Wait>(
 ) -> Result<Response, ApiErr>
     requires pass { IsPassOf (cells_of shared.now.objects) (seats_of pass.old) }
     requires route { store_in route.now ≡ None }
-    ensures does { (clock : Clocked) (calls : Option (List LinkCall)) (words : Stream) → Does ⟦<Store<K> as ObjectKinds>⟧.kinds (cells_of shared.now.objects) (record { seats = seats_of pass.old; clock = clock; calls = calls; words = words }) (record { seats = seats_of pass.new; clock = clock; calls = calls; words = words }) (λ events. Answered shared.now.config request.now (Ok route.now) events result) }
+    ensures does { DoesAlone ⟦<Store<K> as ObjectKinds>⟧.kinds shared.now.objects pass.old pass.new (Answered shared.now.config request.now (Ok route.now)) result }
     ensures shows { (count : ℕ) → result ≡ Err (error.Exhausted count) → RouteShows shared.now.config (seats_of pass.new) route.now count }
 {
     match route {

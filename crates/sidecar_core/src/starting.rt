@@ -9,7 +9,7 @@ ghost use Rattle.ledger_core.specs.Ledger.{plans_of};
 ghost use Rattle.breaker_core.specs.Breaker.{policy_of};
 ghost use Rattle.meta_api.specs.Notes.{pairs_of};
 ghost use Rattle.sidecar_core.specs.Plans.{plan_of, plans_in};
-ghost use Rattle.sidecar_core.specs.Sites.{is_store, is_pubsub, notes_of, note_of, pubsubs_of, site_of, sites_of, stores_of, sub_note_of, sub_notes_of};
+ghost use Rattle.sidecar_core.specs.Sites.{HaveBreakers, is_store, is_pubsub, notes_of, note_of, pubsubs_of, site_of, sites_of, stores_of, sub_note_of, sub_notes_of};
 ghost use Rattle.sidecar_core.specs.Did.{IsPassOf, IsLone, IsSoundPass};
 ghost use Rattle.sidecar_core.specs.Pass.{cells_of, seats_of};
 ghost use Rattle.sidecar_core.specs.Started.{IsStarted, IsRoomFor};
@@ -93,7 +93,7 @@ fn count_of(component: &Component) -> usize
 /// The stores of a configuration, as requests find them.
 fn sites_for(alloc: Global, config: &Config) -> Result<Vec<StoreSite>, NoMemory>
     ensures exact { IfOk result (λ sites. sites.items ≡ sites_of config.now) }
-    ensures bounds { IfOk result (λ sites. All (λ site. ForSome site.bound.breaker (λ place. place < length config.now.policies.breakers)) sites.items) }
+    ensures bounds { IfOk result (λ sites. HaveBreakers config.now sites.items) }
 {
     let mut sites = Vec::new(alloc);
     for place in 0..config.components.len() {
@@ -109,7 +109,7 @@ fn add_site(
     sites: &mut Vec<StoreSite>,
 ) -> Result<(), NoMemory>
     ensures added { OnOk result (sites.new.items ≡ sites.old.items ++ map (site_of config.now) (stores_of (component.now ∷ []))) }
-    ensures bounds { OnOk result (All (λ site. ForSome site.bound.breaker (λ place. place < length config.now.policies.breakers)) sites.old.items → All (λ site. ForSome site.bound.breaker (λ place. place < length config.now.policies.breakers)) sites.new.items) }
+    ensures bounds { OnOk result (HaveBreakers config.now sites.old.items → HaveBreakers config.now sites.new.items) }
 {
     if !is_store(component.kind()) {
         return Ok(());

@@ -1,15 +1,13 @@
 //! Requests of the state API, at the store of their name.
-ghost use Rattle.std.specs.Prelude.{◌≡◌, ◌<◌, ℕ, List, length, Option, Some, Err};
+ghost use Rattle.std.specs.Prelude.{◌≡◌, ◌<◌, ℕ, length, Some, Err};
 ghost use Rattle.std.specs.Option.{ForSome};
-ghost use Rattle.side_world.specs.declared.link.LinkCall.{LinkCall};
 ghost use Rattle.turn_cell.specs.declared.error.ApiErr.TheVariants as error;
 ghost use Rattle.state_core.specs.Taken.{IsTaken};
 ghost use Rattle.state_api.specs.Asked.{IsState};
 ghost use Rattle.state_api.specs.Response.{IsCut};
-ghost use Rattle.policy_run.specs.Effects.{clocked};
 ghost use Rattle.retry_core.specs.Bound.{IsWithinLimit};
-ghost use Rattle.sidecar_core.specs.Did.{IsPassOf, Does};
-ghost use Rattle.sidecar_core.specs.Pass.{cells_of, seats_of};
+ghost use Rattle.sidecar_core.specs.Did.{IsPassOf};
+ghost use Rattle.sidecar_core.specs.Pass.{DoesUncalled, cells_of, seats_of};
 ghost use Rattle.sidecar_core.specs.Exchange.{AtSite, AtStore, Called, FaultGives, store_in};
 ghost use Rattle.sidecar_core.specs.Ran.{IsShown};
 ghost use Rattle.sidecar_core.specs.Shown.{StoreShows};
@@ -45,7 +43,7 @@ pub(crate) fn at_store<K: Keeper, C: Clock, R: Rng, W: Wait>(
 ) -> Result<Response, ApiErr>
     requires pass { IsPassOf (cells_of shared.now.objects) (seats_of pass.old) }
     requires store { store_in route.now ≡ Some name.now }
-    ensures does { (calls : Option (List LinkCall)) → Does ⟦<Store<K> as ObjectKinds>⟧.kinds (cells_of shared.now.objects) (record { seats = seats_of pass.old; clock = clocked C.Clock clock.old; calls = calls; words = R.stream rng.old }) (record { seats = seats_of pass.new; clock = clocked C.Clock clock.new; calls = calls; words = R.stream rng.new }) (λ events. AtStore shared.now.config request.now route.now name.now events result) }
+    ensures does { DoesUncalled ⟦<Store<K> as ObjectKinds>⟧.kinds C.Clock R.stream shared.now.objects pass.old pass.new clock.old clock.new rng.old rng.new (AtStore shared.now.config request.now route.now name.now) result }
     ensures shows { (count : ℕ) → result ≡ Err (error.Exhausted count) → StoreShows shared.now.config (seats_of pass.new) name.now count }
 {
     match shared.place_of(name) {
@@ -80,7 +78,7 @@ fn at_site<K: Keeper, C: Clock, R: Rng, W: Wait>(
     requires place { place < length shared.now.objects.stores.items }
     requires breaker { ForSome site.now.bound.breaker (λ k. k < length shared.now.objects.breakers.items) }
     requires state { IsState route.now }
-    ensures does { (calls : Option (List LinkCall)) → Does ⟦<Store<K> as ObjectKinds>⟧.kinds (cells_of shared.now.objects) (record { seats = seats_of pass.old; clock = clocked C.Clock clock.old; calls = calls; words = R.stream rng.old }) (record { seats = seats_of pass.new; clock = clocked C.Clock clock.new; calls = calls; words = R.stream rng.new }) (λ events. AtSite place site.now request.now route.now events result) }
+    ensures does { DoesUncalled ⟦<Store<K> as ObjectKinds>⟧.kinds C.Clock R.stream shared.now.objects pass.old pass.new clock.old clock.new rng.old rng.new (AtSite place site.now request.now route.now) result }
     ensures shows { (count : ℕ) → result ≡ Err (error.Exhausted count) → IsShown place site.now.bound pass.new.stores.items pass.new.breakers.items count }
 {
     match command(shared.alloc, route, request, site.prefix()) {
@@ -107,7 +105,7 @@ fn call<K: Keeper, C: Clock, R: Rng, W: Wait>(
     requires breaker { ForSome bound.now.breaker (λ k. k < length shared.now.objects.breakers.items) }
     requires taken { IsTaken cmd.old }
     requires cut { IsCut cmd.old }
-    ensures does { (calls : Option (List LinkCall)) → Does ⟦<Store<K> as ObjectKinds>⟧.kinds (cells_of shared.now.objects) (record { seats = seats_of pass.old; clock = clocked C.Clock clock.old; calls = calls; words = R.stream rng.old }) (record { seats = seats_of pass.new; clock = clocked C.Clock clock.new; calls = calls; words = R.stream rng.new }) (λ events. Called place bound.now cmd.old events result) }
+    ensures does { DoesUncalled ⟦<Store<K> as ObjectKinds>⟧.kinds C.Clock R.stream shared.now.objects pass.old pass.new clock.old clock.new rng.old rng.new (Called place bound.now cmd.old) result }
     ensures shows { (count : ℕ) → result ≡ Err (error.Exhausted count) → IsShown place bound.now pass.new.stores.items pass.new.breakers.items count }
 {
     the_moment_changes_no_response();

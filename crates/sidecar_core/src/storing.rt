@@ -1,31 +1,19 @@
-ghost use Rattle.std.specs.Prelude.{◌≡◌, ◌<◌, ◌⊎◌, ℕ, List, [], length, Option, Some, None, is_some, Err, IfOk};
+ghost use Rattle.std.specs.Prelude.{◌≡◌, ◌<◌, ◌⊎◌, ℕ, length, Some, None, is_some, Err, IfOk};
 ghost use Rattle.std.specs.Option.{ForSome};
-ghost use Rattle.rand_core.specs.Stream.{next_u64};
-ghost use Rattle.side_world.specs.Moments.{Drawn};
-ghost use Rattle.side_world.specs.declared.link.LinkCall.{LinkCall};
 ghost use Rattle.retry_core.specs.Bound.{IsWithinLimit};
 ghost use Rattle.turn_cell.specs.Sitting.{IsSeatOf};
-ghost use Rattle.turn_cell.specs.Growth.{Grew};
 ghost use Rattle.turn_cell.specs.Passes.{EachSeated};
-ghost use Rattle.state_core.specs.History.{Step};
 ghost use Rattle.state_core.specs.Taken.{IsTaken};
-ghost use Rattle.policy_run.specs.Event.{Event};
-ghost use Rattle.policy_run.specs.Effects.{Effects, clocked};
-ghost use Rattle.policy_run.specs.Attempts.{Attempts};
-ghost use Rattle.policy_run.specs.declared.outcome.Outcome.{Outcome as OutcomeOf};
-ghost use Rattle.state_api.specs.declared.call.StateAnswer.{StateAnswer as AnswerData};
+ghost use Rattle.policy_run.specs.Effects.{AreNone, Draws, times};
 ghost use Rattle.state_api.specs.Moment.{IsSame};
-ghost use Rattle.state_api.specs.Call.{Makes};
-ghost use Rattle.state_api.specs.Ran.{ran_of, IsAnswer};
-ghost use Rattle.sidecar_core.specs.declared.doing.Doing.{Doing};
-ghost use Rattle.sidecar_core.specs.Did.{Did};
-ghost use Rattle.sidecar_core.specs.Ran.{StoreRan, IsShown};
+ghost use Rattle.state_api.specs.Ran.{IsAnswer};
+ghost use Rattle.sidecar_core.specs.Pass.{RunsStore};
+ghost use Rattle.sidecar_core.specs.Ran.{Grows, IsShown, RunsBy, StoreRan};
 
+use crate::kinds::ObjectKinds;
 use crate::{Objects, Pass};
 use breaker_core::Breaker;
 use keeper_core::Keeper;
-use ledger_core::Ledger;
-use meta_api::Notes;
 use policy_run::{BreakerAt, NoBreaker};
 use rand_core::Rng;
 use retry_core::Bound;
@@ -53,7 +41,7 @@ pub fn run_store<K: Keeper, C: Clock, R: Rng, W: Wait>(
     requires stores { EachSeated objects.now.stores.items pass.old.stores.items }
     requires breakers { EachSeated objects.now.breakers.items pass.old.breakers.items }
     requires taken { IsTaken cmd.old }
-    ensures ran { (events : List Doing) × StoreRan place bound.now cmd.old events result × ((calls : Option (List LinkCall)) → Did (record { store = ⟦<Store<K> as Object>⟧; ledger = ⟦<Ledger as Object>⟧; breaker = ⟦<Breaker as Object>⟧; notes = ⟦<Notes as Object>⟧ }) (record { stores = objects.now.stores.items; ledgers = objects.now.ledgers.items; breakers = objects.now.breakers.items; notes = objects.now.notes }) (record { stores = pass.old.stores.items; ledgers = pass.old.ledgers.items; breakers = pass.old.breakers.items; notes = pass.old.notes }) events (record { stores = pass.new.stores.items; ledgers = pass.new.ledgers.items; breakers = pass.new.breakers.items; notes = pass.new.notes }) (clocked C.Clock clock.old) (clocked C.Clock clock.new) calls calls (λ ws. Drawn next_u64 (R.stream rng.old) ws (R.stream rng.new))) }
+    ensures ran { RunsStore ⟦<Store<K> as ObjectKinds>⟧.kinds C.Clock R.stream objects.now pass.old pass.new clock.old clock.new rng.old rng.new (StoreRan place bound.now cmd.old) result }
     ensures answer { IfOk result (IsAnswer cmd.old) }
     ensures same { IsSame cmd.old cmd.new }
     ensures shows { (count : ℕ) → result ≡ Err (ApiErr.Exhausted count) → IsShown place bound.now pass.new.stores.items pass.new.breakers.items count }
@@ -96,7 +84,7 @@ fn plain<K: Keeper, C: Clock, R: Rng, W: Wait>(
     requires breaker { bound.now.breaker ≡ None }
     requires seat { IsSeatOf cell.now seat.old }
     requires taken { IsTaken cmd.old }
-    ensures ran { (events : List (Event Step)) × (outcome : OutcomeOf AnswerData (Unit {0})) × Attempts bound.now (λ limit. Makes cmd.old) outcome events × (result ≡ ran_of outcome) × Effects events (λ xs. Grew ⟦<Store<K> as Object>⟧ cell.now.first seat.old xs seat.new) (λ xs. xs ≡ []) (clocked C.Clock clock.old) (clocked C.Clock clock.new) (λ ws. Drawn next_u64 (R.stream rng.old) ws (R.stream rng.new)) }
+    ensures ran { RunsBy bound.now cmd.old result (Grows ⟦<Store<K> as Object>⟧ cell.now seat.old seat.new) AreNone (times C.Clock clock.old clock.new) (Draws R.stream rng.old rng.new) }
     ensures answer { IfOk result (IsAnswer cmd.old) }
     ensures same { IsSame cmd.old cmd.new }
     ensures shows { (count : ℕ) → result ≡ Err (ApiErr.Exhausted count) → seat.new.count ≡ Some count }
@@ -121,7 +109,7 @@ fn gated<K: Keeper, C: Clock, R: Rng, W: Wait>(
     requires seat { IsSeatOf cell.now seat.old }
     requires key { IsSeatOf gate.now key.old }
     requires taken { IsTaken cmd.old }
-    ensures ran { (events : List (Event Step)) × (outcome : OutcomeOf AnswerData (Unit {0})) × Attempts bound.now (λ limit. Makes cmd.old) outcome events × (result ≡ ran_of outcome) × Effects events (λ xs. Grew ⟦<Store<K> as Object>⟧ cell.now.first seat.old xs seat.new) (λ xs. Grew ⟦<Breaker as Object>⟧ gate.now.first key.old xs key.new) (clocked C.Clock clock.old) (clocked C.Clock clock.new) (λ ws. Drawn next_u64 (R.stream rng.old) ws (R.stream rng.new)) }
+    ensures ran { RunsBy bound.now cmd.old result (Grows ⟦<Store<K> as Object>⟧ cell.now seat.old seat.new) (Grows ⟦<Breaker as Object>⟧ gate.now key.old key.new) (times C.Clock clock.old clock.new) (Draws R.stream rng.old rng.new) }
     ensures answer { IfOk result (IsAnswer cmd.old) }
     ensures same { IsSame cmd.old cmd.new }
     ensures shows { (count : ℕ) → result ≡ Err (ApiErr.Exhausted count) → (key.new.count ≡ Some count) ⊎ (seat.new.count ≡ Some count) }
