@@ -126,6 +126,10 @@ abbrev pub PublishesAndDelivers : List Rule → Type 0
 PublishesAndDelivers rules = (stamp : Stamp) (event : List ℕ) (values : Forest) (now later : ℕ) → IsOrder rules stamp event values
     → WorksAtShop rules (takes_order rules stamp event values ++ delivers_order now later event) None
 
+-- the same of the event that is written out, taken at 0
+abbrev pub PublishesWritten : List Rule → Type 0
+PublishesWritten rules = (first second now later : ℕ) → (values : Forest) × WorksAtShop rules (takes_order rules (record { first = first; second = second; now = 0 }) order_event values ++ delivers_order now later order_event) None
+
 -- ---- what no worker does by these answers
 
 -- it does nothing when it is idle

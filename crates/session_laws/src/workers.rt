@@ -16,7 +16,7 @@ ghost use Rattle.session_laws.specs.Stores.{HasStore, saves_at, reads_at};
 ghost use Rattle.session_laws.specs.Publishing.{Stamp};
 ghost use Rattle.session_laws.specs.WorkedBy.{WorkedBy};
 ghost use Rattle.session_laws.specs.Workers.{HasDoneSo, HasDoneToday};
-ghost use Rattle.session_laws.specs.Messaging.{NoneLeftIdle, NoneUntaken, PublishesAndDelivers, delivers_order, is_told_once, order_call, takes_order};
+ghost use Rattle.session_laws.specs.Messaging.{NoneLeftIdle, NoneUntaken, PublishesAndDelivers, PublishesWritten, delivers_order, is_told_once, order_call, takes_order};
 ghost use Rattle.session_laws.specs.Workers.{HadNotEnded, is_asked_once, is_written_once, is_shut_down};
 
 use keeper_core::Keeper;
@@ -57,6 +57,7 @@ pub fn any_worker_has_done_so<K: Keeper>()
 /// its acceptor is closed.
 pub fn a_worker_publishes_and_delivers()
     ensures worked { (rules : List Rule) → PublishesAndDelivers rules }
+    ensures written { (rules : List Rule) → PublishesWritten rules }
     ensures called { (rules : List Rule) (stamp : Stamp) (event : List ℕ) (values : Forest) (now later : ℕ) → flat_map asked_in (takes_order rules stamp event values ++ delivers_order now later event) ≡ order_call event ∷ [] }
     ensures closed { (faults : ℕ) → HasExit Closed (Some is_told_once) faults None }
 {}
