@@ -1,20 +1,20 @@
 //! A source that gives the same bytes again and again, a sink that counts, a link that nobody asks, and a clock that stands still.
 ghost use Rattle.std.specs.Prelude.{◌≤◌, length};
 
-use side_base::{Blob, LinkRequest, Moment, Response};
+use side_base::{LinkRequest, Moment, Response};
 use side_world::{Clock, Failed, Link, LinkErr, Sink, Source};
 
 /// Gives the bytes of `piece` so many times; no read goes over the end of one.
 #[derive(Drop)]
-pub struct Again {
-    pub piece: Blob,
+pub struct Again<'a> {
+    pub piece: &'a [u8],
     pub left: u32,
     /// How many bytes of the piece were read.
     pub at: usize,
     pub ended: bool,
 }
 
-impl Source for Again {
+impl Source for Again<'_> {
     ghost use Rattle.std.specs.Prelude.{None};
 
     ghost left = { λ _. None };
@@ -30,7 +30,7 @@ impl Source for Again {
             self.ended = true;
             return Ok(0);
         }
-        let n = copy_front(self.piece.bytes(), self.at, into);
+        let n = copy_front(self.piece, self.at, into);
         if n == 0 {
             self.ended = true;
             return Ok(0);

@@ -1,4 +1,4 @@
-//! Measures what a request costs over one connection in memory: a get, a save of 100 bytes and a save of 16 KiB, alone and 16 at a time.
+//! Measures what a request costs over one connection in memory: a get, a save of 100 bytes and a save of 16 KiB, alone, 16 at a time, and each on a connection of its own.
 #![tactic(auto)]
 
 mod devices;
@@ -12,36 +12,54 @@ use std::{env, io};
 const REQUESTS: u32 = 1600;
 
 /// What is measured, unless an argument names one of these rows.
-const ROWS: [Asked; 6] = [
+const ROWS: [Asked; 8] = [
     Asked {
         name: "get",
         kind: Kind::Get,
         group: 1,
+        is_apart: false,
     },
     Asked {
         name: "save-100",
         kind: Kind::Save(100),
         group: 1,
+        is_apart: false,
     },
     Asked {
         name: "save-16384",
         kind: Kind::Save(16_384),
         group: 1,
+        is_apart: false,
     },
     Asked {
         name: "16-gets",
         kind: Kind::Get,
         group: 16,
+        is_apart: false,
     },
     Asked {
         name: "16-saves-100",
         kind: Kind::Save(100),
         group: 16,
+        is_apart: false,
     },
     Asked {
         name: "16-saves-16384",
         kind: Kind::Save(16_384),
         group: 16,
+        is_apart: false,
+    },
+    Asked {
+        name: "get-apart",
+        kind: Kind::Get,
+        group: 1,
+        is_apart: true,
+    },
+    Asked {
+        name: "save-100-apart",
+        kind: Kind::Save(100),
+        group: 1,
+        is_apart: true,
     },
 ];
 

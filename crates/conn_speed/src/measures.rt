@@ -5,13 +5,13 @@ ghost use Rattle.sidecar_core.specs.Pass.{cells_of, seats_of};
 
 use crate::devices::{Again, Counted, NoLink, StillClock};
 use crate::requests::{Asked, Kind, together};
-use conn_serve::Ended;
+use conn_serve::{Buffers, Ended};
 use keeper_core::MemoryKeeper;
 use policy_spec::policies;
 use rand_core::SeedableRng;
 use rand_pcg::Pcg64;
 use resource_spec::components;
-use side_base::{Blob, Moment, NoMemory, Places, Text};
+use side_base::{Moment, NoMemory, Places, Text};
 use sidecar_core::{Config, Pass, Room, Shared, count_of_stores, serve_connection};
 use std::alloc::Global;
 use std::io::{self, ErrorKind};
@@ -94,10 +94,44 @@ fn timed<R: Clock + Wait>(
 {
     let first = together(alloc, Kind::Save(100), 1)?;
     let piece = together(alloc, asked.kind, asked.group)?;
-    connect(rt, shared, pass, first, 1)?;
+    let (connections, each) = if asked.is_apart {
+        (times, 1)
+    } else {
+        (1, times)
+    };
+    serve_all(rt, alloc, shared, pass, first.bytes(), 1, 1)?;
     let begin = Instant::now(rt)?;
-    let counted = connect(rt, shared, pass, piece, times)?;
+    let counted = serve_all(rt, alloc, shared, pass, piece.bytes(), connections, each)?;
     Ok((begin.elapsed(rt)?, counted))
+}
+
+/// Serves so many connections, on each of which `piece` comes so many times, and counts what they write; each write must begin with a success.
+fn serve_all<R: Wait>(
+    rt: &R,
+    alloc: Global,
+    shared: &Shared<MemoryKeeper>,
+    pass: &mut Pass<MemoryKeeper>,
+    piece: &[u8],
+    connections: u32,
+    times: u32,
+) -> io::Result<Counted>
+    requires { IsPassOf (cells_of shared.now.objects) (seats_of pass.old) }
+    ensures { IsPassOf (cells_of shared.now.objects) (seats_of pass.new) }
+{
+    let mut buffers = Buffers::new(alloc);
+    let mut sink = Counted {
+        writes: 0,
+        good: 0,
+        bytes: 0,
+    };
+    for _ in 0..connections {
+        serve_one(rt, shared, pass, &mut buffers, piece, times, &mut sink);
+    }
+    if sink.good == sink.writes {
+        Ok(sink)
+    } else {
+        Err(unfit())
+    }
 }
 
 /// An error of what can't be measured.
@@ -119,14 +153,16 @@ fn config_of(alloc: Global) -> io::Result<Config> {
     })
 }
 
-/// Serves a connection on which `piece` comes so many times, and counts what it writes; each write must begin with a success.
-fn connect<R: Wait>(
+/// Serves a connection on which `piece` comes so many times; one that ends otherwise than by the end of its source counts as a write that is no success.
+fn serve_one<R: Wait>(
     rt: &R,
     shared: &Shared<MemoryKeeper>,
     pass: &mut Pass<MemoryKeeper>,
-    piece: Blob,
+    buffers: &mut Buffers,
+    piece: &[u8],
     times: u32,
-) -> io::Result<Counted>
+    sink: &mut Counted,
+)
     requires { IsPassOf (cells_of shared.now.objects) (seats_of pass.old) }
     ensures { IsPassOf (cells_of shared.now.objects) (seats_of pass.new) }
 {
@@ -135,11 +171,6 @@ fn connect<R: Wait>(
         left: times,
         at: 0,
         ended: false,
-    };
-    let mut sink = Counted {
-        writes: 0,
-        good: 0,
-        bytes: 0,
     };
     let mut clock = StillClock {
         at: beginning(),
@@ -150,16 +181,15 @@ fn connect<R: Wait>(
         rt,
         shared,
         pass,
+        buffers,
         &mut source,
-        &mut sink,
+        sink,
         &mut NoLink,
         &mut clock,
         &mut rng,
     );
-    if ended == Ended::Done && sink.good == sink.writes {
-        Ok(sink)
-    } else {
-        Err(unfit())
+    if ended != Ended::Done {
+        sink.writes = sink.writes.saturating_add(1);
     }
 }
 

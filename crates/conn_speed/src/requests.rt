@@ -11,12 +11,13 @@ pub enum Kind {
     Save(u32),
 }
 
-/// A row of what is measured: requests of this kind, of which so many come together.
+/// A row of what is measured: requests of this kind, of which so many come together, on one connection or with a connection each time.
 #[derive(Clone, Copy)]
 pub struct Asked {
     pub name: &'static str,
     pub kind: Kind,
     pub group: u32,
+    pub is_apart: bool,
 }
 
 /// So many requests of a kind, one behind the other.
