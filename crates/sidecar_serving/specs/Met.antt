@@ -3,7 +3,12 @@ use Rattle.std.specs.Prelude.{◌≡◌, ◌≢◌, ◌||◌, ℕ, Bool, false, 
 use Rattle.std.specs.Option.{option_or}
 use Rattle.side_world.specs.Faults.{RoseWith}
 use Rattle.side_world.specs.Outside.{Backs}
+use Rattle.side_world.specs.declared.outside.Outside.{Ghosts as Lends}
+use Rattle.keeper_core.specs.declared.keeper.Keeper.{Ghosts}
+use Rattle.state_core.specs.declared.store.Store.{Store}
+use Rattle.sidecar_core.specs.declared.objects.Pass.{Pass}
 use Rattle.sidecar_core.specs.Did.{CellsAt, Kinds, SeatsAt}
+use Rattle.sidecar_core.specs.Pass.{seats_of}
 use Rattle.sidecar_serving.specs.Ending.{has_reason, is_failed, is_stopped, spent_by}
 use Rattle.sidecar_serving.specs.Opened.{WorkerAt}
 use Rattle.sidecar_serving.specs.Passes.{MetPass}
@@ -13,6 +18,9 @@ pub record HubAt (O : Type 0) : Type 0 where
   pub seats : SeatsAt O
   pub backs : Option Backs
   pub faults : ℕ
+
+abbrev pub hub_at : {K O D A L C S N : Type 0} {keeper : Ghosts K} → Lends O D A L C S N → Pass K keeper → O → HubAt (Store K keeper)
+hub_at lends pass outside = record { seats = seats_of pass; backs = lends.backs outside; faults = lends.faults outside }
 
 -- where it is told afterwards what came back, it was told before, and changed at the number of this worker alone: what its acceptor and its link told
 abbrev pub IsReturned : {O : Type 0} → WorkerAt O → Option Backs → Option Backs → Type 0

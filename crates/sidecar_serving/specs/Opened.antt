@@ -54,3 +54,7 @@ abbrev pub AreWorkers : {X : Type 0} → (ℕ → Stream → X → Type 0) → �
 AreWorkers is number words [] = Unit {0}
 AreWorkers is number [] (w ∷ workers) = ⊥
 AreWorkers is number (one ∷ words) (w ∷ workers) = is number one w × AreWorkers is (suc number) words workers
+
+-- each of these workers has worked, from the first on, with its random words
+abbrev pub HaveWorked : {O : Type 0} → Config → Kinds O → CellsAt O → List Stream → List (WorkerAt O) → Type 0
+HaveWorked config kinds cells words workers = AreWorkers (HasWorked config kinds cells) 0 words workers

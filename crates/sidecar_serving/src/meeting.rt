@@ -5,7 +5,7 @@ ghost use Rattle.sidecar_core.specs.Did.{IsSoundPass};
 ghost use Rattle.sidecar_core.specs.Pass.{cells_of, seats_of};
 ghost use Rattle.sidecar_workers.specs.StopSeat.{HasMet, root_of};
 ghost use Rattle.sidecar_serving.specs.Ending.{end_of};
-ghost use Rattle.sidecar_serving.specs.Met.{AreMet, failed_in, reason_in, spent_in, stopped_in, IsReturned};
+ghost use Rattle.sidecar_serving.specs.Met.{AreMet, hub_at, failed_in, reason_in, spent_in, stopped_in, IsReturned};
 ghost use Rattle.sidecar_serving.specs.Passes.{IsRootPass, IsSplitOffPass, MayMeet, MetPass};
 ghost use Rattle.sidecar_serving.specs.Slots.{IsReadySlot, worker_at};
 
@@ -32,7 +32,7 @@ pub(crate) fn meet_all<'a, K: Keeper, O: Outside, R: Rng + Drop>(
     requires ready { All (IsReadySlot stop.now shared.now) slots.items }
     requires root { IsRootPass (length slots.items) (cells_of shared.now.objects) (seats_of pass.old) }
     requires seat { seat.old ≡ record (root_of stop.now) { out = length slots.items } }
-    ensures met { AreMet ⟦<Store<K> as ObjectKinds>⟧.kinds (cells_of shared.now.objects) (map worker_at slots.entry.items) (record { seats = seats_of pass.old; backs = O.backs outside.old; faults = O.faults outside.old }) (record { seats = seats_of pass.new; backs = O.backs outside.new; faults = O.faults outside.new }) }
+    ensures met { AreMet ⟦<Store<K> as ObjectKinds>⟧.kinds (cells_of shared.now.objects) (map worker_at slots.entry.items) (hub_at O.Outside pass.old outside.old) (hub_at O.Outside pass.new outside.new) }
     ensures lone { IsRootPass 0 (cells_of shared.now.objects) (seats_of pass.new) }
     ensures sound { 0 < length slots.entry.items → IsSoundPass ⟦<Store<K> as ObjectKinds>⟧.kinds (cells_of shared.now.objects) (seats_of pass.new) }
     ensures stopped { stopped_in (map worker_at slots.entry.items) ≡ true → reason_in (map worker_at slots.entry.items) ≡ true }

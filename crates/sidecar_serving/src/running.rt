@@ -1,7 +1,7 @@
 ghost use Rattle.std.specs.Prelude.{◌≡◌, List, All, IsSome, length, map};
 ghost use Rattle.rand_core.specs.Stream.{Stream};
 ghost use Rattle.sidecar_core.specs.Pass.{cells_of};
-ghost use Rattle.sidecar_serving.specs.Opened.{AreWorkers, HasWorked};
+ghost use Rattle.sidecar_serving.specs.Opened.{AreWorkers, HaveWorked};
 ghost use Rattle.sidecar_serving.specs.Slots.{IsOpenedSlot, IsReadySlot, worker_at};
 
 use crate::serving::Serving;
@@ -25,7 +25,7 @@ pub(crate) fn run<
     W: Threads + Wait + Sync,
 >(rt: &W, shared: &Shared<K>, slots: &mut [Slot<Serving<'_, K, A, L, C, R>>], stop: &Stop, gate: &G)
     requires { (words : List Stream) × AreWorkers (IsOpenedSlot stop.now shared.now) 0 words slots.old }
-    ensures worked { (words : List Stream) → AreWorkers (IsOpenedSlot stop.now shared.now) 0 words slots.old → AreWorkers (HasWorked shared.now.config ⟦<Store<K> as ObjectKinds>⟧.kinds (cells_of shared.now.objects)) 0 words (map worker_at slots.new) }
+    ensures worked { (words : List Stream) → AreWorkers (IsOpenedSlot stop.now shared.now) 0 words slots.old → HaveWorked shared.now.config ⟦<Store<K> as ObjectKinds>⟧.kinds (cells_of shared.now.objects) words (map worker_at slots.new) }
     ensures ready { All (IsReadySlot stop.now shared.now) slots.new }
     ensures ended { All (λ slot. IsSome slot.exit) slots.new }
     ensures wide { length slots.new ≡ length slots.old }

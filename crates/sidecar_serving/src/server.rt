@@ -1,10 +1,10 @@
-ghost use Rattle.std.specs.Prelude.{◌≡◌, ◌<◌, ◌≤◌, [], length, map};
+ghost use Rattle.std.specs.Prelude.{◌≡◌, ◌<◌, ◌≤◌, [], length};
 ghost use Rattle.std.specs.Vec.{vec_capacity};
 ghost use Rattle.sidecar_workers.specs.StopSeat.{root_of};
 ghost use Rattle.sidecar_core.specs.Did.{IsLone, IsPassOf};
 ghost use Rattle.sidecar_core.specs.Pass.{cells_of, seats_of};
 ghost use Rattle.sidecar_serving.specs.Passes.{root_pass};
-ghost use Rattle.sidecar_serving.specs.Served.{IsServed};
+ghost use Rattle.sidecar_serving.specs.Served.{ServesBy};
 ghost use Rattle.sidecar_serving.specs.Ending.{end_without};
 
 use crate::End;
@@ -44,7 +44,7 @@ pub fn serve<
 ) -> End
     requires few { length rngs.items < 65535 }
     requires root { seats_of pass.old ≡ root_pass 0 (cells_of shared.now.objects) }
-    ensures served { IsServed shared.now.config ⟦<Store<K> as ObjectKinds>⟧.kinds (cells_of shared.now.objects) port (map R.stream rngs.items) (O.calls outside.old) (O.calls outside.new) (record { seats = seats_of pass.old; backs = O.backs outside.old; faults = O.faults outside.old }) (record { seats = seats_of pass.new; backs = O.backs outside.new; faults = O.faults outside.new }) result }
+    ensures served { ServesBy ⟦<Store<K> as ObjectKinds>⟧.kinds O.Outside R.stream shared.now port rngs.items pass.old pass.new outside.old outside.new result }
     ensures lone { IsLone (cells_of shared.now.objects) (seats_of pass.new) }
     ensures pass { IsPassOf (cells_of shared.now.objects) (seats_of pass.new) }
     ensures disks { O.disks outside.new ≡ O.disks outside.old }
@@ -87,7 +87,7 @@ fn serve_in<
     requires room { length rngs.items ≤ vec_capacity slots }
     requires root { seats_of pass.old ≡ root_pass 0 (cells_of shared.now.objects) }
     requires seat { seat.old ≡ root_of stop.now }
-    ensures served { IsServed shared.now.config ⟦<Store<K> as ObjectKinds>⟧.kinds (cells_of shared.now.objects) port (map R.stream rngs.items) (O.calls outside.old) (O.calls outside.new) (record { seats = seats_of pass.old; backs = O.backs outside.old; faults = O.faults outside.old }) (record { seats = seats_of pass.new; backs = O.backs outside.new; faults = O.faults outside.new }) result }
+    ensures served { ServesBy ⟦<Store<K> as ObjectKinds>⟧.kinds O.Outside R.stream shared.now port rngs.items pass.old pass.new outside.old outside.new result }
     ensures lone { IsLone (cells_of shared.now.objects) (seats_of pass.new) }
     ensures disks { O.disks outside.new ≡ O.disks outside.old }
     ensures numbers { O.numbers outside.new ≡ O.numbers outside.old }
