@@ -56,16 +56,21 @@ fn tell_all(rt: &HostRuntime, desk: Desk<'_>, rows: &[Row], wanted: Wanted) -> i
     Ok(())
 }
 
-/// Measures with routers of its own.
-fn run(rt: &HostRuntime, wanted: Wanted) -> io::Result<()> {
-    let routers = Routers::new(rt.alloc())?;
+/// Measures with a response of its own.
+fn run_with(rt: &HostRuntime, routers: &Routers, wanted: Wanted) -> io::Result<()> {
     let response = response(rt.alloc())?;
     let desk = Desk {
         alloc: rt.alloc(),
-        routers: &routers,
+        routers,
         response: &response,
     };
     tell_all(rt, desk, ROWS, wanted)
+}
+
+/// Measures with routers of its own.
+fn run(rt: &HostRuntime, wanted: Wanted) -> io::Result<()> {
+    let routers = Routers::new(rt.alloc())?;
+    run_with(rt, &routers, wanted)
 }
 
 fn main(rt: HostRuntime) -> io::Result<()> {

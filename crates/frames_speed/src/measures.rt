@@ -46,14 +46,27 @@ pub fn tell<R: Clock + Eprint>(
     requests: u32,
 ) -> io::Result<()> {
     let piece = together(desk.alloc, row)?;
+    tell_of(rt, desk, row, part, piece.as_slice(), requests)
+}
+
+/// The same, where the requests that come together are these bytes.
+fn tell_of<R: Clock + Eprint>(
+    rt: &R,
+    desk: Desk<'_>,
+    row: &Row,
+    part: &Part,
+    piece: &[u8],
+    requests: u32,
+) -> io::Result<()> {
     let times = requests / row.group.max(1);
     let begin = Instant::now(rt)?;
-    let done = work(desk, *part, piece.as_slice(), row.content, times);
+    let done = work(desk, *part, piece, row.content, times);
     write(rt, row.name, part.name, begin.elapsed(rt)?, done)
 }
 
 fn write<R: Eprint>(rt: &R, row: &str, part: &str, took: Duration, done: u64) -> io::Result<()> {
-    let each = took.as_nanos() / u128::from(done.max(1));
+    let all = u64::try_from(took.as_nanos()).unwrap_or(u64::MAX);
+    let each = all / done.max(1);
     let (whole, rest) = (each / 1000, each % 1000);
     eprintln!(rt; "{row}, {part}: {whole}.{rest:03} microseconds a request; {done} requests")
 }

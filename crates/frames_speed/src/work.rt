@@ -18,26 +18,35 @@ pub struct Desk<'a> {
     pub response: &'a Response,
 }
 
-/// A response with the content of a get of 100 bytes.
-pub fn response(alloc: Global) -> Result<Response, NoMemory> {
-    let mut fields = Fields::new(alloc);
+fn push_type(alloc: Global, fields: &mut Fields) -> Result<(), NoMemory> {
+    let value = Blob::from_bytes(alloc, b"application/json")?;
     fields.push(Field {
         name: Text::from_static(alloc, "Content-Type"),
-        value: Blob::from_bytes(alloc, b"application/json")?,
-    })?;
-    Ok(Response {
-        status: 200,
-        fields,
-        body: Blob::from_bytes(alloc, &[b'x'; 100])?,
+        value,
     })
+}
+
+/// A response with the content of a get of 100 bytes.
+pub fn response(alloc: Global) -> Result<Response, NoMemory> {
+    let mut response = Response {
+        status: 200,
+        fields: Fields::new(alloc),
+        body: Blob::from_bytes(alloc, &[b'x'; 100])?,
+    };
+    push_type(alloc, &mut response.fields)?;
+    Ok(response)
 }
 
 /// Whether a request has a route.
 fn is_found(desk: Desk<'_>, request: &Request) -> bool {
     let target = request.target.bytes();
-    desk.routers
-        .route(desk.alloc, request.method, target)
-        .is_ok()
+    match desk.routers.route(desk.alloc, request.method, target) {
+        Ok(route) => {
+            drop(route);
+            true
+        }
+        Err(_) => false,
+    }
 }
 
 /// Whether the response is written, in place of what stood there.
@@ -55,14 +64,26 @@ fn is_done(desk: Desk<'_>, part: Part, request: &Request, out: &mut Blob) -> boo
         && (!part.is_answered || is_written(desk.response, out))
 }
 
+/// Whether the work is done with the next request that a framer gives; `None` where it gives none.
+fn next_done(desk: Desk<'_>, part: Part, framer: &mut Framer, out: &mut Blob) -> Option<bool> {
+    match framer.next() {
+        Ok(Step::Request(request)) => {
+            let done = is_done(desk, part, &request, out);
+            drop(request);
+            Some(done)
+        }
+        _ => None,
+    }
+}
+
 /// With how many of the requests that a framer gives the work is done.
 fn count_given(desk: Desk<'_>, part: Part, framer: &mut Framer, out: &mut Blob) -> u64 {
     let mut count: u64 = 0;
     for _ in 0..u64::MAX {
-        let Ok(Step::Request(request)) = framer.next() else {
-            return count;
-        };
-        count = count.saturating_add(u64::from(is_done(desk, part, &request, out)));
+        match next_done(desk, part, framer, out) {
+            Some(done) => count = count.saturating_add(u64::from(done)),
+            None => return count,
+        }
     }
     count
 }
