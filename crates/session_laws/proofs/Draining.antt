@@ -3,7 +3,6 @@ use Rattle.std.proofs.Common.{◌≡◌, ℕ, List, [], ◌∷◌, ◌++◌, Opt
 use Rattle.ledger_core.specs.declared.command.LedgerCmd.TheVariants.{Take}
 use Rattle.ledger_core.specs.declared.reply.LedgerReply.TheVariants as says
 use Rattle.topic_spec.specs.declared.sub.Rule.{Rule}
-use Rattle.topic_spec.specs.declared.sub.Sub.{Sub}
 use Rattle.policy_run.specs.Event.{moment}
 use Rattle.delivery_turn.specs.declared.turn.Turn.TheVariants as turns
 use Rattle.delivery_turn.specs.Delivery as turn
@@ -14,7 +13,7 @@ use Rattle.sidecar_core.specs.declared.doing.Doing.{Doing}
 use Rattle.sidecar_core.specs.declared.doing.Doing.TheVariants.{Timed, Waited}
 use Rattle.session_laws.specs.Delivering.{DeliversBy, DeliversFrom, idled, none_left as no_more}
 use Rattle.session_laws.specs.Draining.{Drain, Drained, Drains, GoesOn, clock_after, Stops, ended, is_done, none_left, went_on, used_up}
-use Rattle.session_laws.specs.Messaging.{delivers_order, shop_config, shop_subs}
+use Rattle.session_laws.specs.Messaging.{delivers_order, shop_config}
 use Rattle.session_laws.specs.Running.{drains_later, drains_order, is_idle_at}
 use Rattle.session_laws.proofs.Messaging.{there}
 
@@ -23,20 +22,20 @@ not_used_up e = let bad : ⊥ = cc in bad
 
 -- ---- without an app port
 
-pub alone : (config : Config) (subs : List Sub) (now : ℕ) → Drain (DeliversBy config subs None) (Timed now ∷ []) is_done
-alone config subs now = record { began = now; taken = 1; rest = []; drained = ended now [] (turns.Idle None) is_done (refl, refl) refl; few = omega arith; all = λ e. absurd (not_used_up e); whole = refl }
+pub alone : (config : Config) (now : ℕ) → Drain (DeliversBy config None) (Timed now ∷ []) is_done
+alone config now = record { began = now; taken = 1; rest = []; drained = ended now [] (turns.Idle None) is_done (refl, refl) refl; few = omega arith; all = λ e. absurd (not_used_up e); whole = refl }
 
 -- it is quiet
-quiet : (config : Config) (subs : List Sub) (began taken last : ℕ) (events : List Doing) (how : Drained) → Drains (DeliversBy config subs None) began taken last events how → events ≡ []
-quiet config subs began taken last events how (none_left at) = refl
-quiet config subs began taken last events how (ended at all turn whole delivers stops) = delivers.0
-quiet config subs began taken last events how (went_on further at first between rest turn whole delivers goes drains) = absurd (subst (λ t. GoesOn began (clock_after at first) t between) delivers.1 goes)
+quiet : (config : Config) (began taken last : ℕ) (events : List Doing) (how : Drained) → Drains (DeliversBy config None) began taken last events how → events ≡ []
+quiet config began taken last events how (none_left at) = refl
+quiet config began taken last events how (ended at all turn whole delivers stops) = delivers.0
+quiet config began taken last events how (went_on further at first between rest turn whole delivers goes drains) = absurd (subst (λ t. GoesOn began (clock_after at first) t between) delivers.1 goes)
 
 some_rest : (now began : ℕ) (event : Doing) (events rest : List Doing) → Timed now ∷ event ∷ events ≡ Timed began ∷ rest → rest ≡ [] → ⊥
 some_rest now began event events rest whole none-left = let same : Timed now ∷ event ∷ events ≡ Timed began ∷ [] = whole ∙ ap (λ l. Timed began ∷ l) none-left in absurd (cc)
 
-pub not_busy : (config : Config) (subs : List Sub) (now : ℕ) (event : Doing) (events : List Doing) (how : Drained) → Drain (DeliversBy config subs None) (Timed now ∷ event ∷ events) how → ⊥
-not_busy config subs now event events how d = some_rest now d.began event events d.rest d.whole (quiet config subs d.began d.taken d.began d.rest how d.drained)
+pub not_busy : (config : Config) (now : ℕ) (event : Doing) (events : List Doing) (how : Drained) → Drain (DeliversBy config None) (Timed now ∷ event ∷ events) how → ⊥
+not_busy config now event events how d = some_rest now d.began event events d.rest d.whole (quiet config d.began d.taken d.began d.rest how d.drained)
 
 -- ---- of the shop
 
@@ -51,7 +50,7 @@ module _ (rules : List Rule) where
       is_idle : (now : ℕ) (next : Option ℕ) → Delivery (shop rules) (moment now ∷ stepped (Take now) (says.Idle next) ∷ []) (turns.Idle next)
       is_idle now next = turn.idle next (record { now = now; step = ledger_step (Take now) (says.Idle next); told = refl; answer = refl; fits = tt; whole = refl }) refl
 
-  pub delivered : (now : ℕ) (event : List ℕ) → Drain (DeliversBy shop_config (shop_subs rules) (Some 8080)) (drains_order now event) is_done
+  pub delivered : (now : ℕ) (event : List ℕ) → Drain (DeliversBy (shop_config rules) (Some 8080)) (drains_order now event) is_done
   delivered now event = record {
     began = now;
     taken = 2;
@@ -62,7 +61,7 @@ module _ (rules : List Rule) where
     whole = refl;
   }
 
-  pub later : (event : List ℕ) → Drain (DeliversBy shop_config (shop_subs rules) (Some 8080)) (drains_later event) is_done
+  pub later : (event : List ℕ) → Drain (DeliversBy (shop_config rules) (Some 8080)) (drains_later event) is_done
   later event = record {
     began = 0;
     taken = 3;
@@ -76,8 +75,8 @@ module _ (rules : List Rule) where
 
 -- ---- what is none
 
-pub not_unread : (config : Config) (subs : List Sub) (port : Option ℕ) (how : Drained) → Drain (DeliversBy config subs port) [] how → ⊥
-not_unread config subs port how d = let bad = d.whole in absurd (cc)
+pub not_unread : (config : Config) (port : Option ℕ) (how : Drained) → Drain (DeliversBy config port) [] how → ⊥
+not_unread config port how d = let bad = d.whole in absurd (cc)
 
 pub not_so_late : (between : List Doing) → GoesOn 0 0 (turns.Idle (Some 60001)) between → ⊥
 not_so_late between goes = let bad : ⊥ = omega (arith, goes.0) in bad

@@ -1,7 +1,8 @@
 -- The run that is written out, and what is none.
-use Rattle.std.proofs.Common.{◌≡◌, ℕ, List, [], ◌∷◌, ◌++◌, Option, Some, None, Result, Ok, refl, sym, subst, ◌∙◌, arith}
+use Rattle.std.proofs.Common.{◌≡◌, ℕ, List, [], ◌∷◌, ◌++◌, Option, Some, None, Result, Ok, refl, ap, sym, subst, ◌∙◌, arith}
 use Rattle.std.specs.Option.{option_or}
 use Rattle.json_text.specs.Forest.{Forest}
+use Rattle.turn_cell.specs.declared.error.ApiErr.{ApiErr}
 use Rattle.turn_cell.specs.declared.error.Exhausted.{Exhausted}
 use Rattle.ledger_core.specs.declared.command.LedgerCmd.TheVariants.{Counts}
 use Rattle.ledger_core.specs.declared.reply.LedgerReply.{LedgerReply}
@@ -9,13 +10,15 @@ use Rattle.ledger_core.specs.declared.reply.LedgerReply.TheVariants as says
 use Rattle.topic_spec.specs.declared.sub.Rule.{Rule}
 use Rattle.delivery_turn.specs.Samples.{ledger_step}
 use Rattle.conn_serve.specs.declared.ended.Ended.TheVariants as ends
+use Rattle.conn_serve.specs.Exchanged.{Unanswered}
 use Rattle.sidecar_core.specs.declared.doing.Doing.{Doing}
 use Rattle.sidecar_core.specs.Delivery.{Counted, stepped}
 use Rattle.sidecar_core.specs.Delivery as count
 use Rattle.session_laws.specs.Draining.{is_done}
 use Rattle.session_laws.specs.Messaging.{IsOrder, publishes_order, shop_setup, shop_subs, takes_order}
 use Rattle.session_laws.specs.Publishing.{Stamp}
-use Rattle.session_laws.specs.Running.{CountsFrom, PlaysRun, ShopRuns, counted, counts_one, drains_order, has_no_list, none_left, played, spent_in}
+use Rattle.session_laws.specs.Routed.{Setup}
+use Rattle.session_laws.specs.Running.{CountsFrom, PlaysRun, ShopRuns, TellsSpent, counted, counts_one, drains_order, has_no_list, none_left, played, run_code, spent_early, spent_in, spent_of}
 use Rattle.session_laws.specs.Sessions.{no_content}
 use Rattle.session_laws.specs.Starting.{list_call}
 use Rattle.session_laws.proofs.Draining.{delivered}
@@ -45,6 +48,12 @@ module _ (rules : List Rule) (stamp : Stamp) (event : List ℕ) (values : Forest
 
 pub runs : (rules : List Rule) → ShopRuns rules
 runs rules stamp event values now message = played (shop_subs rules) (list_call 8080 (Ok has_no_list) ∷ []) (asked rules) (plays rules stamp event values now message) refl
+
+-- ---- a request that met an exhausted cell
+
+pub told_spent : (setup : Setup) → TellsSpent setup
+told_spent setup input events output code run next count same met =
+    run.status ∙ ap (λ (o : Option (Unanswered Doing)). run_code run.ended run.how (option_or (spent_early o) run.spent)) same ∙ ap (λ (e : ApiErr). run_code run.ended run.how (option_or (spent_of e) run.spent)) met
 
 -- ---- a ledger that was not counted
 

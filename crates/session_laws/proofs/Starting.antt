@@ -16,31 +16,31 @@ use Rattle.session_laws.specs.Starting.{EndsByLink, HasMissed, HasNoFault, LinkA
 not_good : (status : ℕ) → status ≡ 404 → status ≢ 200
 not_good status is e = let bad : ⊥ = omega (arith, is, e) in bad
 
-kept_all : (rules : List Rule) → kept shop_config.components shop_config.app (shop_subs rules) ≡ shop_subs rules
+kept_all : (rules : List Rule) → kept (shop_config rules).components (shop_config rules).app (shop_subs rules) ≡ shop_subs rules
 unfolding is_kept
 kept_all rules = refl
 
-pub asked : (rules : List Rule) → Starts shop_config (shop_subs rules) (Some 8080) (list_call 8080 (Ok has_no_list) ∷ []) (goes_on (shop_subs rules))
+pub asked : (rules : List Rule) → Starts (shop_config rules) (Some 8080) (list_call 8080 (Ok has_no_list) ∷ []) (goes_on (shop_subs rules))
 asked rules = asks 8080 (Ok has_no_list) (goes_on (shop_subs rules))
-    (subst (λ s. StartsBy shop_config (shop_subs rules) (Ok has_no_list) (goes_on s)) (kept_all rules) (answered has_no_list (Ok []) (none (not_good 404 refl) refl)))
+    (subst (λ s. StartsBy (shop_config rules) (Ok has_no_list) (goes_on s)) (kept_all rules) (answered has_no_list (Ok []) (none (not_good 404 refl) refl)))
 
-pub missed : (config : Config) (declared : List Sub) (port : ℕ) → Starts config declared (Some port) (list_call port (Err miss.Failed) ∷ []) (unanswered miss.Failed)
-missed config declared port = asks port (Err miss.Failed) (unanswered miss.Failed) failed
+pub missed : (config : Config) (port : ℕ) → Starts config (Some port) (list_call port (Err miss.Failed) ∷ []) (unanswered miss.Failed)
+missed config port = asks port (Err miss.Failed) (unanswered miss.Failed) failed
 
 -- ---- what no start does
 
-pub not_uncalled : (config : Config) (declared : List Sub) (port : ℕ) (subs : List Sub) → Starts config declared (Some port) [] (goes_on subs) → ⊥
-not_uncalled config declared port subs s = by (Some port) [] (goes_on subs) s refl refl refl
+pub not_uncalled : (config : Config) (port : ℕ) (subs : List Sub) → Starts config (Some port) [] (goes_on subs) → ⊥
+not_uncalled config port subs s = by (Some port) [] (goes_on subs) s refl refl refl
   where
-    by : (at : _) (calls : List LinkCall) (start : Start) → Starts config declared at calls start → at ≡ Some port → calls ≡ [] → start ≡ goes_on subs → ⊥
+    by : (at : _) (calls : List LinkCall) (start : Start) → Starts config at calls start → at ≡ Some port → calls ≡ [] → start ≡ goes_on subs → ⊥
     by at calls start alone e f g = absurd (cc)
     by at calls start (asks other answer begun so) e f g = absurd (cc)
     by at calls start (unasked other) e f g = absurd (cc)
 
-pub not_portless : (config : Config) (declared : List Sub) (call : LinkCall) (calls : List LinkCall) (start : Start) → Starts config declared None (call ∷ calls) start → ⊥
-not_portless config declared call calls start s = by None (call ∷ calls) start s refl refl
+pub not_portless : (config : Config) (call : LinkCall) (calls : List LinkCall) (start : Start) → Starts config None (call ∷ calls) start → ⊥
+not_portless config call calls start s = by None (call ∷ calls) start s refl refl
   where
-    by : (at : _) (all : List LinkCall) (start : Start) → Starts config declared at all start → at ≡ None → all ≡ call ∷ calls → ⊥
+    by : (at : _) (all : List LinkCall) (start : Start) → Starts config at all start → at ≡ None → all ≡ call ∷ calls → ⊥
     by at all start alone e f = absurd (cc)
     by at all start (asks other answer begun so) e f = absurd (cc)
     by at all start (unasked other) e f = absurd (cc)

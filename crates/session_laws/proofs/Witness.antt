@@ -35,7 +35,7 @@ use Rattle.session_laws.proofs.Plain.{none_alone}
 -- ---- what was sent
 
 abbrev sent : Sent
-sent = sent_by shop_config order_request (codes "pubsub") (codes "orders")
+sent = sent_by (shop_config []) order_request (codes "pubsub") (codes "orders")
 
 abbrev event_type : List ℕ
 event_type = codes "application/cloudevents+json"

@@ -25,7 +25,7 @@ abbrev pub with_binding : Config
 with_binding = record usual { components = h_component ∷ [] }
 
 abbrev pub binding_setup : Setup
-binding_setup = record { config = with_binding; apps = record { port = None; peers = [] }; subs = [] }
+binding_setup = record { config = with_binding; apps = record { port = None; peers = [] } }
 
 -- a request to it with this body
 abbrev pub asks_binding : List ℕ → Request

@@ -4,7 +4,6 @@ use Rattle.side_world.specs.declared.link.LinkCall.{LinkCall}
 use Rattle.ledger_core.specs.Message.{Step}
 use Rattle.policy_spec.specs.Policies.{bound_by, inbound}
 use Rattle.resource_spec.specs.Component.{Loaded}
-use Rattle.topic_spec.specs.declared.sub.Sub.{Sub}
 use Rattle.policy_run.specs.Event.{Event}
 use Rattle.delivery_turn.specs.declared.turn.Turn.{Turn}
 use Rattle.delivery_turn.specs.declared.turn.Turn.TheVariants.{Idle}
@@ -70,13 +69,13 @@ pub data DeliversFrom : ℕ → List Setting → List Doing → Turn → Type 0 
 -- ---- by what is configured
 
 -- what a turn on the ledger of a pub/sub component stands on
-abbrev pub setting_of : Config → List Sub → ℕ → Loaded → Setting
-setting_of config subs port c = record { port = port; subs = subs; bound = bound_by config.policies (inbound c.name) }
+abbrev pub setting_of : Config → ℕ → Loaded → Setting
+setting_of config port c = record { port = port; subs = config.subs; bound = bound_by config.policies (inbound c.name) }
 
 -- without an app port there is no step, and nothing will be due; with one, a turn of all brokers in order
-abbrev pub DeliversBy : Config → List Sub → Option ℕ → List Doing → Turn → Type 0
-DeliversBy config subs None events turn = (events ≡ []) × (turn ≡ Idle None)
-DeliversBy config subs (Some port) events turn = DeliversFrom 0 (map (setting_of config subs port) (pubsubs_of config.components)) events turn
+abbrev pub DeliversBy : Config → Option ℕ → List Doing → Turn → Type 0
+DeliversBy config None events turn = (events ≡ []) × (turn ≡ Idle None)
+DeliversBy config (Some port) events turn = DeliversFrom 0 (map (setting_of config port) (pubsubs_of config.components)) events turn
 
 -- ---- a ledger behind one that is idle
 

@@ -82,19 +82,23 @@ publishes_at subs stamp event values number = stamps stamp ++ Entered 0 (record 
   mark = 0;
 }) ∷ []
 
+-- a sidecar with these subscriptions
+abbrev pub subscribed : List Sub → Config
+subscribed subs = record usual { subs = subs }
+
 -- whatever its event is, that message is published
 abbrev pub TakesMessages : List Sub → Type 0
-TakesMessages subs = (stamp : Stamp) (event : List ℕ) (values : Forest) (number : ℕ) → IsMessage subs (sent_by usual asks_publish (codes "pubsub") (codes "orders")) stamp event values
-    → PublishAnswers usual subs asks_publish (codes "pubsub") (codes "orders") (publishes_at subs stamp event values number) (Ok done)
+TakesMessages subs = (stamp : Stamp) (event : List ℕ) (values : Forest) (number : ℕ) → IsMessage subs (sent_by (subscribed subs) asks_publish (codes "pubsub") (codes "orders")) stamp event values
+    → PublishAnswers (subscribed subs) asks_publish (codes "pubsub") (codes "orders") (publishes_at subs stamp event values number) (Ok done)
 
 -- ---- events of no message
 
 -- a ledger takes it first of all
-abbrev pub NoneUnstamped : Config → List Sub → Request → Type 0
-NoneUnstamped config subs request = (pubsub topic : List ℕ) (place : ℕ) (step : Step) (events : List Doing) (reply : Result Response ApiErr)
-    → ¬ PublishAnswers config subs request pubsub topic (Entered place step ∷ events) reply
+abbrev pub NoneUnstamped : Config → Request → Type 0
+NoneUnstamped config request = (pubsub topic : List ℕ) (place : ℕ) (step : Step) (events : List Doing) (reply : Result Response ApiErr)
+    → ¬ PublishAnswers config request pubsub topic (Entered place step ∷ events) reply
 
 -- its broker isn't there, and something is done
-abbrev pub NothingNowhere : Config → List Sub → Request → Type 0
-NothingNowhere config subs request = (pubsub topic : List ℕ) (event : Doing) (events : List Doing) (reply : Result Response ApiErr)
-    → HasNoBroker config pubsub → ¬ PublishAnswers config subs request pubsub topic (event ∷ events) reply
+abbrev pub NothingNowhere : Config → Request → Type 0
+NothingNowhere config request = (pubsub topic : List ℕ) (event : Doing) (events : List Doing) (reply : Result Response ApiErr)
+    → HasNoBroker config pubsub → ¬ PublishAnswers config request pubsub topic (event ∷ events) reply

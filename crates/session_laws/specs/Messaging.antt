@@ -40,7 +40,7 @@ told_of (came.Exhausted count) = turns.Exhausted count
 -- a turn on the ledgers of all brokers
 pub record Deliveries (setup : Setup) (events : List Doing) (turn : Turn) : Type 0 where
   pub came : Came
-  pub delivers : DeliversBy setup.config setup.subs setup.apps.port events came
+  pub delivers : DeliversBy setup.config setup.apps.port events came
   pub told : turn ≡ told_of came
 
 -- what a worker does by these answers where messages are served
@@ -49,20 +49,21 @@ WorkedWith setup answers events exit = WorkedBy (ExchangeBy setup) (Deliveries s
 
 -- ---- a message that is published and delivered
 
--- the app `shop`: a delivery that fails is made again up to twice, 100 ms apart
-abbrev pub shop_config : Config
-shop_config = record usual {
-  app = codes "shop";
-  policies = record { apps = []; outbound = []; inbound = (codes "pubsub", record { timeout_ms = None; retry = Some few; breaker = None }) ∷ []; breakers = [] };
-}
-
 -- to `orders`, whatever the rules are, and to its dead-letter topic
 abbrev pub shop_subs : List Rule → List Sub
 shop_subs rules = orders rules ∷ letters ∷ []
 
+-- the app `shop`, with these subscriptions: a delivery that fails is made again up to twice, 100 ms apart
+abbrev pub shop_config : List Rule → Config
+shop_config rules = record usual {
+  app = codes "shop";
+  subs = shop_subs rules;
+  policies = record { apps = []; outbound = []; inbound = (codes "pubsub", record { timeout_ms = None; retry = Some few; breaker = None }) ∷ []; breakers = [] };
+}
+
 -- it listens on the port 8080, and knows no other app
 abbrev pub shop_setup : List Rule → Setup
-shop_setup rules = record { config = shop_config; apps = record { port = Some 8080; peers = [] }; subs = shop_subs rules }
+shop_setup rules = record { config = shop_config rules; apps = record { port = Some 8080; peers = [] } }
 
 abbrev pub order_body : List ℕ
 order_body = codes "{\"id\":\"7\",\"data\":{\"n\":1}}"
@@ -111,7 +112,7 @@ delivers_order now later event = Timed now ∷ Entered 0 (ledger_step (Take now)
 
 -- the event of the message with this stamp, and its values
 abbrev pub IsOrder : List Rule → Stamp → List ℕ → Forest → Type 0
-IsOrder rules stamp event values = IsMessage (shop_subs rules) (sent_by shop_config order_request (codes "pubsub") (codes "orders")) stamp event values
+IsOrder rules stamp event values = IsMessage (shop_subs rules) (sent_by (shop_config rules) order_request (codes "pubsub") (codes "orders")) stamp event values
 
 -- at 0, with these words, the message has the event of 159 bytes that is written out, which is a JSON text
 abbrev pub HasOrderEvent : List Rule → ℕ → ℕ → Type 0

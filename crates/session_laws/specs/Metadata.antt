@@ -12,7 +12,7 @@ use Rattle.session_laws.specs.Stores.{usual}
 
 -- a sidecar that knows the app `b`, and has no subscriptions
 abbrev pub invoke_setup : Setup
-invoke_setup = record { config = usual; apps = one_peer; subs = [] }
+invoke_setup = record { config = usual; apps = one_peer }
 
 -- the book has no entries
 abbrev pub lists_nothing : List Doing

@@ -129,10 +129,10 @@ pub data Publishes (place : ℕ) (subs : List Sub) (sent : Sent) (events : List 
 -- ---- all
 
 -- a request to publish: the component of its name is looked for first, and then its scopes are asked
-pub data PublishAnswers (config : Config) (subs : List Sub) (request : Request) (pubsub topic : List ℕ) (events : List Doing) (reply : Result Response ApiErr) : Type 0 where
-  lacks_memory : Lacks events reply → PublishAnswers config subs request pubsub topic events reply
-  unknown : HasNoBroker config pubsub → Gives (no_broker pubsub) events reply → PublishAnswers config subs request pubsub topic events reply
+pub data PublishAnswers (config : Config) (request : Request) (pubsub topic : List ℕ) (events : List Doing) (reply : Result Response ApiErr) : Type 0 where
+  lacks_memory : Lacks events reply → PublishAnswers config request pubsub topic events reply
+  unknown : HasNoBroker config pubsub → Gives (no_broker pubsub) events reply → PublishAnswers config request pubsub topic events reply
   denied : (place : ℕ) (component : Loaded) → IsBroker config pubsub place component → may_publish component config.app topic ≡ false → Gives (forbidden topic) events reply
-      → PublishAnswers config subs request pubsub topic events reply
+      → PublishAnswers config request pubsub topic events reply
   published : (place : ℕ) (component : Loaded) → IsBroker config pubsub place component → may_publish component config.app topic ≡ true
-      → Publishes place subs (sent_by config request pubsub topic) events reply → PublishAnswers config subs request pubsub topic events reply
+      → Publishes place config.subs (sent_by config request pubsub topic) events reply → PublishAnswers config request pubsub topic events reply

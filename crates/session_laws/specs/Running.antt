@@ -2,6 +2,8 @@
 use Rattle.std.specs.Prelude.{◌≡◌, ◌≤◌, ℕ, zero, suc, List, [], ◌∷◌, ◌++◌, flat_map, length, take, Option, Some, None, Result, Ok, Err}
 use Rattle.std.specs.Option.{option_or}
 use Rattle.side_world.specs.declared.link.LinkCall.{LinkCall}
+use Rattle.turn_cell.specs.declared.error.ApiErr.{ApiErr}
+use Rattle.turn_cell.specs.declared.error.ApiErr.TheVariants as error
 use Rattle.turn_cell.specs.declared.error.Exhausted.{Exhausted}
 use Rattle.side_base.specs.declared.message.Response.{Response}
 use Rattle.json_text.specs.Forest.{Forest}
@@ -25,7 +27,7 @@ use Rattle.sidecar_core.specs.Invoking.{Apps}
 use Rattle.sidecar_core.specs.Sites.{pubsubs_of}
 use Rattle.session_laws.specs.Delivering.{DeliversBy}
 use Rattle.session_laws.specs.Draining.{Drain, Drained, is_done, is_held, is_spent, used_up}
-use Rattle.session_laws.specs.Messaging.{IsOrder, delivers_order, order_call, publishes_order, shop_config, shop_subs, takes_order}
+use Rattle.session_laws.specs.Messaging.{IsOrder, delivers_order, order_call, publishes_order, shop_config, takes_order}
 use Rattle.session_laws.specs.Publishing.{Stamp}
 use Rattle.session_laws.specs.Routed.{ExchangeBy, Setup}
 use Rattle.session_laws.specs.Sessions.{no_content}
@@ -71,7 +73,16 @@ drained_code ended is_held = held_code (code_of ended)
 drained_code ended (is_spent count) = 7
 drained_code ended used_up = code_of ended
 
--- the same of a cell that was exhausted as the ledgers were counted
+-- what a request that ended early read of an exhausted cell, however the session ended behind it
+abbrev pub spent_of : ApiErr → Option ℕ
+spent_of (error.Exhausted count) = Some count
+spent_of error.NoMemory = None
+
+abbrev pub spent_early : Option (Unanswered Doing) → Option ℕ
+spent_early None = None
+spent_early (Some next) = spent_of next.error
+
+-- the same of a cell that was exhausted for a request, or as the ledgers were counted
 abbrev pub run_code : Ended → Drained → Option ℕ → ℕ
 run_code ended how None = drained_code ended how
 run_code ended how (Some count) = 7
@@ -85,7 +96,7 @@ start_code lacks = 5
 
 -- ---- all
 
--- What was served with these subscriptions: one session; the drain behind it; and each ledger was counted
+-- What was served: one session; the drain behind it; and each ledger was counted
 pub record PlaysRun (setup : Setup) (input : List ℕ) (events : List Doing) (output : List ℕ) (code : ℕ) : Type 0 where
   pub done : List (Exchanged Doing)
   pub more : Option (Unanswered Doing)
@@ -96,18 +107,24 @@ pub record PlaysRun (setup : Setup) (input : List ℕ) (events : List Doing) (ou
   pub results : List (Result LedgerReply Exhausted)
   pub spent : Option ℕ
   pub session : Session (ExchangeBy setup) input done more (λ out. output ≡ out) (λ out. (k : ℕ) × (k ≤ length out) × (output ≡ take k out)) ended
-  pub drained : Drain (DeliversBy setup.config setup.subs setup.apps.port) drain how
+  pub drained : Drain (DeliversBy setup.config setup.apps.port) drain how
   pub counted : CountsFrom 0 (length (pubsubs_of setup.config.components)) counting results spent
   pub whole : events ≡ trace_of done more ++ drain ++ counting
-  pub status : code ≡ run_code ended how spent
+  pub status : code ≡ run_code ended how (option_or (spent_early more) spent)
 
--- A run: its start asks the app for its list. Where it goes on, one connection is played, and all calls of the link are those of the start and then those of what was done.
+-- a request met an exhausted cell, and the status is 7
+abbrev pub TellsSpent : Setup → Type 0
+TellsSpent setup = (input : List ℕ) (events : List Doing) (output : List ℕ) (code : ℕ) (run : PlaysRun setup input events output code) (next : Unanswered Doing) (count : ℕ)
+    → run.more ≡ Some next → next.error ≡ error.Exhausted count → code ≡ 7
+
+-- A run: its start asks the app for its list. Where it goes on with some subscriptions, one connection is played with these in the configuration, and all calls of the link are
+-- those of the start and then those of what was done.
 -- Where it doesn't, nothing is read or written
-pub data Runs (config : Config) (apps : Apps) (declared : List Sub) (input : List ℕ) (calls : List LinkCall) (events : List Doing) (output : List ℕ) (code : ℕ) : Type 0 where
-  played : (subs : List Sub) (first : List LinkCall) → Starts config declared apps.port first (goes_on subs) → PlaysRun (record { config = config; apps = apps; subs = subs }) input events output code
-      → calls ≡ first ++ flat_map asked_in events → Runs config apps declared input calls events output code
-  refused : (start : Start) → Starts config declared apps.port calls start → ((subs : List Sub) → ¬ (start ≡ goes_on subs)) → events ≡ [] → output ≡ [] → input ≡ [] → code ≡ start_code start
-      → Runs config apps declared input calls events output code
+pub data Runs (config : Config) (apps : Apps) (input : List ℕ) (calls : List LinkCall) (events : List Doing) (output : List ℕ) (code : ℕ) : Type 0 where
+  played : (subs : List Sub) (first : List LinkCall) → Starts config apps.port first (goes_on subs) → PlaysRun (record { config = record config { subs = subs }; apps = apps }) input events output code
+      → calls ≡ first ++ flat_map asked_in events → Runs config apps input calls events output code
+  refused : (start : Start) → Starts config apps.port calls start → ((subs : List Sub) → ¬ (start ≡ goes_on subs)) → events ≡ [] → output ≡ [] → input ≡ [] → code ≡ start_code start
+      → Runs config apps input calls events output code
 
 -- ---- a run of the shop
 
@@ -133,7 +150,7 @@ drains_order now event = Timed now ∷ delivers_order now now event ++ is_idle_a
 -- the message is published and then delivered; it is counted, and the status is 0
 abbrev pub ShopRuns : List Rule → Type 0
 ShopRuns rules = (stamp : Stamp) (event : List ℕ) (values : Forest) (now : ℕ) → IsOrder rules stamp event values
-    → Runs shop_config shop_apps (shop_subs rules) publishes_order (list_call 8080 (Ok has_no_list) ∷ order_call event ∷ []) (takes_order rules stamp event values ++ drains_order now event ++ counts_one) no_content 0
+    → Runs (shop_config rules) shop_apps publishes_order (list_call 8080 (Ok has_no_list) ∷ order_call event ∷ []) (takes_order rules stamp event values ++ drains_order now event ++ counts_one) no_content 0
 
 -- none is due before 100, so that there is a pause, and then a message is delivered
 abbrev pub drains_later : List ℕ → List Doing

@@ -47,10 +47,10 @@ abbrev pub kept_by : Config → Result (List Sub) SubErr → Result (List Sub) S
 kept_by config (Err e) = Err e
 kept_by config (Ok subs) = Ok (kept config.components config.app subs)
 
--- the subscriptions stand behind those that were declared, and those that the app may have are kept
-abbrev pub joined_with : Config → List Sub → Result (List Sub) SubErr → Result (List Sub) SubErr
-joined_with config declared (Err e) = Err e
-joined_with config declared (Ok more) = kept_by config (joined declared more)
+-- the subscriptions stand behind those that were declared, which a configuration has before its start; and those that the app may have are kept
+abbrev pub joined_with : Config → Result (List Sub) SubErr → Result (List Sub) SubErr
+joined_with config (Err e) = Err e
+joined_with config (Ok more) = kept_by config (joined config.subs more)
 
 -- ---- what a start comes to
 
@@ -66,18 +66,18 @@ start_of (Ok subs) = goes_on subs
 start_of (Err e) = is_refused e
 
 -- what an answer to the call makes of the start
-pub data StartsBy (config : Config) (declared : List Sub) : Result Response LinkErr → Start → Type 0 where
-  answered : (response : Response) (said : Result (List Sub) SubErr) → IsSaid response said → StartsBy config declared (Ok response) (start_of (joined_with config declared said))
-  failed : StartsBy config declared (Err miss.Failed) (unanswered miss.Failed)
-  expired : StartsBy config declared (Err miss.Expired) (unanswered miss.Expired)
-  no_room : (answer : Result Response LinkErr) → StartsBy config declared answer lacks
+pub data StartsBy (config : Config) : Result Response LinkErr → Start → Type 0 where
+  answered : (response : Response) (said : Result (List Sub) SubErr) → IsSaid response said → StartsBy config (Ok response) (start_of (joined_with config said))
+  failed : StartsBy config (Err miss.Failed) (unanswered miss.Failed)
+  expired : StartsBy config (Err miss.Expired) (unanswered miss.Expired)
+  no_room : (answer : Result Response LinkErr) → StartsBy config answer lacks
 
 -- Without an app port there is no call, and no subscription; with one there is one call
-pub data Starts (config : Config) (declared : List Sub) : Option ℕ → List LinkCall → Start → Type 0 where
-  alone : Starts config declared None [] (goes_on [])
-  asks : (port : ℕ) (answer : Result Response LinkErr) (start : Start) → StartsBy config declared answer start → Starts config declared (Some port) (list_call port answer ∷ []) start
-  -- there is no memory for the call
-  unasked : (port : ℕ) → Starts config declared (Some port) [] lacks
+pub data Starts (config : Config) : Option ℕ → List LinkCall → Start → Type 0 where
+  alone : Starts config None [] (goes_on [])
+  asks : (port : ℕ) (answer : Result Response LinkErr) (start : Start) → StartsBy config answer start → Starts config (Some port) (list_call port answer ∷ []) start
+  -- there is no memory, before a call
+  unasked : (at : Option ℕ) → Starts config at [] lacks
 
 -- ---- why a run ends by its link
 

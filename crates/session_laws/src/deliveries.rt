@@ -1,6 +1,5 @@
 //! Turns of delivery over all objects.
 ghost use Rattle.std.specs.Prelude.{◌≡◌, ◌≢◌, ◌∷◌, ℕ, List, [], flat_map, unwrap_or, None};
-ghost use Rattle.topic_spec.specs.declared.sub.Sub.{Sub};
 ghost use Rattle.policy_run.specs.Event.{Event, own_of, step_of};
 ghost use Rattle.delivery_turn.specs.declared.turn.Turn.{Turn};
 ghost use Rattle.delivery_turn.specs.declared.turn.Turn.TheVariants.{Idle};
@@ -25,6 +24,6 @@ pub fn a_delivery_keeps_to_its_ledger()
 pub fn ledgers_are_asked_in_order()
     ensures first { (setting : Setting) (settings : List Setting) (did : List (Event Own)) (turn : Turn) → Delivery setting did turn → ¬ IsIdle turn → DeliversFrom 0 (setting ∷ settings) (turn_events 0 setting did) turn }
     ensures second { (one two : Setting) (settings : List Setting) → GoesPast one two settings }
-    ensures nowhere { (config : Config) (subs : List Sub) → DeliversBy config subs None [] (Idle None) }
-    ensures quiet { (config : Config) (subs : List Sub) (event : Doing) (events : List Doing) (turn : Turn) → ¬ DeliversBy config subs None (event ∷ events) turn }
+    ensures nowhere { (config : Config) → DeliversBy config None [] (Idle None) }
+    ensures quiet { (config : Config) (event : Doing) (events : List Doing) (turn : Turn) → ¬ DeliversBy config None (event ∷ events) turn }
 {}

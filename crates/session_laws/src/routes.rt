@@ -100,6 +100,6 @@ pub fn a_body_becomes_its_event()
 
 /// No ledger takes a message that wasn't stamped, and nothing is done for a broker that isn't there.
 pub fn wrong_messages_are_refused()
-    ensures unstamped { (config : Config) (subs : List Sub) (request : Request) → NoneUnstamped config subs request }
-    ensures nowhere { (config : Config) (subs : List Sub) (request : Request) → NothingNowhere config subs request }
+    ensures unstamped { (config : Config) (request : Request) → NoneUnstamped config request }
+    ensures nowhere { (config : Config) (request : Request) → NothingNowhere config request }
 {}

@@ -16,22 +16,23 @@ ghost use Rattle.sidecar_core.specs.declared.doing.Doing.TheVariants.{Timed};
 ghost use Rattle.session_laws.specs.Delivering.{DeliversBy};
 ghost use Rattle.session_laws.specs.Draining.{Drain, Drained, GoesOn, Stops, is_done, is_held, is_spent};
 ghost use Rattle.session_laws.specs.Messaging.{shop_config, shop_subs};
-ghost use Rattle.session_laws.specs.Running.{CountsFrom, ShopRuns, drains_later, drains_order, has_no_list, run_code, start_code};
+ghost use Rattle.session_laws.specs.Routed.{Setup};
+ghost use Rattle.session_laws.specs.Running.{CountsFrom, ShopRuns, TellsSpent, drains_later, drains_order, has_no_list, run_code, start_code};
 ghost use Rattle.session_laws.specs.Starting.{EndsByLink, HasNoFault, LinkAt, Start, Starts, goes_on, list_call, unanswered};
 
 /// Behind the connection a moment is read, and then turns are taken until none is due: without an app port the first is the last; with one
 /// a message is delivered, after a pause where it is due later.
 pub fn what_is_due_is_delivered()
-    ensures alone { (config : Config) (subs : List Sub) (now : ℕ) → Drain (DeliversBy config subs None) (Timed now ∷ []) is_done }
-    ensures delivered { (rules : List Rule) (now : ℕ) (event : List ℕ) → Drain (DeliversBy shop_config (shop_subs rules) (Some 8080)) (drains_order now event) is_done }
-    ensures later { (rules : List Rule) (event : List ℕ) → Drain (DeliversBy shop_config (shop_subs rules) (Some 8080)) (drains_later event) is_done }
+    ensures alone { (config : Config) (now : ℕ) → Drain (DeliversBy config None) (Timed now ∷ []) is_done }
+    ensures delivered { (rules : List Rule) (now : ℕ) (event : List ℕ) → Drain (DeliversBy (shop_config rules) (Some 8080)) (drains_order now event) is_done }
+    ensures later { (rules : List Rule) (event : List ℕ) → Drain (DeliversBy (shop_config rules) (Some 8080)) (drains_later event) is_done }
 {}
 
 /// No drain is without its moment, and without an app port it does nothing more. It does not wait for what is due after more than 60,000 ms, and
 /// does not end before what is due within them.
 pub fn wrong_drains_are_refused()
-    ensures unread { (config : Config) (subs : List Sub) (port : Option ℕ) (how : Drained) → ¬ Drain (DeliversBy config subs port) [] how }
-    ensures busy { (config : Config) (subs : List Sub) (now : ℕ) (event : Doing) (events : List Doing) (how : Drained) → ¬ Drain (DeliversBy config subs None) (Timed now ∷ event ∷ events) how }
+    ensures unread { (config : Config) (port : Option ℕ) (how : Drained) → ¬ Drain (DeliversBy config port) [] how }
+    ensures busy { (config : Config) (now : ℕ) (event : Doing) (events : List Doing) (how : Drained) → ¬ Drain (DeliversBy config None) (Timed now ∷ event ∷ events) how }
     ensures late { (between : List Doing) → ¬ GoesOn 0 0 (Idle (Some 60001)) between }
     ensures soon { (how : Drained) → ¬ Stops 0 (Idle (Some 60000)) how }
 {}
@@ -39,14 +40,14 @@ pub fn wrong_drains_are_refused()
 /// With an app port the app is asked for its list once; a reply of 404 gives none beside those that are declared, and a fault of the link
 /// ends the start.
 pub fn the_app_is_asked_for_its_list()
-    ensures asked { (rules : List Rule) → Starts shop_config (shop_subs rules) (Some 8080) (list_call 8080 (Ok has_no_list) ∷ []) (goes_on (shop_subs rules)) }
-    ensures failed { (config : Config) (declared : List Sub) (port : ℕ) → Starts config declared (Some port) (list_call port (Err Failed) ∷ []) (unanswered Failed) }
+    ensures asked { (rules : List Rule) → Starts (shop_config rules) (Some 8080) (list_call 8080 (Ok has_no_list) ∷ []) (goes_on (shop_subs rules)) }
+    ensures failed { (config : Config) (port : ℕ) → Starts config (Some port) (list_call port (Err Failed) ∷ []) (unanswered Failed) }
 {}
 
 /// No start goes on that has not asked the app, where it has a port, and none calls the link where it has none.
 pub fn wrong_starts_are_refused()
-    ensures uncalled { (config : Config) (declared : List Sub) (port : ℕ) (subs : List Sub) → ¬ Starts config declared (Some port) [] (goes_on subs) }
-    ensures portless { (config : Config) (declared : List Sub) (call : LinkCall) (calls : List LinkCall) (start : Start) → ¬ Starts config declared None (call ∷ calls) start }
+    ensures uncalled { (config : Config) (port : ℕ) (subs : List Sub) → ¬ Starts config (Some port) [] (goes_on subs) }
+    ensures portless { (config : Config) (call : LinkCall) (calls : List LinkCall) (start : Start) → ¬ Starts config None (call ∷ calls) start }
 {}
 
 /// A run does not end by its link where no count of it rose, nor where something was read.
@@ -65,6 +66,11 @@ pub fn a_run_has_one_status()
     ensures counted { (count : ℕ) → run_code ClosedByPeer is_held (Some count) ≡ 7 }
     ensures session { (count : ℕ) → run_code (Spent count) is_held None ≡ 7 }
     ensures link { start_code (unanswered Failed) ≡ 4 }
+{}
+
+/// Where a request met an exhausted cell the status is 7, also where the sink failed as that was being told.
+pub fn a_request_that_met_an_exhausted_cell_is_told()
+    ensures { (setup : Setup) → TellsSpent setup }
 {}
 
 /// A run asks the app for its list, takes a message on its connection, delivers it behind it, counts the ledger, and ends with 0; the link

@@ -9,7 +9,7 @@ pub returns-clause-second : goal.returns-clause-second
 returns-clause-second c one two settings idle did next turn none delivery busy = second one two settings idle did next turn none delivery busy
 
 pub returns-clause-nowhere : goal.returns-clause-nowhere
-returns-clause-nowhere c config subs = (refl, refl)
+returns-clause-nowhere c config = (refl, refl)
 
 pub returns-clause-quiet : goal.returns-clause-quiet
-returns-clause-quiet c config subs event events turn did = let is : event ∷ events ≡ [] = did.0 in absurd (cc)
+returns-clause-quiet c config event events turn did = let is : event ∷ events ≡ [] = did.0 in absurd (cc)

@@ -5,4 +5,4 @@ pub returns-clause-asked : goal.returns-clause-asked
 returns-clause-asked c rules = asked rules
 
 pub returns-clause-failed : goal.returns-clause-failed
-returns-clause-failed c config declared port = missed config declared port
+returns-clause-failed c config port = missed config port

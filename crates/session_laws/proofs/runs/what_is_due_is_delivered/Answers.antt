@@ -2,7 +2,7 @@ use Rattle.session_laws.proofs.Draining.{alone, delivered, later}
 use Rattle.session_laws.proofs.runs.what_is_due_is_delivered.Goals as goal
 
 pub returns-clause-alone : goal.returns-clause-alone
-returns-clause-alone c config subs now = alone config subs now
+returns-clause-alone c config now = alone config now
 
 pub returns-clause-delivered : goal.returns-clause-delivered
 returns-clause-delivered c rules now event = delivered rules now event
