@@ -7,4 +7,3 @@ mod requests;
 mod script;
 mod session;
 mod sidecar;
-mod splitting;

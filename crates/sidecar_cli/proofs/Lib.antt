@@ -8,3 +8,4 @@ mod Noted
 mod ServeCauses
 mod Serves
 mod Shown
+mod Unsubscribed

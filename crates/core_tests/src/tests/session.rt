@@ -162,7 +162,7 @@ fn answered<K: Keeper, W: Wait>(
 }
 
 /// How a session ended that was answered over these objects; a pass that was alone is alone.
-pub(super) fn served<K: Keeper, W: Wait>(
+fn served<K: Keeper, W: Wait>(
     rt: &W,
     alloc: Global,
     shared: &Shared<K>,
