@@ -232,3 +232,31 @@ line_kept all text at content left len size between was is =
     let P : Option ℕ → Type 0 = λ l. IsInChunks all (drop at text) content l in
     let Q : List ℕ → Type 0 = λ t. IsWithinChunk all t content size in
     subst Q (drop-drop len at text) (line_taken all (drop at text) content len size (subst P between was) is)
+
+-- ---- as more bytes come
+
+more_chunks : (all rest more content : List ℕ) → AreChunks all rest content → AreChunks (all ++ more) (rest ++ more) content
+more_chunks all rest more content is = record {
+  chunks = is.chunks;
+  each = is.each;
+  whole = ap (λ (t : List ℕ). t ++ more) is.whole ∙ append_assoc (cells is.chunks) rest more;
+  joins = is.joins;
+  short = is.short;
+}
+
+pub more_in_chunks : (all rest more content : List ℕ) (left : Option ℕ) → IsInChunks all rest content left → IsInChunks (all ++ more) (rest ++ more) content left
+more_in_chunks all rest more content None is = more_chunks all rest more content is
+more_in_chunks all rest more content (Some left) is =
+    let P : List ℕ → Type 0 = λ t. AreChunks (all ++ more) t is.before in
+    record {
+      before = is.before;
+      line = is.line;
+      part = is.part;
+      chunks = subst P (append_assoc (print_chunk_line is.line) (is.part ++ rest) more
+          ∙ ap (λ (t : List ℕ). print_chunk_line is.line ++ t) (append_assoc is.part rest more)) (more_chunks all _ more is.before is.chunks);
+      valid = is.valid;
+      size = is.size;
+      some = is.some;
+      fits = is.fits;
+      joins = is.joins;
+    }

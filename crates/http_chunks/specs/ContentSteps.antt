@@ -4,6 +4,7 @@ use Rattle.std.specs.List.{flat_map}
 use Rattle.httparse.specs.Grammar.{ChunkLine, print_chunk_line, chunk_size}
 use Rattle.http_chunks.specs.Chunked.{LINE_LIMIT, BODY_LIMIT, Chunk, print_chunk, IsChunk, IsLine, joined, NeverChunked, Overflows, ReadsChunks}
 use Rattle.http_chunks.specs.ChunkSteps.{MayEnd}
+use Rattle.http_chunks.specs.LinePlaces.{IsLooked}
 use Rattle.http_chunks.specs.declared.content.Body.{Body}
 use Rattle.http_chunks.specs.declared.content.ContentStep.{ContentStep}
 use Rattle.http_chunks.specs.declared.content.ContentStep.TheVariants.{Whole, Need, TooLong, Bad}
@@ -72,3 +73,16 @@ EndsIn rest (Whole len) = len ≤ length rest
 EndsIn rest Need = length rest < LINE_LIMIT + LINE_LIMIT
 EndsIn rest TooLong = Unit {0}
 EndsIn rest Bad = Unit {0}
+
+-- whatever text was read up to one place, and the body came of it, is read up to another, and this body comes of it
+abbrev pub KeepsChunks : List ℕ → Body → List ℕ → Body → Type 0
+KeepsChunks rest old rest' new = (all : List ℕ) → IsInChunks all rest old.bytes old.left → IsInChunks all rest' new.bytes new.left
+
+-- what was looked at of one place's rest was so of the other's
+abbrev pub KeepsLooked : List ℕ → Body → List ℕ → Body → Type 0
+KeepsLooked rest old rest' new = IsLooked rest old.left old.looked → IsLooked rest' new.left new.looked
+
+-- whatever text was read up to one place and looked at behind it leads to this step at the other
+abbrev pub LeadsTo : List ℕ → Body → List ℕ → Body → ContentStep → Type 0
+LeadsTo rest old rest' new step =
+    (all : List ℕ) → IsInChunks all rest old.bytes old.left → IsLooked rest old.left old.looked → IsContentStep all rest' new.bytes step

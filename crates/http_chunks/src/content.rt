@@ -1,6 +1,5 @@
-ghost use Rattle.std.specs.Prelude.{◌≡◌, ◌<◌, ◌≤◌, ℕ, List, Some, None, IfOk, IfSome, IsNone, OnErr, length, drop};
-ghost use Rattle.http_chunks.specs.ContentSteps.{IsInChunks, IsBounded, IsTaken, IsContentStep, EndsIn};
-ghost use Rattle.http_chunks.specs.LinePlaces.{IsLooked};
+ghost use Rattle.std.specs.Prelude.{◌≡◌, ◌<◌, ◌≤◌, Some, None, IfOk, IfSome, IsNone, OnErr, length, drop};
+ghost use Rattle.http_chunks.specs.ContentSteps.{IsBounded, IsTaken, EndsIn, KeepsChunks, KeepsLooked, LeadsTo};
 
 use crate::chunks::{ChunkStep, DataRead, read_chunk, read_line_end};
 use crate::line_place::{LinePlace, start_of_line};
@@ -47,10 +46,10 @@ pub fn read_content(
     requires bounded { IsBounded body.old }
     ensures within { at.new ≤ length text.now }
     ensures bounded { IsBounded body.new }
-    ensures looked { IsLooked (drop at.old text.now) body.old.left body.old.looked → IsLooked (drop at.new text.now) body.new.left body.new.looked }
-    ensures kept { (all : List ℕ) → IsInChunks all (drop at.old text.now) body.old.bytes body.old.left → IsInChunks all (drop at.new text.now) body.new.bytes body.new.left }
+    ensures looked { KeepsLooked (drop at.old text.now) body.old (drop at.new text.now) body.new }
+    ensures kept { KeepsChunks (drop at.old text.now) body.old (drop at.new text.now) body.new }
     ensures ends { IfOk result (λ step. EndsIn (drop at.new text.now) step) }
-    ensures step { IfOk result (λ step. (all : List ℕ) → IsInChunks all (drop at.old text.now) body.old.bytes body.old.left → IsLooked (drop at.old text.now) body.old.left body.old.looked → IsContentStep all (drop at.new text.now) body.new.bytes step) }
+    ensures step { IfOk result (λ step. LeadsTo (drop at.old text.now) body.old (drop at.new text.now) body.new step) }
 {
     loop {
         let found = take_step(alloc, text, at, body)?;
@@ -72,10 +71,10 @@ fn take_step(
     ensures within { at.new ≤ length text.now }
     ensures bounded { IsBounded body.new }
     ensures on { IfOk result (λ found. IsNone found → at.old < at.new) }
-    ensures looked { IsLooked (drop at.old text.now) body.old.left body.old.looked → IsLooked (drop at.new text.now) body.new.left body.new.looked }
-    ensures kept { (all : List ℕ) → IsInChunks all (drop at.old text.now) body.old.bytes body.old.left → IsInChunks all (drop at.new text.now) body.new.bytes body.new.left }
+    ensures looked { KeepsLooked (drop at.old text.now) body.old (drop at.new text.now) body.new }
+    ensures kept { KeepsChunks (drop at.old text.now) body.old (drop at.new text.now) body.new }
     ensures ends { IfOk result (λ found. IfSome found (λ step. EndsIn (drop at.new text.now) step)) }
-    ensures step { IfOk result (λ found. IfSome found (λ step. (all : List ℕ) → IsInChunks all (drop at.old text.now) body.old.bytes body.old.left → IsLooked (drop at.old text.now) body.old.left body.old.looked → IsContentStep all (drop at.new text.now) body.new.bytes step)) }
+    ensures step { IfOk result (λ found. IfSome found (λ step. LeadsTo (drop at.old text.now) body.old (drop at.new text.now) body.new step)) }
 {
     match body.left {
         Some(left) => take_data(text, at, body, left),
@@ -96,10 +95,10 @@ fn take_line(
     ensures within { at.new ≤ length text.now }
     ensures bounded { IsBounded body.new }
     ensures on { IfOk result (λ found. IsNone found → at.old < at.new) }
-    ensures looked { IsLooked (drop at.old text.now) body.old.left body.old.looked → IsLooked (drop at.new text.now) body.new.left body.new.looked }
-    ensures kept { (all : List ℕ) → IsInChunks all (drop at.old text.now) body.old.bytes body.old.left → IsInChunks all (drop at.new text.now) body.new.bytes body.new.left }
+    ensures looked { KeepsLooked (drop at.old text.now) body.old (drop at.new text.now) body.new }
+    ensures kept { KeepsChunks (drop at.old text.now) body.old (drop at.new text.now) body.new }
     ensures ends { IfOk result (λ found. IfSome found (λ step. EndsIn (drop at.new text.now) step)) }
-    ensures step { IfOk result (λ found. IfSome found (λ step. (all : List ℕ) → IsInChunks all (drop at.old text.now) body.old.bytes body.old.left → IsLooked (drop at.old text.now) body.old.left body.old.looked → IsContentStep all (drop at.new text.now) body.new.bytes step)) }
+    ensures step { IfOk result (λ found. IfSome found (λ step. LeadsTo (drop at.old text.now) body.old (drop at.new text.now) body.new step)) }
 {
     if let Some(place) = place_on(&text[*at..], body.looked) {
         body.looked = place;
@@ -135,10 +134,10 @@ fn take_data(
     ensures within { at.new ≤ length text.now }
     ensures bounded { IsBounded body.new }
     ensures on { IfOk result (λ found. IsNone found → at.old < at.new) }
-    ensures looked { IsLooked (drop at.old text.now) body.old.left body.old.looked → IsLooked (drop at.new text.now) body.new.left body.new.looked }
-    ensures kept { (all : List ℕ) → IsInChunks all (drop at.old text.now) body.old.bytes body.old.left → IsInChunks all (drop at.new text.now) body.new.bytes body.new.left }
+    ensures looked { KeepsLooked (drop at.old text.now) body.old (drop at.new text.now) body.new }
+    ensures kept { KeepsChunks (drop at.old text.now) body.old (drop at.new text.now) body.new }
     ensures ends { IfOk result (λ found. IfSome found (λ step. EndsIn (drop at.new text.now) step)) }
-    ensures step { IfOk result (λ found. IfSome found (λ step. (all : List ℕ) → IsInChunks all (drop at.old text.now) body.old.bytes body.old.left → IsLooked (drop at.old text.now) body.old.left body.old.looked → IsContentStep all (drop at.new text.now) body.new.bytes step)) }
+    ensures step { IfOk result (λ found. IfSome found (λ step. LeadsTo (drop at.old text.now) body.old (drop at.new text.now) body.new step)) }
 {
     let due = take_due(text, at, body, left)?;
     if due > 0 {

@@ -20,7 +20,7 @@ mod trailers;
 pub use content::{Body, ContentStep, read_content, take_due};
 pub use fields::{FieldPart, are_of_field, field_part};
 pub use line_place::{LinePart, LinePlace, start_of_line};
-pub use trailers::{TrailersRead, section_within};
+pub use trailers::{TrailersRead, read_section};
 
 /// The most bytes of a chunk line, and of trailers.
 pub const LINE_LIMIT: usize = 16_384;

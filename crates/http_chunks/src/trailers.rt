@@ -94,8 +94,8 @@ fn ends_section(alloc: Global, text: &[u8], more: &[u8]) -> Result<bool, NoMemor
     }
 }
 
-/// Reads the section at the front of at most 16,384 bytes.
-fn read_section(alloc: Global, text: &[u8]) -> Result<TrailersRead, NoMemory>
+/// Reads the section at the front of at most 16,384 bytes; of more than eight fields with room for as many as so many bytes can be.
+pub fn read_section(alloc: Global, text: &[u8]) -> Result<TrailersRead, NoMemory>
     requires { length text.now ≤ LINE_LIMIT }
     ensures { IfOk result (λ read. IsSectionRead text.now read) }
 {
@@ -119,7 +119,7 @@ fn read_long_section(alloc: Global, text: &[u8]) -> Result<TrailersRead, NoMemor
 }
 
 /// What stands at the front of the text; `None` where there is no room for its fields.
-pub fn section_within(text: &[u8], headers: &mut [HeaderSpan]) -> Option<TrailersRead>
+pub(crate) fn section_within(text: &[u8], headers: &mut [HeaderSpan]) -> Option<TrailersRead>
     ensures { IsSectionWithin text.now (length headers.old) result }
 {
     match parse_headers(text, headers) {

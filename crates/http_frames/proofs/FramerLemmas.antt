@@ -64,6 +64,7 @@ gives_request state start start' rest rest' continued old next request end is to
         told = turned.told;
         after = refl;
       };
+      again = tt;
       stands = stands_so start' (drop end rest') (drop end rest') false next (let P : Stage → Type 0 = λ s. Holds (drop end rest') (drop end rest') s in subst P (sym head) refl);
       room = tt;
     })
@@ -85,6 +86,7 @@ gives_continue state start start' rest rest' continued old next is took =
         untold = turned.1;
         told = refl;
       };
+      again = tt;
       stands = stands_so start' state.pending rest' true next turned.2;
       room = tt;
     })
@@ -106,6 +108,7 @@ gives_need state start start' rest rest' continued old next is took left =
     (λ turned. record {
       new = waiting state.pending continued;
       next = record { waits = refl; none = turned.0; accepted = turned.1; quiet = turned.2; same = refl };
+      again = tt;
       stands = stands_so start' state.pending rest' continued next turned.3;
       room = room_at start' rest' continued next left.0 left.1;
     })
@@ -117,7 +120,7 @@ pub gives_nothing : (state : State) (start start' : ℕ) (rest rest' : List ℕ)
 gives_nothing state start start' rest rest' continued old next error is took =
     let K : Kept = kept_at start' rest' continued next in
     gives (λ s. Answers s (Err NoMemory) K) state start rest rest' continued old (next, Err error) is took
-    (λ turned. record { new = waiting state.pending continued; next = refl; stands = stands_so start' state.pending rest' continued next turned; room = tt })
+    (λ turned. record { new = waiting state.pending continued; next = refl; again = tt; stands = stands_so start' state.pending rest' continued next turned; room = tt })
     (λ e was same. let both = ap (λ (x : Stage × Result Turn AllocError). x.1) same in absurd (cc))
 
 -- a refusal, as `next` gives it
@@ -146,12 +149,19 @@ gives_refusal state start start' rest rest' others continued flag old next e is 
     (λ turned. record {
       new = ended e;
       next = gives_error e (waiting state.pending continued) (ended e) refl (inr (record { waits = refl; refused = turned.0; quiet = turned.1 }));
+      again = tt;
       stands = stands;
       room = tt;
     })
     (λ error was same.
-    let again : e ≡ error = let both = ap (λ (x : Stage × Result Turn AllocError). x.1) same in cc in
-    record { new = ended e; next = gives_error e (ended error) (ended e) refl (inl (ap ended (sym again))); stands = stands; room = tt })
+    let equal : e ≡ error = let both = ap (λ (x : Stage × Result Turn AllocError). x.1) same in cc in
+    record {
+      new = ended e;
+      next = gives_error e (ended error) (ended e) refl (inl (ap ended (sym equal)));
+      again = ap (λ (x : FrameErr). Err x) equal;
+      stands = stands;
+      room = tt;
+    })
 
 -- ---- what is held
 

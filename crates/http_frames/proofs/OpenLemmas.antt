@@ -1,10 +1,12 @@
 -- The whole lines of a head, and what stands behind them.
 use Rattle.std.proofs.Common.{◌≡◌, ℕ, ◌+◌, ◌-◌, ◌<◌, ◌≤◌, true, false, not, ◌==◌, List, [], ◌∷◌, ◌++◌, length, take, drop, ◌⊎◌, inl, inr, refl, sym, ap, ◌∙◌, subst, arith, append_assoc, append-nil, get_or, get_or-drop, length-take, length-drop, take-append-drop}
 use Rattle.std.specs.List.{All, list_all}
-use Rattle.std.proofs.lemmas.Bool.{false≢true, eqb-true}
+use Rattle.std.proofs.lemmas.Bool.{false≢true, eqb-true, and_left, and_right}
 use Rattle.std.proofs.lemmas.List.{append_cancel_right, take-append-le, take_more, drop_more, take_rest}
 use Rattle.std.proofs.lemmas.List.Elements.{All-nil, All-append}
+use Rattle.std.proofs.lemmas.List.Folds.{list_all-append}
 use Rattle.std.proofs.lemmas.List.Sums.{AllPass-from_list_all}
+use Rattle.std.proofs.Math.Seq.{take-append-add}
 use Rattle.httparse.specs.Grammar.{RequestHead, IsRequestHead, ReadsRequest, HasNoRequest, NeverHasRequest, MayBecomeRequest, Field, IsField, print_field, print_section, ReadsSection, HasNoSection, NeverHasSection, MayBecomeSection, LineEnd, crlf, lf, print_end, print_blank, print_version, IsToken, AllPass, is_token_byte, is_uri_byte}
 use Rattle.httparse.specs.Pieces.{RequestStart, is_newline}
 use Rattle.httparse.proofs.GrammarLemmas.{request_tree, request_pieces, request_from_pieces, print_request-append, cons-append}
@@ -276,6 +278,26 @@ partial_behind text lines is some read =
 pub invalid_behind : (text : List ℕ) (lines : ℕ) → AreLines text lines → (lines ≡ 0 → ⊥) → NeverHasSection (rest_of text lines) → NeverHasRequest text
 invalid_behind text lines is some never =
     subst NeverHasRequest (whole_behind text lines) (never_behind (take lines text) (rest_of text lines) (opened text lines is some) never)
+
+-- whole lines of a head are more than line ends
+some_line : (front : List ℕ) → OpensHead front → list_all is_newline front ≡ false
+some_line front is =
+    let h = is.head in
+    ap (list_all is_newline) (open_is front is) ∙ list_all-append is_newline (start_on h []) (lines_of h.fields)
+    ∙ and_left _ _ (some_start (print_blank h.blank) h.method (h.target ++ 32 ∷ (print_version h.minor ++ (print_end h.line_end ++ []))))
+  where
+    some_start : (a b c : List ℕ) → list_all is_newline (a ++ (b ++ 32 ∷ c)) ≡ false
+    some_start a b c =
+        list_all-append is_newline a (b ++ 32 ∷ c) ∙ and_right _ _ (list_all-append is_newline b (32 ∷ c) ∙ and_right (list_all is_newline b) _ refl)
+
+pub lines_some : (text : List ℕ) (lines at : ℕ) → lines ≤ at → AreLines text lines → (lines ≡ 0 → ⊥) → list_all is_newline (take at text) ≡ false
+lines_some text lines at behind is some =
+    let front = take lines text in
+    let place : at ≡ length front + (at - lines) = omega (arith, behind, is.within, length-take lines text) in
+    let cut : take at text ≡ front ++ take (at - lines) (drop lines text) =
+    ap (λ (n : ℕ). take n text) place ∙ ap (take (length front + (at - lines))) (sym (take-append-drop lines text)) ∙ take-append-add front (drop lines text) (at - lines) in
+    ap (list_all is_newline) cut ∙ list_all-append is_newline front (take (at - lines) (drop lines text))
+    ∙ and_left _ _ (some_line front (opened text lines is some))
 
 pub feed_behind : (text : List ℕ) (lines at : ℕ) → AreLines text lines → length text < HEAD_LIMIT → at < length (rest_of text lines)
     → (get_or (rest_of text lines) at 0 == 10) ≡ true → list_all is_newline (take (lines + at) text) ≡ false

@@ -1,18 +1,16 @@
 -- What the bytes from the start of a request on hold next.
 use Rattle.std.proofs.Common.{◌≡◌, ℕ, ◌+◌, ◌≤◌, Bool, true, false, cond, not, ◌&&◌, List, [], ◌++◌, length, drop, Option, Some, None, refl, sym, ap, ◌∙◌, subst, arith, nat_lt, append_assoc, length-append}
 use Rattle.std.specs.Prelude.{unwrap_or}
-use Rattle.std.specs.List.{flat_map}
 use Rattle.std.proofs.lemmas.Bool.{false≢true}
 use Rattle.std.proofs.lemmas.List.{drop_at}
 use Rattle.std.proofs.lemmas.List.Elements.{All-nil}
-use Rattle.httparse.specs.Grammar.{RequestHead, print_request, print_chunk_line}
+use Rattle.httparse.specs.Grammar.{RequestHead, print_request}
 use Rattle.httparse.proofs.GrammarLemmas.{request_unique, ReadsRequest-append}
-use Rattle.http_chunks.specs.Chunked.{BODY_LIMIT, IsChunk, print_chunk}
+use Rattle.http_chunks.specs.Chunked.{BODY_LIMIT, IsChunk}
 use Rattle.http_frames.specs.HeadRules.{fields_of, is_chunked, is_bad_length, content_length, asks_to_continue, request_of}
 use Rattle.http_frames.specs.HeadReading.{head_of, HasNoHead}
 use Rattle.http_frames.specs.Requests.{ReadsHead}
 use Rattle.http_frames.specs.Framing.{IsQuiet}
-use Rattle.http_chunks.specs.ContentSteps.{AreChunks}
 use Rattle.http_frames.specs.Progress.{IsBody, HoldsContent, IsSound, IsWholeAt}
 use Rattle.http_frames.specs.Turns.{IsAsking, IsRequestTo}
 use Rattle.side_base.specs.declared.message.Request.{Request}
@@ -24,6 +22,7 @@ use Rattle.http_frames.proofs.ProgressLemmas.{accepted_length, accepted_short}
 use Rattle.http_frames.proofs.SaidLemmas.{chunked_same, length_same, asks_same}
 use Rattle.http_chunks.specs.LinePlaces.{IsLooked, beginning_of_line}
 use Rattle.http_chunks.specs.declared.line_place.LinePlace.{LinePlace}
+use Rattle.http_chunks.proofs.InChunksLemmas.{more_in_chunks}
 use Rattle.http_chunks.proofs.LinePlaceLemmas.{looked_first, looked_more}
 
 -- where the head that was taken was answered, or does not ask, no other is left unanswered
@@ -87,33 +86,10 @@ pub first_bounded : (b : Bool) (len : ℕ) (bytes : List ℕ) (left : Option ℕ
 first_bounded true len bytes left empty short due = omega (arith, ap length empty, ap (λ (l : Option ℕ). unwrap_or l 0) due)
 first_bounded false len bytes left empty short due = omega (arith, ap length empty, ap (λ (l : Option ℕ). unwrap_or l 0) due)
 
--- chunks are held as the bytes go on
-grown_chunks : (all rest more content : List ℕ) → AreChunks all rest content → AreChunks (all ++ more) (rest ++ more) content
-grown_chunks all rest more content is = record {
-  chunks = is.chunks;
-  each = is.each;
-  whole = ap (λ (t : List ℕ). t ++ more) is.whole ∙ append_assoc (flat_map print_chunk is.chunks) rest more;
-  joins = is.joins;
-  short = is.short;
-}
-
+-- what was read of a content was read as the bytes go on
 grown_body : (b : Bool) (len : ℕ) (all rest more content : List ℕ) (left : Option ℕ) → IsBody b len all rest content left
     → IsBody b len (all ++ more) (rest ++ more) content left
-grown_body true len all rest more content None is = grown_chunks all rest more content is
-grown_body true len all rest more content (Some left) is =
-    let P : List ℕ → Type 0 = λ t. AreChunks (all ++ more) t is.before in
-    record {
-      before = is.before;
-      line = is.line;
-      part = is.part;
-      chunks = subst P (append_assoc (print_chunk_line is.line) (is.part ++ rest) more
-          ∙ ap (λ (t : List ℕ). print_chunk_line is.line ++ t) (append_assoc is.part rest more)) (grown_chunks all _ more is.before is.chunks);
-      valid = is.valid;
-      size = is.size;
-      some = is.some;
-      fits = is.fits;
-      joins = is.joins;
-    }
+grown_body true len all rest more content left is = more_in_chunks all rest more content left is
 grown_body false len all rest more content None is = is
 grown_body false len all rest more content (Some left) is = record {
   whole = ap (λ (t : List ℕ). t ++ more) is.whole ∙ append_assoc content rest more;

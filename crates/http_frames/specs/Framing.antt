@@ -126,9 +126,15 @@ HasRoom (Ok step.Continue) kept = Unit {0}
 HasRoom (Ok step.Need) kept = held kept < HELD_LIMIT
 HasRoom (Err error) kept = Unit {0}
 
+-- a refused stream is refused again, which takes no memory
+abbrev pub IsRefusedAgain : Option FrameErr → Result Step FrameErr → Type 0
+IsRefusedAgain None answer = Unit {0}
+IsRefusedAgain (Some error) answer = answer ≡ Err error
+
 -- a call of `next` gives this, and the framer then stands for what the call leaves
 pub record Answers (old : State) (answer : Result Step FrameErr) (kept : Kept) : Type 0 where
   pub new : State
   pub next : IsNext old answer new
+  pub again : IsRefusedAgain old.refused answer
   pub stands : Stands new kept
   pub room : HasRoom answer kept

@@ -1,5 +1,6 @@
 -- What `src/progress` holds and finds, for the clauses of private functions.
-use Rattle.std.specs.Prelude.{◌≡◌, ℕ, ◌+◌, ◌<◌, ◌≤◌, List, ◌++◌, length, drop, Bool, true, false, Option, Some, None}
+use Rattle.std.specs.Prelude.{◌≡◌, ℕ, ◌+◌, ◌<◌, ◌≤◌, List, ◌++◌, length, drop, Bool, true, false, Option, Some, None, Result, MatchResult}
+use Rattle.std.specs.declared.alloc.AllocError.{AllocError}
 use Rattle.httparse.specs.Grammar.{RequestHead}
 use Rattle.http_frames.specs.HeadRules.{HEAD_LIMIT, is_chunked, is_bad_length, content_length}
 use Rattle.http_frames.specs.Requests.{ReadsHead, ReadsWhole, HasNoWhole, IsRefused, IsAccepted}
@@ -53,3 +54,8 @@ abbrev pub EndsWithin : List ℕ → Progress → Type 0
 EndsWithin rest (Whole len) = len ≤ length rest
 EndsWithin rest Need = length rest < HEAD_LIMIT + HEAD_LIMIT
 EndsWithin rest (Refused error) = Unit {0}
+
+-- whatever bytes they are that were read up to one place, what was taken leads to this at another; without memory it is held there
+abbrev pub LeadsTo : List ℕ → Content → List ℕ → Content → Result Progress AllocError → Type 0
+LeadsTo rest old rest' new result = (pending : List ℕ) → HoldsContent pending rest old
+    → MatchResult result (IsProgress pending rest' new) (λ _. HoldsContent pending rest' new)

@@ -131,6 +131,13 @@ first (one ∷ steps) refusal = Ok one
 first [] None = Ok step.Need
 first [] (Some error) = Err error
 
+-- a framer was fed these bytes in all, gave these steps, and this is its next answer
+pub record HasAnswered (bytes : List ℕ) (steps : List Step) (answer : Result Step FrameErr) : Type 0 where
+  pub state : State
+  pub new : State
+  pub run : Run bytes steps state
+  pub next : IsNext state answer new
+
 -- an answer that says that all was given, and whether the stream is refused
 abbrev pub IsLast : Result Step FrameErr → Option FrameErr → Type 0
 IsLast answer refusal = (answer ≡ first [] refusal) × ¬ (answer ≡ Err NoMemory)

@@ -2,7 +2,7 @@
 ghost use Rattle.std.specs.Prelude.{◌≡◌, ◌⊎◌, ◌↔◌, ◌++◌, ◌∷◌, ℕ, [], List, Bool, false, Option, None, Result};
 ghost use Rattle.http_frames.specs.Framing.{State, waiting, fed, IsNext, IsNeedStep};
 ghost use Rattle.http_frames.specs.Printed.{printed, printed_request, MayBePrinted, IsOneWhole, AreWhole};
-ghost use Rattle.http_frames.specs.Streams.{Whole, IsStream, Gives, Run, HasEnded, IsFront, IsAnswerAfter, Midway, HasGiven, GoesOn};
+ghost use Rattle.http_frames.specs.Streams.{Whole, IsStream, Gives, Run, HasAnswered, HasEnded, IsFront, IsAnswerAfter, Midway, HasGiven, GoesOn};
 ghost use Rattle.http_frames.specs.Written.{written, content, continue_bytes};
 ghost use Rattle.http_frames.specs.Sent.{MayBeSent, IsOneHead, sent_fields};
 ghost use Rattle.side_base.specs.declared.message.Request.{Request};
@@ -46,7 +46,7 @@ pub fn what_was_given_begins_the_bytes()
 /// However a framer was fed, what it gave is a front of what the bytes fed in all give, and its next answer is the
 /// next of that: a step; behind the last step the refusal, where the rest is refused, and `Need` where it is not.
 pub fn answers_are_the_streams()
-    ensures { (bytes : List ℕ) (steps all : List Step) (state new : State) (answer : Result Step FrameErr) (refusal : Option FrameErr) → Run bytes steps state → Gives bytes all refusal → IsNext state answer new → IsAnswerAfter steps all refusal answer }
+    ensures { (bytes : List ℕ) (steps all : List Step) (answer : Result Step FrameErr) (refusal : Option FrameErr) → HasAnswered bytes steps answer → Gives bytes all refusal → IsAnswerAfter steps all refusal answer }
 {}
 
 /// Where a framer answers `Need` or refuses, what it gave is all that the bytes fed in all give, and they end so.

@@ -8,14 +8,10 @@ ghost use Rattle.http_frames.specs.Lines.{AreLines, IsBegunEnd, IsBlank, IsInBla
 
 use crate::head::{HeadRead, read_head, unless_in_target};
 use crate::target::{after_blank, are_uri_bytes, ends_in_target};
-use http_chunks::{FieldPart, TrailersRead, are_of_field, field_part, section_within};
+use http_chunks::{FieldPart, TrailersRead, are_of_field, field_part, read_section};
 use httparse::is_token;
-use httparse::spans::EMPTY_HEADER_SPAN;
 use side_base::NoMemory;
 use std::alloc::Global;
-
-/// The fields behind the whole lines of a head for which there is room; where more came the head is read anew.
-const LINE_ROOM: usize = 8;
 
 const CR: u8 = b'\r';
 
@@ -68,12 +64,11 @@ pub(crate) fn read_behind(alloc: Global, text: &[u8], place: Place) -> Result<He
     if place.lines == 0 {
         return read_head(alloc, text);
     }
-    let mut headers = [EMPTY_HEADER_SPAN; LINE_ROOM];
-    match section_within(&text[place.lines..], &mut headers) {
-        Some(TrailersRead::Partial) => Ok(HeadRead::Partial),
-        Some(TrailersRead::Invalid) => Ok(unless_in_target(text)),
-        Some(TrailersRead::Whole { len: _ }) => read_head(alloc, text),
-        None => read_head(alloc, text),
+    let read = read_section(alloc, &text[place.lines..])?;
+    match read {
+        TrailersRead::Partial => Ok(HeadRead::Partial),
+        TrailersRead::Invalid => Ok(unless_in_target(text)),
+        TrailersRead::Whole { len: _ } => read_head(alloc, text),
     }
 }
 
@@ -225,7 +220,7 @@ fn whole_lines(text: &[u8], lines: usize) -> usize
     match last_feed(&text[lines..]) {
         Some(behind) => {
             let at = lines + behind;
-            if are_line_ends(&text[..at]) {
+            if is_blank_before(text, lines, at) {
                 lines
             } else {
                 at + 1
@@ -233,6 +228,19 @@ fn whole_lines(text: &[u8], lines: usize) -> usize
         }
         None => lines,
     }
+}
+
+/// Whether line ends alone stand before a place; where whole lines do, none of their bytes is read.
+fn is_blank_before(text: &[u8], lines: usize, at: usize) -> bool
+    requires lines { AreLines text.now lines }
+    requires behind { lines ≤ at }
+    requires within { at ≤ length text.now }
+    ensures { result ≡ list_all is_newline (take at text.now) }
+{
+    if lines > 0 {
+        return false;
+    }
+    are_line_ends(&text[..at])
 }
 
 fn are_line_ends(bytes: &[u8]) -> bool

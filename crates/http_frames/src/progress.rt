@@ -1,6 +1,6 @@
-ghost use Rattle.std.specs.Prelude.{◌≡◌, ◌≤◌, ◌+◌, ◌++◌, ℕ, List, Some, true, false, IfOk, OnOk, OnErr, MatchResult, length, drop};
+ghost use Rattle.std.specs.Prelude.{◌≡◌, ◌≤◌, ◌+◌, ◌++◌, ℕ, List, Some, true, false, IfOk, OnOk, OnErr, length, drop};
 ghost use Rattle.http_frames.specs.HeadRules.{is_chunked};
-ghost use Rattle.http_frames.specs.Progress.{HoldsContent, IsSound, IsProgress, EndsWithin};
+ghost use Rattle.http_frames.specs.Progress.{HoldsContent, IsSound, EndsWithin, LeadsTo};
 
 use crate::FrameErr;
 use crate::head::Head;
@@ -40,7 +40,7 @@ pub(crate) fn take_content(
     ensures within { at.new ≤ length text.now }
     ensures sound { IsSound content.new }
     ensures ends { IfOk result (λ progress. EndsWithin (drop at.new text.now) progress) }
-    ensures progress { (pending : List ℕ) → HoldsContent pending (drop at.old text.now) content.old → MatchResult result (IsProgress pending (drop at.new text.now) content.new) (λ _. HoldsContent pending (drop at.new text.now) content.new) }
+    ensures progress { LeadsTo (drop at.old text.now) content.old (drop at.new text.now) content.new result }
 {
     if is_chunked(content) {
         take_chunks(alloc, text, at, content)
@@ -70,7 +70,7 @@ fn take_chunks(
     ensures within { at.new ≤ length text.now }
     ensures sound { IsSound content.new }
     ensures ends { IfOk result (λ progress. EndsWithin (drop at.new text.now) progress) }
-    ensures progress { (pending : List ℕ) → HoldsContent pending (drop at.old text.now) content.old → MatchResult result (IsProgress pending (drop at.new text.now) content.new) (λ _. HoldsContent pending (drop at.new text.now) content.new) }
+    ensures progress { LeadsTo (drop at.old text.now) content.old (drop at.new text.now) content.new result }
 {
     let step = read_content(alloc, text, at, &mut content.body)?;
     match step {
@@ -89,7 +89,7 @@ fn take_length(text: &[u8], at: &mut usize, content: &mut Content) -> Result<Pro
     ensures within { at.new ≤ length text.now }
     ensures sound { IsSound content.new }
     ensures ends { IfOk result (λ progress. EndsWithin (drop at.new text.now) progress) }
-    ensures progress { (pending : List ℕ) → HoldsContent pending (drop at.old text.now) content.old → MatchResult result (IsProgress pending (drop at.new text.now) content.new) (λ _. HoldsContent pending (drop at.new text.now) content.new) }
+    ensures progress { LeadsTo (drop at.old text.now) content.old (drop at.new text.now) content.new result }
 {
     match content.body.left {
         Some(left) => take_rest(text, at, content, left),
@@ -111,7 +111,7 @@ fn take_rest(
     ensures within { at.new ≤ length text.now }
     ensures sound { IsSound content.new }
     ensures ends { IfOk result (λ progress. EndsWithin (drop at.new text.now) progress) }
-    ensures progress { (pending : List ℕ) → HoldsContent pending (drop at.old text.now) content.old → MatchResult result (IsProgress pending (drop at.new text.now) content.new) (λ _. HoldsContent pending (drop at.new text.now) content.new) }
+    ensures progress { LeadsTo (drop at.old text.now) content.old (drop at.new text.now) content.new result }
 {
     let due = take_due(text, at, &mut content.body, left)?;
     if due > 0 {

@@ -4,12 +4,12 @@ use Rattle.http_frames.proofs.lines.read_behind.Goals as goal
 
 pub unless_in_target-requires : goal.unless_in_target-requires
 unless_in_target-requires c =
-    let read = rw c.in-Some-Invalid.field-0-is at c.in-Some-Invalid.ensures in
+    let read = rw c.in-Invalid.is at c.in_ok-read.ensures in
     invalid_behind c.args.text.now c.args.place.lines c.requires.place.lines c.if-place-eq0.false read
 
-pub returns-in-Some-Partial : goal.returns-in-Some-Partial
-returns-in-Some-Partial c =
-    let read = rw c.in-Some-Partial.field-0-is at c.in-Some-Partial.ensures in
+pub returns-in-Partial : goal.returns-in-Partial
+returns-in-Partial c =
+    let read = rw c.in-Partial.is at c.in_ok-read.ensures in
     partial_behind c.args.text.now c.args.place.lines c.requires.place.lines c.if-place-eq0.false read
 
 pub returns-then-goes_on : goal.returns-then-goes_on
