@@ -1,6 +1,6 @@
 use http_client::{ReplyErr, read_reply, request_bytes};
 use side_base::{Blob, Field, Fields, LinkRequest, Method, NoMemory, Response, Sequence, Text};
-use side_world::BytesSource;
+use side_world::{BytesSource, Failed, Source};
 use std::alloc::Global;
 use std::test::Fail;
 
@@ -20,6 +20,37 @@ fn spelled(alloc: Global, response: &Response) -> Result<Text, NoMemory> {
 fn told(alloc: Global, bytes: &[u8], to_head: bool) -> Result<Text, ReplyErr> {
     let source = BytesSource::new(Blob::from_bytes(alloc, bytes)?);
     let (reply, _) = read_reply(alloc, source, to_head);
+    Ok(spelled(alloc, &reply?)?)
+}
+
+/// A source in memory whose bytes come one at a time.
+#[derive(Drop)]
+struct OneByOne {
+    bytes: BytesSource,
+}
+
+impl Source for OneByOne {
+    ghost use Rattle.std.specs.Prelude.{Some};
+
+    ghost left = { λ s. Some s.bytes.left };
+
+    ghost taken = { λ s. Some s.bytes.taken };
+
+    ghost ended = { λ s. s.bytes.ended };
+
+    ghost faults = { λ _. 0 };
+
+    fn read(&mut self, into: &mut [u8]) -> Result<usize, Failed> {
+        self.bytes.read(&mut into[..1])
+    }
+}
+
+/// The reply that these bytes are, which come one at a time, as a text.
+fn told_one_by_one(alloc: Global, bytes: &[u8]) -> Result<Text, ReplyErr> {
+    let source = OneByOne {
+        bytes: BytesSource::new(Blob::from_bytes(alloc, bytes)?),
+    };
+    let (reply, _) = read_reply(alloc, source, false);
     Ok(spelled(alloc, &reply?)?)
 }
 
@@ -102,6 +133,18 @@ fn a_reply_to_head_has_no_content(rt: HostRuntime) -> Result<(), Fail> {
     let text = b"HTTP/1.1 200 OK\r\nContent-Length: 2\r\n\r\n";
     let reply = told(rt.alloc(), text, true)?;
     assert_eq!(rt; reply.as_str(), "200: ");
+    Ok(())
+}
+
+#[test]
+fn a_reply_may_come_byte_by_byte(rt: HostRuntime) -> Result<(), Fail> {
+    let text =
+        b"HTTP/1.1 100 Continue\n\nHTTP/1.1 200 OK\r\nA: b\nTransfer-Encoding: chunked\r\n\r\n2\r\nhi\r\n0\r\nC: d\r\n\r\n";
+    let reply = told_one_by_one(rt.alloc(), text)?;
+    assert_eq!(rt; reply.as_str(), "200 A: hi");
+    let text = b"HTTP/1.1 200 OK\r\nA b\r\n\r\n";
+    let refused = told_one_by_one(rt.alloc(), text).err();
+    assert_eq!(rt; refused, Some(ReplyErr::Bad));
     Ok(())
 }
 

@@ -13,7 +13,7 @@ use Rattle.http_chunks.specs.declared.line_place.LinePlace.{LinePlace}
 use Rattle.http_chunks.specs.declared.content.Body.{Body}
 use Rattle.http_chunks.proofs.ContentLemmas.{cells, uncons, chunk_same}
 use Rattle.http_chunks.proofs.ChunkStepLemmas.{line_same, chunk_parts}
-use Rattle.http_chunks.proofs.InChunksLemmas.{line_inside}
+use Rattle.http_chunks.proofs.InChunksLemmas.{line_inside, more_in_chunks}
 use Rattle.http_chunks.proofs.LinePlaceLemmas.{looked_more, place_start}
 use Rattle.http_client.specs.Replies.{ahead}
 use Rattle.http_client.specs.Taken.{AreRead, IsWhole, AreFewer, parts_due, most_parts}
@@ -207,33 +207,6 @@ goes_on all rest other content after (Some left) None within was is = within_bet
 goes_on all rest other content after (Some left) (Some due) within was is = within_within all rest other content after left due within was is
 
 -- ---- what is taken
-
--- chunks stay so as more bytes come
-more_chunks : (all rest more content : List ℕ) → AreChunks all rest content → AreChunks (all ++ more) (rest ++ more) content
-more_chunks all rest more content is = record {
-  chunks = is.chunks;
-  each = is.each;
-  whole = ap (λ (t : List ℕ). t ++ more) is.whole ∙ append_assoc (cells is.chunks) rest more;
-  joins = is.joins;
-  short = is.short;
-}
-
-more_in_chunks : (all rest more content : List ℕ) (left : Option ℕ) → IsInChunks all rest content left → IsInChunks (all ++ more) (rest ++ more) content left
-more_in_chunks all rest more content None is = more_chunks all rest more content is
-more_in_chunks all rest more content (Some left) is =
-    let P : List ℕ → Type 0 = λ t. AreChunks (all ++ more) t is.before in
-    record {
-      before = is.before;
-      line = is.line;
-      part = is.part;
-      chunks = subst P (append_assoc (print_chunk_line is.line) (is.part ++ rest) more
-          ∙ ap (λ (t : List ℕ). print_chunk_line is.line ++ t) (append_assoc is.part rest more)) (more_chunks all _ more is.before is.chunks);
-      valid = is.valid;
-      size = is.size;
-      some = is.some;
-      fits = is.fits;
-      joins = is.joins;
-    }
 
 -- nothing was read
 pub none_read : (pending : List ℕ) (left : Option (List ℕ)) (bytes : List ℕ) (looked : LinePlace) → bytes ≡ [] → looked ≡ beginning_of_line

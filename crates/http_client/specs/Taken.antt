@@ -5,12 +5,13 @@ use Rattle.httparse.specs.Grammar.{ResponseHead, IsResponseHead, print_response,
 use Rattle.httparse.specs.declared.spans.HeaderSpan.{HeaderSpan}
 use Rattle.httparse.specs.Spans.{span_bytes}
 use Rattle.side_base.specs.declared.message.Field.{Field}
+use Rattle.side_base.specs.declared.message.Response.{Response}
 use Rattle.side_world.specs.Told.{Took}
 use Rattle.http_chunks.specs.Chunked.{LINE_LIMIT, BODY_LIMIT, ReadsChunks}
 use Rattle.http_chunks.specs.ContentSteps.{IsInChunks}
 use Rattle.http_chunks.specs.LinePlaces.{IsLooked}
 use Rattle.http_chunks.specs.declared.content.Body.{Body}
-use Rattle.http_client.specs.Replies.{ahead, fields_of, IsInterim}
+use Rattle.http_client.specs.Replies.{ahead, fields_of, IsInterim, IsReplyText}
 use Rattle.http_client.specs.declared.head.Head.{Head}
 
 -- the field whose name and value the spans cover
@@ -79,3 +80,7 @@ pub record AreFewer (before pending : List ℕ) (old body : Body) : Type 0 where
 abbrev pub IsFound : Option (List ℕ) → List ℕ → List ℕ → Option (List ℕ) → Body → Body → Option ℕ → Type 0
 IsFound first before pending left old body (Some len) = IsWhole first pending left body len
 IsFound first before pending left old body None = AreRead first pending left body × AreFewer before pending old body
+
+-- a reply was taken off the front of what was left
+abbrev pub IsReplyTaken : Bool → Option (List ℕ) → Option (List ℕ) → Response → Type 0
+IsReplyTaken to_head first left response = (text : List ℕ) × Took first left text × IsReplyText to_head text left response

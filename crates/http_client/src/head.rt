@@ -1,5 +1,5 @@
 //! The head of a reply.
-ghost use Rattle.std.specs.Prelude.{◌≡◌, ◌≢◌, ◌≤◌, ℕ, List, length, map, All, IfOk, IfErr, OnOk};
+ghost use Rattle.std.specs.Prelude.{◌≡◌, ◌≢◌, ◌<◌, ◌≤◌, ℕ, List, length, map, All, IfOk, IfErr, OnOk};
 ghost use Rattle.side_world.specs.Faults.{Rose};
 ghost use Rattle.side_world.specs.Told.{Took};
 ghost use Rattle.httparse.specs.Spans.{IsHeaderWithin, IsResponseWithin, IsResponseOf};
@@ -18,6 +18,10 @@ use std::alloc::Global;
 const FIELD_LIMIT: usize = 128;
 /// The most heads of a reply, its own and the interim ones before it.
 const HEADS_LIMIT: usize = 16;
+
+const CR: u8 = b'\r';
+
+const LF: u8 = b'\n';
 
 /// The head of a reply.
 #[derive(Debug, Drop)]
@@ -58,8 +62,27 @@ impl<S: Source> Incoming<S> {
         loop {
             match parse_response(self.pending.bytes(), headers) {
                 Ok(Status::Complete(spans)) if spans.len <= HEAD_LIMIT => return Ok(spans),
-                Ok(Status::Partial) => self.fill_more()?,
+                Ok(Status::Partial) => self.fill_lines()?,
                 _ => return Err(ReplyErr::Bad),
+            }
+        }
+    }
+
+    /// Reads on until an empty line ends what may be a head, which no head is whole without. So a head that comes in small pieces is not read anew with each.
+    fn fill_lines(&mut self) -> Result<(), ReplyErr>
+        ensures same { OnOk result (ahead self.new.pending (S.left self.new.source) ≡ ahead self.old.pending (S.left self.old.source)) }
+        ensures below { OnOk result (length self.old.pending < 16384) }
+        ensures more { OnOk result (length self.old.pending < length self.new.pending) }
+        ensures no_fault { OnOk result (S.faults self.new.source ≡ S.faults self.old.source) }
+        ensures failed { IfErr result (λ why. why ≡ SourceFailed → Rose (S.faults self.old.source) (S.faults self.new.source)) }
+    {
+        let mut line = line_behind(Line::Before, self.pending.bytes());
+        loop {
+            let seen = self.pending.bytes().len();
+            self.fill_more()?;
+            line = line_behind(line, &self.pending.bytes()[seen..]);
+            if is_empty_line(line) {
+                return Ok(());
             }
         }
     }
@@ -90,6 +113,55 @@ impl<S: Source> Incoming<S> {
             fields,
         })
     }
+}
+
+/// How the bytes end of which a head may come. It tells when a look at them is worth it, so no clause speaks of it.
+#[derive(Clone, Copy, Debug)]
+enum Line {
+    /// With line ends alone.
+    Before,
+    /// Inside a line.
+    Inside,
+    /// With the end of a line.
+    Ended,
+    /// An empty line stands behind a line.
+    Empty,
+}
+
+fn is_empty_line(line: Line) -> bool {
+    match line {
+        Line::Empty => true,
+        Line::Before | Line::Inside | Line::Ended => false,
+    }
+}
+
+/// The same with one byte more. A carriage return may stand in each line end.
+fn line_after(line: Line, byte: u8) -> Line {
+    match line {
+        Line::Empty => Line::Empty,
+        Line::Before => match byte {
+            LF | CR => Line::Before,
+            _ => Line::Inside,
+        },
+        Line::Inside => match byte {
+            LF => Line::Ended,
+            _ => Line::Inside,
+        },
+        Line::Ended => match byte {
+            LF => Line::Empty,
+            CR => Line::Ended,
+            _ => Line::Inside,
+        },
+    }
+}
+
+/// The same with more bytes.
+fn line_behind(line: Line, bytes: &[u8]) -> Line {
+    let mut line = line;
+    for byte in bytes {
+        line = line_after(line, *byte);
+    }
+    line
 }
 
 /// Whether the reply follows behind a head with this status.

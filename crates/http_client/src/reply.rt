@@ -5,7 +5,8 @@ ghost use Rattle.side_world.specs.Told.{Took, IsDrained};
 ghost use Rattle.side_world.specs.Link.{IsReply};
 ghost use Rattle.http_client.specs.declared.incoming.ReplyErr.TheVariants.{SourceFailed};
 ghost use Rattle.http_chunks.specs.Chunked.{BODY_LIMIT};
-ghost use Rattle.http_client.specs.Replies.{ahead, IsReplyOf, IsReplyText, IsContent};
+ghost use Rattle.http_client.specs.Replies.{ahead, IsReplyOf, IsContent};
+ghost use Rattle.http_client.specs.Taken.{IsReplyTaken};
 
 use crate::framing::{Framing, framing_of, kept};
 use crate::incoming::{Incoming, Pending, ReplyErr};
@@ -41,7 +42,7 @@ impl<S: Source> Incoming<S> {
     ///
     /// Its status is from 200 to 599, and the fields that speak of the connection alone are left out.
     fn take_reply(&mut self, alloc: Global, to_head: bool) -> Result<Response, ReplyErr>
-        ensures took { IfOk result (λ response. (text : List ℕ) × Took (ahead self.old.pending (S.left self.old.source)) (ahead self.new.pending (S.left self.new.source)) text × IsReplyText to_head text (ahead self.new.pending (S.left self.new.source)) response) }
+        ensures took { IfOk result (λ response. IsReplyTaken to_head (ahead self.old.pending (S.left self.old.source)) (ahead self.new.pending (S.left self.new.source)) response) }
         ensures reply { IfOk result IsReply }
         ensures no_fault { OnOk result (S.faults self.new.source ≡ S.faults self.old.source) }
         ensures failed { IfErr result (λ why. why ≡ SourceFailed → Rose (S.faults self.old.source) (S.faults self.new.source)) }
