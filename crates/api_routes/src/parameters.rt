@@ -62,12 +62,15 @@ fn nth_parameter<'a>(at: usize, parts: &[Part], path: &'a [u8], nth: usize) -> P
     }
 }
 
-/// The text that a parameter stands for. Without an escape it is copied once.
+/// The text that a parameter stands for. It is copied once.
 fn text_of(alloc: Global, parameter: Parameter<'_>) -> Result<Text, RouteErr>
     ensures { (defined : Defined) → parameter.entry.at ≡ defined.at → parameter.entry.bytes.now ≡ defined.bytes → Decodes defined result }
 {
     match percent_decode(parameter.bytes).decode_utf8(alloc) {
-        Ok(text) => Text::from_str(alloc, &text).map_err(|_| RouteErr::NoMemory),
+        Ok(text) => match text.into_owned(alloc) {
+            Ok(text) => Ok(Text::from_string(text)),
+            Err(_) => Err(RouteErr::NoMemory),
+        },
         Err(DecodeError::OutOfMemory) => Err(RouteErr::NoMemory),
         Err(DecodeError::Utf8(_)) => Err(RouteErr::BadEscape { at: parameter.at }),
     }
