@@ -32,7 +32,7 @@ const LIMIT: u64 = 402_653_184;
 const MOST: u32 = 99_999;
 
 /// Measures a row by so many requests, and writes what one of them costs.
-pub fn tell<R: Clock + Wait + Eprint>(
+pub(crate) fn tell<R: Clock + Wait + Eprint>(
     rt: &R,
     alloc: Global,
     asked: Asked,

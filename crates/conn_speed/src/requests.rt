@@ -21,7 +21,7 @@ pub struct Asked {
 }
 
 /// So many requests of a kind, one behind the other.
-pub fn together(alloc: Global, kind: Kind, group: u32) -> Result<Blob, NoMemory> {
+pub(crate) fn together(alloc: Global, kind: Kind, group: u32) -> Result<Blob, NoMemory> {
     let one = request(alloc, kind)?;
     let mut bytes = Blob::new(alloc);
     for _ in 0..group {

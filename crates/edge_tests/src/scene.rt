@@ -22,7 +22,7 @@ const PIECES: u32 = 100_000;
 const ANSWER: &[u8] = b"answer";
 
 /// A client of a door.
-pub fn connect<R: Net<Listener = TcpListener, Stream = TcpStream>>(
+pub(crate) fn connect<R: Net<Listener = TcpListener, Stream = TcpStream>>(
     rt: &R,
     port: u16,
 ) -> io::Result<TcpStream> {
@@ -33,7 +33,7 @@ pub fn connect<R: Net<Listener = TcpListener, Stream = TcpStream>>(
 }
 
 /// How many bytes a client reads, in one piece.
-pub fn piece_of(client: &mut TcpStream) -> io::Result<usize> {
+pub(crate) fn piece_of(client: &mut TcpStream) -> io::Result<usize> {
     let mut piece = [0u8; 100];
     client.read(&mut piece)
 }
@@ -74,7 +74,7 @@ pub enum Given {
 }
 
 /// What an acceptor gives next. A connection is served and goes back.
-pub fn next_of<R: Wait + AllocGlobal>(acceptor: &mut TcpAcceptor<R>) -> Given {
+pub(crate) fn next_of<R: Wait + AllocGlobal>(acceptor: &mut TcpAcceptor<R>) -> Given {
     match acceptor.accept() {
         Accepted::Conn {
             mut source,
@@ -114,7 +114,7 @@ impl<
     R: Net<Listener = TcpListener, Stream = TcpStream> + Abort + Wait + AllocGlobal + Copy + Drop,
 > Scene<R> {
     /// A door within these limits, and its workers `a` and `b`.
-    pub fn open(rt: R, limits: DoorLimits) -> io::Result<Self> {
+    pub(crate) fn open(rt: R, limits: DoorLimits) -> io::Result<Self> {
         let door = TcpDoor::open_within(&rt, 0, limits)?;
         let mut workers = Vec::new(rt.alloc());
         workers.push(door.acceptor(rt)?)?;
@@ -133,7 +133,7 @@ impl<
     /// ends in a full stop; `0<6` has it read 6 bytes in one piece, and `0<0` find its connection closed; `0x` has it close
     /// its own, and `0|` only say that it sends no more. `a=9` has worker `a` serve the next connection, on which 9 bytes come; `a~` and `a#` have it find other work
     /// and a shut door, and `a?` nothing at all for a while; `a^` wakes another worker. `!` shuts the door.
-    pub fn play(&mut self, steps: &str) -> io::Result<()> {
+    pub(crate) fn play(&mut self, steps: &str) -> io::Result<()> {
         for step in steps.split(' ') {
             let told = if self.comes_true(step.as_bytes())? {
                 step

@@ -11,7 +11,7 @@ const BODY: [u8; 100] = [b'x'; 100];
 const RECORD: [u8; 109] = [b'x'; 109];
 
 /// How many of so many bodies of 100 bytes a journal took.
-pub fn append<D: Disk>(journal: &mut Journal<D>, count: u32) -> u32
+pub(crate) fn append<D: Disk>(journal: &mut Journal<D>, count: u32) -> u32
     requires { torn_of journal.old ≡ false }
 {
     let mut taken: u32 = 0;
@@ -25,7 +25,7 @@ pub fn append<D: Disk>(journal: &mut Journal<D>, count: u32) -> u32
 }
 
 /// How many of so many records, each written, synced, and marked by one byte, which is synced too, an empty disk took.
-pub fn write<D: Disk>(disk: &mut D, count: u32) -> u32 {
+pub(crate) fn write<D: Disk>(disk: &mut D, count: u32) -> u32 {
     let mut end: u64 = 0;
     let mut taken: u32 = 0;
     for _ in 0..count {

@@ -48,7 +48,7 @@ fn plainly<R: Clock + Files<File = File>>(rt: &R, appends: u32) -> io::Result<(u
 }
 
 /// Measures so many appends of each kind.
-pub fn round<R: Clock + Eprint + Files<File = File>>(
+pub(crate) fn round<R: Clock + Eprint + Files<File = File>>(
     rt: &R,
     alloc: Global,
     appends: u32,

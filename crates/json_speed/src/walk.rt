@@ -4,7 +4,7 @@ use json_text::{Doc, Node};
 use std::alloc::{AllocError, Global};
 
 /// The number of values, walked one by one: lists and maps, and what stands in them.
-pub fn count_values(alloc: Global, doc: &Doc<'_>) -> Result<u64, AllocError> {
+pub(crate) fn count_values(alloc: Global, doc: &Doc<'_>) -> Result<u64, AllocError> {
     let mut count: u64 = 0;
     let mut left: Vec<Node> = Vec::new(alloc);
     left.push(doc.root())?;

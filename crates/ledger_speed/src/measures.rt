@@ -56,7 +56,7 @@ fn rounds(alloc: Global, ledger: &mut Ledger, message: &LedgerCmd, count: u32, n
 }
 
 /// What a message costs where so many rows are owed.
-pub fn among<R: Clock + Eprint>(rt: &R, alloc: Global, rows: u32) -> io::Result<()> {
+pub(crate) fn among<R: Clock + Eprint>(rt: &R, alloc: Global, rows: u32) -> io::Result<()> {
     let Some(now) = Moment::at(0) else {
         return Ok(());
     };

@@ -23,8 +23,15 @@ pub struct DoorLimits {
 }
 
 impl DoorLimits {
+    ghost use Rattle.std.specs.Prelude.{◌≡◌};
+
     /// The limits of the program.
-    pub fn standard() -> Self {
+    pub fn standard() -> Self
+        ensures idle { result.idle_ms ≡ 60000 }
+        ensures crowded { result.crowded_ms ≡ 1000 }
+        ensures patience { result.patience_ms ≡ 30000 }
+        ensures pressed { result.pressed_ms ≡ 100 }
+    {
         DoorLimits {
             places: places(),
             idle_ms: 60_000,

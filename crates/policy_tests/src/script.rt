@@ -12,12 +12,12 @@ pub struct Script {
 
 impl Script {
     /// An operation of which no attempt was made.
-    pub fn new(answers: &'static [u8]) -> Script {
+    pub(crate) fn new(answers: &'static [u8]) -> Script {
         Script { answers, made: 0 }
     }
 
     /// How many attempts were made.
-    pub fn made(&self) -> usize {
+    pub(crate) fn made(&self) -> usize {
         self.made
     }
 }

@@ -17,7 +17,7 @@ fn add_answer(
     match section.word {
         "tree" => add_tree(docs, lines),
         "count" => lines.add_number_line("", docs.count() as u64),
-        "document" => add_document(docs, section.name, lines),
+        "doc" => add_document(docs, section.name, lines),
         "get" => add_get(docs, section.name, lines),
         "at" => return add_at(alloc, docs, section.name, lines),
         _ => lines.add_line("read", ""),
