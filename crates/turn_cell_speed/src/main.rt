@@ -46,8 +46,8 @@ fn main(rt: HostRuntime) -> io::Result<()> {
             calls = number;
         }
     }
-    for others in [0, 3, 15] {
-        measures::beside(&rt, alloc, others, calls, &ROWS)?;
+    for threads in [1, 4, 16] {
+        measures::beside(&rt, alloc, threads, calls, &ROWS)?;
     }
     measures::held(&rt, alloc, rt)
 }
