@@ -38,16 +38,21 @@ const ROWS: [Pace; 4] = [
     },
 ];
 
-fn main(rt: HostRuntime) -> io::Result<()> {
-    let alloc = rt.alloc();
+/// The number among the words of the command line, or else 1,600.
+fn calls_of(rt: &HostRuntime) -> io::Result<u32> {
     let mut calls = CALLS;
-    for word in env::args(&rt)? {
+    for word in env::args(rt)? {
         if let Ok(number) = word.parse() {
             calls = number;
         }
     }
-    for others in [0, 3, 15] {
-        measures::beside(&rt, alloc, others, calls, &ROWS)?;
-    }
-    measures::held(&rt, alloc, rt)
+    Ok(calls)
+}
+
+fn main(rt: HostRuntime) -> io::Result<()> {
+    let calls = calls_of(&rt)?;
+    measures::beside(&rt, rt.alloc(), 1, calls, &ROWS)?;
+    measures::beside(&rt, rt.alloc(), 4, calls, &ROWS)?;
+    measures::beside(&rt, rt.alloc(), 16, calls, &ROWS)?;
+    measures::held(&rt, rt.alloc(), rt)
 }

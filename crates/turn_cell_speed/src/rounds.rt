@@ -4,10 +4,9 @@ ghost use Rattle.turn_cell.specs.Sitting.{IsSeatOf};
 
 use crate::counter::{Counter, Step, rounds};
 use std::alloc::{AllocError, Global};
-use std::io;
 use std::rt::Clock;
 use std::sync::{Mutex, Wait};
-use std::time::Instant;
+use std::time::Duration;
 use turn_cell::{Seat, TurnCell};
 
 /// What a thread does: so many calls, and the rounds of work before each and in each.
@@ -63,6 +62,15 @@ impl Caller for &Mutex<Counter> {
     }
 }
 
+// A mutex of the thread's own.
+impl Caller for Mutex<Counter> {
+    fn step<R: Wait>(&mut self, rt: &R, amount: u64, pace: Pace) -> bool {
+        let step = step_of(None, amount, pace);
+        self.lock(rt).make(&step);
+        true
+    }
+}
+
 /// A place on the cell.
 fn seated<'a>(
     cell: &'a TurnCell<Counter>,
@@ -74,24 +82,28 @@ fn seated<'a>(
     Place { cell, seat, hold }
 }
 
-/// So many places on the cell that work, and one more that holds its turns where it is given a clock.
+/// The clock of the place with this number: the first one's.
+fn hold_of(number: u8, hold: Option<HostRuntime>) -> Option<HostRuntime> {
+    if number == 0 { hold } else { None }
+}
+
+/// So many places on the cell, of which the first holds its turns where it is given a clock.
 pub fn places<'a>(
     alloc: Global,
     cell: &'a TurnCell<Counter>,
-    mut root: Seat<Counter>,
-    others: u8,
+    root: &mut Seat<Counter>,
+    threads: u8,
     hold: Option<HostRuntime>,
 ) -> Result<Vec<Place<'a>>, AllocError>
-    requires seat { IsSeatOf cell.now root }
-    requires root { root.is_root ≡ true }
-    requires made { root.made ≡ 1 }
+    requires seat { IsSeatOf cell.now root.old }
+    requires root { root.old.is_root ≡ true }
+    requires made { root.old.made ≡ 1 }
 {
     let mut places = Vec::new(alloc);
-    for _ in 0..others {
-        let seat = cell.split(&mut root);
-        places.push(seated(cell, seat, None))?;
+    for number in 0..threads {
+        let hold = hold_of(number, hold);
+        places.push(seated(cell, cell.split(root), hold))?;
     }
-    places.push(seated(cell, root, hold))?;
     Ok(places)
 }
 
@@ -102,7 +114,7 @@ fn fresh(alloc: Global) -> Result<Own, AllocError> {
 }
 
 /// So many new cells.
-pub fn owns(alloc: Global, count: u32) -> Result<Vec<Own>, AllocError> {
+pub fn owns(alloc: Global, count: u8) -> Result<Vec<Own>, AllocError> {
     let mut owns = Vec::new(alloc);
     for _ in 0..count {
         owns.push(fresh(alloc)?)?;
@@ -111,7 +123,7 @@ pub fn owns(alloc: Global, count: u32) -> Result<Vec<Own>, AllocError> {
 }
 
 /// So many new mutexes.
-pub fn locks(alloc: Global, count: u32) -> Result<Vec<Mutex<Counter>>, AllocError> {
+pub fn locks(alloc: Global, count: u8) -> Result<Vec<Mutex<Counter>>, AllocError> {
     let mut locks = Vec::new(alloc);
     for _ in 0..count {
         locks.push(Mutex::new(Counter::new()))?;
@@ -127,6 +139,19 @@ pub struct Calls {
     pub took: Vec<u64>,
 }
 
+/// A time in nanoseconds.
+pub fn nanos(time: Duration) -> u64 {
+    u64::try_from(time.as_nanos()).unwrap_or(u64::MAX)
+}
+
+/// What a clock shows, in nanoseconds; 0 where it fails.
+pub fn now<R: Clock>(rt: &R) -> u64 {
+    match rt.monotonic() {
+        Ok(time) => nanos(time),
+        Err(_) => 0,
+    }
+}
+
 /// Makes a step; whether it was made, and what it took was noted where there is work between calls.
 fn timed<R: Wait + Clock, C: Caller>(
     rt: &R,
@@ -138,19 +163,13 @@ fn timed<R: Wait + Clock, C: Caller>(
     if pace.work == 0 {
         return caller.step(rt, amount, pace);
     }
-    let Ok(begin) = Instant::now(rt) else {
-        return false;
-    };
+    let begin = now(rt);
     caller.step(rt, amount, pace) && note(rt, begin, took)
 }
 
-/// Notes how many nanoseconds have passed; whether it could.
-fn note<R: Clock>(rt: &R, begin: Instant, took: &mut Vec<u64>) -> bool {
-    let Ok(time) = begin.elapsed(rt) else {
-        return false;
-    };
-    took.push(u64::try_from(time.as_nanos()).unwrap_or(u64::MAX))
-        .is_ok()
+/// Notes how many nanoseconds have passed; whether there was room.
+fn note<R: Clock>(rt: &R, begin: u64, took: &mut Vec<u64>) -> bool {
+    took.push(now(rt).saturating_sub(begin)).is_ok()
 }
 
 fn step_of(hold: Option<HostRuntime>, amount: u64, pace: Pace) -> Step {
