@@ -1,3 +1,4 @@
 pub mod Bytes
 pub mod Places
 pub mod Spelling
+pub mod Utf8

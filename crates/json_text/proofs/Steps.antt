@@ -6,14 +6,11 @@ use Rattle.json_text.specs.declared.part.Opening.{Opening}
 use Rattle.json_text.specs.declared.lexeme.Lexeme.{Lexeme}
 use Rattle.json_text.specs.declared.kind.Kind.{Kind}
 use Rattle.json_text.specs.Grammar.{closes}
-use Rattle.json_text.specs.Scan.{IsAsciiUpTo, EndsAt}
+use Rattle.json_text.specs.Scan.{EndsAt}
 use Rattle.json_text.specs.Reading.{innermost}
 use Rattle.json_text.proofs.Tables.{false_true, none_some, closes_level, is_it}
 use Rattle.std.proofs.lemmas.List.{nil_from_length}
 use Rattle.json_text.proofs.Runs.{passes_low}
-
-pub ascii_on : (bytes : List ℕ) (at above : ℕ) → IsAsciiUpTo bytes at above → IsAsciiUpTo bytes (at + 1) above
-ascii_on bytes at above h = record { within = h.within; ascii = λ k low high. h.ascii k (omega (arith, low)) high }
 
 pub innermost_at : (xs : List Opening) (n : ℕ) (x : Opening) → n + 1 ≡ length xs → x ≡ get_or xs n x → Some x.bracket ≡ innermost xs
 innermost_at [] n x e is = absurd (omega (arith, e))

@@ -4,14 +4,14 @@ use Rattle.json_text.specs.declared.part.Bracket.{Bracket}
 use Rattle.json_text.specs.declared.part.Part.{Part}
 use Rattle.json_text.specs.declared.reader.Reader.{Reader}
 use Rattle.json_text.specs.Grammar.{closes, turns}
-use Rattle.json_text.specs.Scan.{IsAsciiUpTo}
+use Rattle.json_text.specs.Scan.{IsTextUpTo}
 use Rattle.json_text.specs.Between.{Between}
 use Rattle.json_text.specs.Reading.{Reads}
 
--- the reader stands in this part, and knows of ASCII bytes to come
+-- the reader stands in this part, and knows how far the bytes are UTF-8
 pub record IsReader (r : Reader) (here : Part) : Type 0 where
   pub reads : Reads r.bytes.now r.at here r.nodes.items r.opened.items
-  pub known : IsAsciiUpTo r.bytes.now r.at r.ascii
+  pub known : IsTextUpTo r.bytes.now r.text
 
 -- it faces a byte, in this list, map or text
 pub record Faces (r : Reader) (here : Part) (level : Option Bracket) : Type 0 where

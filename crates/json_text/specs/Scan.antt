@@ -1,11 +1,10 @@
 -- What passing over the bytes of one word comes to.
-use Rattle.std.specs.Prelude.{◌≡◌, ◌⊎◌, ℕ, suc, ◌<◌, ◌≤◌, true, false, List, length, slice_index, Some, None}
+use Rattle.std.specs.Prelude.{◌≡◌, ◌⊎◌, ℕ, suc, ◌<◌, ◌≤◌, true, false, List, length, slice_index, take, Some, None}
+use Rattle.std.specs.Str.{IsUtf8}
 use Rattle.json_text.specs.declared.kind.Kind.{Kind}
 use Rattle.json_text.specs.declared.lexeme.Lexeme.{Lexeme}
 use Rattle.json_text.specs.Lexeme.{next, ends}
 use Rattle.json_text.specs.Faults.{is_lone_in}
-use Rattle.byte_lanes.specs.Bytes.{is_special, is_above}
-use Rattle.byte_lanes.specs.Places.{NonePasses}
 
 -- the bytes from place i up to place j lead from one state of a word to another, past no lone surrogate
 pub data Passes (bytes : List ℕ) (i : ℕ) (first : Lexeme) : ℕ → Lexeme → Type 0 where
@@ -29,14 +28,7 @@ pub record BreaksAt (bytes : List ℕ) (i : ℕ) (first : Lexeme) (j : ℕ) : Ty
   pub passes : Passes bytes i first j word
   pub why : (is_lone_in word bytes j ≡ true) ⊎ ((ends word ≡ None) × IsOver bytes j word)
 
--- the bytes from place i up to place j are ASCII and stand for themselves in a string
-pub record ArePlain (bytes : List ℕ) (i j : ℕ) : Type 0 where
-  pub low : i ≤ j
-  pub high : j ≤ length bytes
-  pub usual : NonePasses is_special bytes i j
-  pub ascii : NonePasses is_above bytes i j
-
--- no byte from place i up to place `above` is above ASCII
-pub record IsAsciiUpTo (bytes : List ℕ) (i above : ℕ) : Type 0 where
-  pub within : above ≤ length bytes
-  pub ascii : NonePasses is_above bytes i above
+-- the bytes before place `text` are UTF-8
+pub record IsTextUpTo (bytes : List ℕ) (text : ℕ) : Type 0 where
+  pub within : text ≤ length bytes
+  pub utf8 : IsUtf8 (take text bytes)

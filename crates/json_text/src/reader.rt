@@ -14,19 +14,19 @@ use crate::part::{
 };
 use crate::scan::scan;
 use crate::spot::{Entry, Span, Spot};
-use byte_lanes::QUOTE;
+use byte_lanes::{QUOTE, utf8_len};
 use std::alloc::Global;
 
 /// How many lists and maps may be open at once.
 pub const MAX_DEPTH: usize = 64;
 
-/// A reader within a text: where it stands, a place up to which the bytes from there on are ASCII, the values that have
-/// begun, and the lists and maps that are open.
+/// A reader within a text: where it stands, a place up to which the bytes are UTF-8, the values that have begun, and the lists
+/// and maps that are open.
 #[derive(Drop)]
 struct Reader<'a> {
     bytes: &'a [u8],
     at: usize,
-    ascii: usize,
+    text: usize,
     nodes: Vec<Packed>,
     opened: Vec<Opening>,
 }
@@ -39,7 +39,7 @@ pub(crate) fn read_entries(alloc: Global, bytes: &[u8]) -> Result<Vec<Packed>, J
     let mut reader = Reader {
         bytes,
         at: 0,
-        ascii: 0,
+        text: utf8_len(bytes),
         nodes: Vec::new(alloc),
         opened: Vec::new(alloc),
     };
@@ -235,7 +235,7 @@ impl<'a> Reader<'a> {
             Some(first) => first,
             None => return Err(JsonErr::Bad { at }),
         };
-        let word = match scan(self.bytes, at + 1, first, self.ascii) {
+        let word = match scan(self.bytes, at + 1, first, self.text) {
             Ok(word) => word,
             Err(place) => return Err(JsonErr::Bad { at: place }),
         };
@@ -249,7 +249,6 @@ impl<'a> Reader<'a> {
             Err(_) => return Err(JsonErr::NoMemory),
         }
         self.at = word.end;
-        self.ascii = word.above;
         Ok(Part::Rest)
     }
 
@@ -267,17 +266,11 @@ impl<'a> Reader<'a> {
         if !begins_name(level, here, self.bytes[at]) {
             return Err(JsonErr::Bad { at });
         }
-        let word = match scan(
-            self.bytes,
-            at + 1,
-            Lexeme::Plain { high: false },
-            self.ascii,
-        ) {
+        let word = match scan(self.bytes, at + 1, Lexeme::Plain { high: false }, self.text) {
             Ok(word) => word,
             Err(place) => return Err(JsonErr::Bad { at: place }),
         };
         self.at = word.end;
-        self.ascii = word.above;
         Ok(Part::Named {
             name: Span {
                 start: at,

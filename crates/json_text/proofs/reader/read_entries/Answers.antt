@@ -9,6 +9,6 @@ loop-reader-init c = record {
   same = refl;
   reader = record {
     reads = subst (λ n. Reads c.args.bytes.now 0 start n c.new-2.result.items) (sym c.new.ensures.items) (subst (λ o. Reads c.args.bytes.now 0 start [] o) (sym c.new-2.ensures.items) (read_start c.args.bytes.now));
-    known = record { within = omega arith; ascii = λ k low high. absurd (omega (arith, high)) };
+    known = record { within = c.utf8_len.ensures.within; utf8 = c.utf8_len.ensures.utf8 };
   };
 }

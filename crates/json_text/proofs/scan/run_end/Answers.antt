@@ -1,12 +1,18 @@
-use Rattle.std.proofs.Common.{arith}
-use Rattle.json_text.proofs.Runs.{plain_passes}
+use Rattle.std.proofs.Common.{◌&&◌, eqb, subst, sym, arith}
+use Rattle.json_text.specs.Scan.{Passes}
+use Rattle.json_text.specs.declared.lexeme.Lexeme.TheVariants.{Plain as plain}
+use Rattle.json_text.proofs.Runs.{no_run}
+use Rattle.json_text.proofs.TextRuns.{text_run}
 use Rattle.json_text.proofs.scan.run_end.Goals as goal
 
 pub returns-then-high-clause-passes : goal.returns-then-high-clause-passes
-returns-then-high-clause-passes c =
-    plain_passes c.args.bytes.now c.args.at c.args.at c.args.high (record { low = omega arith; high = c.requires.inside; usual = λ k low high. absurd (omega (arith, low, high)); ascii = λ k low high. absurd (omega (arith, low, high)) })
+returns-then-high-clause-passes c = no_run c.args.bytes.now c.args.at c.args.high
 
-pub returns-then-stop-above-clause-passes : goal.returns-then-stop-above-clause-passes
-returns-then-stop-above-clause-passes c =
-    let stop = c.special_at-stop in
-    plain_passes c.args.bytes.now c.args.at stop.result c.args.high (record { low = stop.ensures.low; high = stop.ensures.high; usual = stop.ensures.usual; ascii = λ k low high. c.requires.known.ascii k low (omega (arith, high, c.if-stop-above.true)) })
+pub returns-clause-passes : goal.returns-clause-passes
+returns-clause-passes c =
+    let bytes = c.args.bytes.now in
+    let at = c.args.at in
+    let stop = c.special_at in
+    let end = c.min.result in
+    subst (λ b. Passes bytes at (plain b) end (plain (b && eqb end at))) (sym c.if-high.false)
+    (text_run bytes c.args.text at stop.result c.requires.known (omega (arith, c.if-at-text.false)) (c.may_begin.ensures c.if-not-may_begin.false) stop.ensures.low stop.ensures.usual stop.ensures.there end c.min.ensures)

@@ -5,7 +5,7 @@ use Rattle.json_text.proofs.Runs.{if_ok, if_err, go_on, ended_at, broken_at, bro
 use Rattle.json_text.proofs.scan.scan.Goals as goal
 
 pub loop-run-init : goal.loop-run-init
-loop-run-init c = record { high = c.requires.inside; passed = stay; ascii = c.requires.known }
+loop-run-init c = record { high = c.requires.inside; passed = stay }
 
 pub returns-in-Err-clause-broken : goal.returns-in-Err-clause-broken
 returns-in-Err-clause-broken c = broken_on c.args.bytes.now c.args.from c.loop-run.at c.in-Err.place c.args.first c.loop-run.word c.loop-run.invariant.passed c.in-Err.ensures.lone
@@ -27,7 +27,6 @@ loop-run-preserved c =
     record {
       high = omega (arith, inside);
       passed = go_on c.args.bytes.now c.args.from c.loop-run.at run.at c.args.first c.loop-run.word run.word c.in-Some.after c.loop-run.invariant.passed c.in-Ok.ensures.passed inside c.in-Ok.ensures.paired (sym c.in-Some.ensures);
-      ascii = record { within = c.in-Ok.ensures.ascii.within; ascii = λ k low high. c.in-Ok.ensures.ascii.ascii k (omega (arith, low)) high };
     }
 
 pub returns-in-None-clause-ended : goal.returns-in-None-clause-ended

@@ -1,12 +1,11 @@
 use Rattle.std.proofs.Common.{◌≤◌, ◌-◌, length}
-use Rattle.json_text.specs.Scan.{Passes, IsAsciiUpTo}
+use Rattle.json_text.specs.Scan.{Passes}
 use Rattle.json_text.proofs.scan.scan.Given as goal
 
 abbrev pub invariant-loop-run : goal.invariant-loop-run
 invariant-loop-run l = record {
   high : l.at ≤ length l.bytes;
   passed : Passes l.bytes l.from l.fn.first l.at l.word;
-  ascii : IsAsciiUpTo l.bytes l.at l.above;
 }
 
 abbrev pub decreases-loop-run : goal.decreases-loop-run

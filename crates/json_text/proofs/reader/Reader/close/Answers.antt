@@ -3,7 +3,7 @@ use Rattle.json_text.specs.declared.part.Part.TheVariants.{Rest as rest}
 use Rattle.json_text.specs.Progress.{spot}
 use Rattle.json_text.specs.Reading.{Reads}
 use Rattle.json_text.proofs.Tokens.{read_close, open_inside}
-use Rattle.json_text.proofs.Steps.{ascii_on, nothing_open}
+use Rattle.json_text.proofs.Steps.{nothing_open}
 use Rattle.json_text.proofs.reader.Reader.close.Goals as goal
 
 pub index-requires : goal.index-requires
@@ -39,5 +39,5 @@ returns-clause-reader c =
     record {
       reads = subst (λ n. Reads self.bytes.now (self.at + 1) rest n c.pop.new.self.items) (sym written)
           (read_close self.bytes.now self.at c.args.here nodes self.opened.items c.args.level c.requires.faces.reader.reads c.requires.faces.between c.pop.new.self.items o kept c.in-Some.ensures.items c.requires.closes (c.unpacked-kept.ensures ∙ c.index.ensures ∙ ap (get_or nodes o.node) (sym c.unpacked-kept.ensures)));
-      known = ascii_on self.bytes.now self.at self.ascii c.requires.faces.reader.known;
+      known = c.requires.faces.reader.known;
     }

@@ -28,5 +28,5 @@ returns-clause-reader c =
     let f = c.requires.faces in
     record {
       reads = read_name self.bytes.now self.at c.args.here self.nodes.items self.opened.items c.args.level f.faces.reader.reads f.faces.between c.in-Ok.word.end c.in-Ok.word.kind f.no_close f.no_turn c.requires.takes (sym c.begins_name.ensures ∙ c.if-not-begins_name.false) c.in-Ok.ensures.ended;
-      known = c.in-Ok.ensures.ascii;
+      known = f.faces.reader.known;
     }

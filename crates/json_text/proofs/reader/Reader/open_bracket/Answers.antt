@@ -4,7 +4,6 @@ use Rattle.json_text.specs.Grammar.{bracket_kind}
 use Rattle.json_text.specs.Progress.{spot}
 use Rattle.json_text.specs.Reading.{Reads}
 use Rattle.json_text.proofs.Tokens.{read_open, read_deep}
-use Rattle.json_text.proofs.Steps.{ascii_on}
 use Rattle.json_text.proofs.reader.Reader.open_bracket.Goals as goal
 
 pub returns-then-depth-ge-MAX_DEPTH-clause-err : goal.returns-then-depth-ge-MAX_DEPTH-clause-err
@@ -32,5 +31,5 @@ returns-clause-reader c =
     record {
       reads = subst (λ n. Reads self.bytes.now (at + 1) start n c.push.new.self.items) (sym pushed) (subst (λ o. Reads self.bytes.now (at + 1) start (nodes ++ record { spot = spot (bracket_kind c.args.bracket) at at c.args.name; depth = length opened; size = 0 } ∷ []) o) (sym opened_now)
           (read_open self.bytes.now at c.args.here nodes opened c.args.level f.faces.reader.reads f.faces.between c.args.name c.args.bracket f.no_close f.no_turn c.requires.takes c.requires.bracket room));
-      known = ascii_on self.bytes.now at self.ascii f.faces.reader.known;
+      known = f.faces.reader.known;
     }

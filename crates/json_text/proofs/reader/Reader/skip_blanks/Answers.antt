@@ -1,6 +1,5 @@
 use Rattle.std.proofs.Common.{sym, ◌∙◌, arith}
 use Rattle.json_text.proofs.Tokens.{read_blank}
-use Rattle.json_text.proofs.Steps.{ascii_on}
 use Rattle.json_text.proofs.reader.Reader.skip_blanks.Goals as goal
 
 pub loop-self-preserved : goal.loop-self-preserved
@@ -11,7 +10,7 @@ loop-self-preserved c =
       same = h.same;
       reader = record {
         reads = read_blank self.bytes.now self.at c.args.here self.nodes.items self.opened.items h.reader.reads c.loop-self-test.true (sym c.is_blank_byte.ensures ∙ c.if-is_blank_byte.true);
-        known = ascii_on self.bytes.now self.at self.ascii h.reader.known;
+        known = h.reader.known;
       };
       low = omega (arith, h.low);
     }

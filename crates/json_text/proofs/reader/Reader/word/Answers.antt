@@ -36,5 +36,5 @@ returns-clause-reader c =
     record {
       reads = subst (λ n. Reads self.bytes.now word.end rest n self.opened.items) (sym pushed)
           (read_word self.bytes.now self.at c.args.here nodes self.opened.items c.args.level f.faces.reader.reads f.faces.between c.args.name c.in-Some.first word.end word.kind f.no_close f.no_turn c.requires.takes c.requires.no_bracket (sym c.in-Some.ensures) c.in-Ok.ensures.ended);
-      known = c.in-Ok.ensures.ascii;
+      known = f.faces.reader.known;
     }

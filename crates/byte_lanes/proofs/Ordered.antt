@@ -1,0 +1,138 @@
+-- Bytes in order up to a place are UTF-8 up to the last whole character before it.
+use Rattle.std.proofs.Common.{◌≡◌, inl, inr, ℕ, zero, suc, ◌+◌, ◌-◌, ◌<◌, ◌≤◌, ◌||◌, false, List, [], ◌∷◌, length, take, drop, get_or, slice_index, refl, sym, ap, ap₂, subst, ◌∙◌, arith, length-drop}
+use Rattle.std.proofs.lemmas.Str.{IsUtf8-from_ascii}
+use Rattle.std.proofs.lemmas.List.{get_or-take, get_or_past, length-take-le, take-take}
+use Rattle.std.proofs.lemmas.Simd.{get_or-chunk}
+use Rattle.std.proofs.lemmas.Bool.{cases_lt, leb-false}
+use Rattle.std.specs.Simd.Lanes.{chunk}
+use Rattle.std.proofs.Math.Seq.{take-length}
+use Rattle.std.specs.Str.{IsUtf8}
+use Rattle.byte_lanes.specs.Bytes.{is_above}
+use Rattle.byte_lanes.specs.Places.{NonePasses}
+use Rattle.byte_lanes.specs.Utf8.{Follows, AreInOrder}
+use Rattle.byte_lanes.proofs.InOrder.{Run, begun, left, texts, ascii_front}
+
+run_of : (w x y : ℕ) (zs : List ℕ) → ((k : ℕ) → k < length zs → Follows (get_or (w ∷ x ∷ y ∷ zs) k 0) (get_or (x ∷ y ∷ zs) k 0) (get_or (y ∷ zs) k 0) (get_or zs k 0)) → Run w x y zs
+run_of w x y [] h = tt
+run_of w x y (z ∷ zs) h = (h zero (omega arith), run_of x y z zs (λ k lt. h (suc k) (omega (arith, lt))))
+
+left_of : (w x y : ℕ) (zs : List ℕ) → left w x y zs ≡ begun (get_or (w ∷ x ∷ y ∷ zs) (length zs) 0) (get_or (x ∷ y ∷ zs) (length zs) 0) (get_or (y ∷ zs) (length zs) 0)
+left_of w x y [] = refl
+left_of w x y (z ∷ zs) = left_of x y z zs
+
+-- an ASCII byte may stand behind others
+pub ascii_follows : (t s f b : ℕ) → t < 128 → s < 128 → f < 128 → b < 128 → Follows t s f b
+ascii_follows t s f b h i j k = record {
+  in_two = λ l. absurd (omega (arith, j, l));
+  in_three = λ l. absurd (omega (arith, i, l));
+  in_four = λ l. absurd (omega (arith, h, l));
+  begins = λ l m n. inl k;
+  behind_e0 = λ l. absurd (omega (arith, j, l));
+  behind_ed = λ l. absurd (omega (arith, j, l));
+  behind_f0 = λ l. absurd (omega (arith, j, l));
+  behind_f4 = λ l. absurd (omega (arith, j, l));
+}
+
+-- of the bytes before place m + 3 the last that is of no whole character is so many before it
+pub record IsWhole (bytes : List ℕ) (m few : ℕ) : Type 0 where
+  pub within : few ≤ m
+  pub text : IsUtf8 (take (suc (suc (suc m)) - few) bytes)
+
+pub whole_text : (m w x y : ℕ) (zs : List ℕ) → m ≤ length zs → w < 128 → x < 128 → y < 128 → AreInOrder (w ∷ x ∷ y ∷ zs) (suc (suc (suc m))) → IsWhole (w ∷ x ∷ y ∷ zs) m (begun (get_or (w ∷ x ∷ y ∷ zs) m 0) (get_or (x ∷ y ∷ zs) m 0) (get_or (y ∷ zs) m 0))
+whole_text m w x y zs room a b c order = found
+  where
+    ts : List ℕ
+    ts = take m zs
+
+    long : length ts ≡ m
+    long = length-take-le m zs room
+
+    at_y : (k : ℕ) → k ≤ m → get_or (y ∷ ts) k 0 ≡ get_or (y ∷ zs) k 0
+    at_y zero h = refl
+    at_y (suc k) h = get_or-take m zs k 0 (omega (arith, h))
+
+    at_x : (k : ℕ) → k ≤ m → get_or (x ∷ y ∷ ts) k 0 ≡ get_or (x ∷ y ∷ zs) k 0
+    at_x zero h = refl
+    at_x (suc k) h = at_y k (omega (arith, h))
+
+    at_w : (k : ℕ) → k ≤ m → get_or (w ∷ x ∷ y ∷ ts) k 0 ≡ get_or (w ∷ x ∷ y ∷ zs) k 0
+    at_w zero h = refl
+    at_w (suc k) h = at_x k (omega (arith, h))
+
+    run : Run w x y ts
+    run = run_of w x y ts (λ k lt.
+        let low : k < m = omega (arith, lt, long) in
+        let le : k ≤ m = omega (arith, low) in
+        rw (at_w k le, at_x k le, at_y k le, get_or-take m zs k 0 low) (order k (omega (arith, low))))
+
+    few : ℕ
+    few = left w x y ts
+
+    is : few ≡ begun (get_or (w ∷ x ∷ y ∷ zs) m 0) (get_or (x ∷ y ∷ zs) m 0) (get_or (y ∷ zs) m 0)
+    is =
+        let le : m ≤ m = omega arith in
+        left_of w x y ts ∙ ap (λ n. begun (get_or (w ∷ x ∷ y ∷ ts) n 0) (get_or (x ∷ y ∷ ts) n 0) (get_or (y ∷ ts) n 0)) long ∙ rw (at_w m le, at_x m le, at_y m le) refl
+
+    found : IsWhole (w ∷ x ∷ y ∷ zs) m (begun (get_or (w ∷ x ∷ y ∷ zs) m 0) (get_or (x ∷ y ∷ zs) m 0) (get_or (y ∷ zs) m 0))
+    found =
+        let text = texts m w x y ts (omega (arith, long)) (omega (arith, a)) (omega (arith, b)) (omega (arith, c)) run in
+        let within : few ≤ m = omega (arith, text.within, long) in
+        let cut : suc (suc (suc m)) - few ≡ suc (suc (suc (m - few))) = omega (arith, within) in
+        let same : take (length ts - few) ts ≡ take (m - few) zs = ap (λ n. take (n - few) ts) long ∙ take-take (m - few) m zs (omega arith) in
+        subst (IsWhole (w ∷ x ∷ y ∷ zs) m) is (record {
+          within = within;
+          text = rw cut (ascii_front w (x ∷ y ∷ take (m - few) zs) a (ascii_front x (y ∷ take (m - few) zs) b (ascii_front y (take (m - few) zs) c (subst IsUtf8 same text.text))));
+        })
+
+-- one more block
+pub block_more : (bytes : List ℕ) (at : ℕ) → 3 ≤ at → AreInOrder bytes at
+    → ((k : ℕ) → k < 32 → Follows (slice_index (chunk (at - 3) 32 bytes) k) (slice_index (chunk (at - 2) 32 bytes) k) (slice_index (chunk (at - 1) 32 bytes) k) (slice_index (chunk at 32 bytes) k))
+    → AreInOrder bytes (at + 32)
+block_more bytes at low before lanes k high = elim (cases_lt (suc (suc (suc k))) at) [
+  | inl near ↦ before k near
+  | inr far ↦ (
+      let j = suc (suc (suc k)) - at in
+      let within : j < 32 = omega (arith, far, high) in
+      let third : at - 3 + j ≡ k = omega (arith, far, low) in
+      let second : at - 2 + j ≡ suc k = omega (arith, far, low) in
+      let first : at - 1 + j ≡ suc (suc k) = omega (arith, far, low) in
+      let place : at + j ≡ suc (suc (suc k)) = omega (arith, far) in
+      let t = get_or-chunk (at - 3) 32 bytes j 0 within ∙ ap (λ i. get_or bytes i 0) third in
+      let s = get_or-chunk (at - 2) 32 bytes j 0 within ∙ ap (λ i. get_or bytes i 0) second in
+      let f = get_or-chunk (at - 1) 32 bytes j 0 within ∙ ap (λ i. get_or bytes i 0) first in
+      let b = get_or-chunk at 32 bytes j 0 within ∙ ap (λ i. get_or bytes i 0) place in
+      subst (λ x. x) (ap₂ (λ x y. Follows x y (get_or bytes (suc (suc k)) 0) (get_or bytes (suc (suc (suc k))) 0)) t s) (subst (λ x. x) (ap₂ (λ x y. Follows (get_or (chunk (at - 3) 32 bytes) j 0) (get_or (chunk (at - 2) 32 bytes) j 0) x y) f b) (lanes j within)))
+]
+
+-- ASCII is in order
+pub ascii_ordered : (bytes : List ℕ) (above : ℕ) → NonePasses is_above bytes 0 above → AreInOrder bytes above
+ascii_ordered bytes above plain k high =
+    let low : (j : ℕ) → j < above → get_or bytes j 0 < 128 = λ j h. leb-false 128 (get_or bytes j 0) (plain j (omega arith) h) in
+    ascii_follows _ _ _ _ (low k (omega (arith, high))) (low (suc k) (omega (arith, high))) (low (suc (suc k)) (omega (arith, high))) (low (suc (suc (suc k))) high)
+
+-- the text up to the last whole character before place `end`
+pub whole_before : (bytes : List ℕ) (end few : ℕ) → 3 ≤ end → end ≤ length bytes → NonePasses is_above bytes 0 3 → AreInOrder bytes end → few ≡ begun (get_or bytes (end - 3) 0) (get_or bytes (end - 2) 0) (get_or bytes (end - 1) 0) → IsUtf8 (take (end - few) bytes)
+whole_before [] end few low high plain order is = absurd (omega (arith, low, high))
+whole_before (w ∷ []) end few low high plain order is = absurd (omega (arith, low, high))
+whole_before (w ∷ x ∷ []) end few low high plain order is = absurd (omega (arith, low, high))
+whole_before (w ∷ x ∷ y ∷ zs) end few low high plain order is =
+    let m = end - 3 in
+    let there : end ≡ suc (suc (suc m)) = omega (arith, low) in
+    let second : end - 2 ≡ suc m = omega (arith, low) in
+    let first : end - 1 ≡ suc (suc m) = omega (arith, low) in
+    let a = leb-false 128 w (plain 0 (omega arith) (omega arith)) in
+    let b = leb-false 128 x (plain 1 (omega arith) (omega arith)) in
+    let c = leb-false 128 y (plain 2 (omega arith) (omega arith)) in
+    let whole = whole_text m w x y zs (omega (arith, high, there)) a b c (λ k h. order k (omega (arith, h, there))) in
+    let same : few ≡ begun (get_or (w ∷ x ∷ y ∷ zs) m 0) (get_or (x ∷ y ∷ zs) m 0) (get_or (y ∷ zs) m 0) = is ∙ ap₂ (λ i j. begun (get_or (w ∷ x ∷ y ∷ zs) m 0) (get_or (w ∷ x ∷ y ∷ zs) i 0) (get_or (w ∷ x ∷ y ∷ zs) j 0)) second first in
+    subst (λ n. IsUtf8 (take n (w ∷ x ∷ y ∷ zs))) (ap₂ (λ i j. i - j) (sym there) (sym same)) whole.text
+
+pub all_ascii : (bytes : List ℕ) → NonePasses is_above bytes 0 (length bytes) → IsUtf8 bytes
+all_ascii bytes plain = IsUtf8-from_ascii bytes (λ k. elim (cases_lt k (length bytes)) [
+  | inl within ↦ leb-false 128 (get_or bytes k 0) (plain k (omega arith) within)
+  | inr past ↦ rw (get_or_past bytes k 0 past) (omega arith)
+])
+
+-- the rest as a slice
+pub rest_is_drop : (bytes : List ℕ) (n : ℕ) → take (length bytes - n) (drop n bytes) ≡ drop n bytes
+rest_is_drop bytes n = ap (λ m. take m (drop n bytes)) (sym (length-drop n bytes)) ∙ take-length (drop n bytes)

@@ -1,0 +1,25 @@
+use Rattle.std.proofs.Common.{◌≡◌, ◌<◌, ◌≤◌, length, take, drop, get_or, subst, sym, ap, ◌∙◌, arith, inl, inr, length-drop, take-add}
+use Rattle.std.proofs.Math.Seq.{take-length}
+use Rattle.std.proofs.lemmas.Bool.{leb-false, cases_lt}
+use Rattle.std.proofs.lemmas.Str.{IsUtf8-append, IsUtf8-from_ascii, IsUtf8-drop, IsCharBoundary-from_take}
+use Rattle.std.specs.Str.{IsUtf8}
+use Rattle.byte_lanes.proofs.Ordered.{all_ascii, rest_is_drop}
+use Rattle.byte_lanes.proofs.utf8.utf8_len.Goals as goal
+
+pub returns-in-Some-clause-utf8 : goal.returns-in-Some-clause-utf8
+returns-in-Some-clause-utf8 c =
+    let bytes = c.args.bytes.now in
+    let whole = c.utf8_by_blocks-whole in
+    let rest = c.utf8_by_chars in
+    subst IsUtf8 (sym (take-add whole.result rest.result bytes)) (IsUtf8-append (take whole.result bytes) (take rest.result (drop whole.result bytes)) whole.ensures.utf8 (subst (λ l. IsUtf8 (take rest.result l)) (rest_is_drop bytes whole.result) rest.ensures.utf8))
+
+pub returns-in-Some-clause-all : goal.returns-in-Some-clause-all
+returns-in-Some-clause-all c utf8 =
+    let bytes = c.args.bytes.now in
+    let whole = c.utf8_by_blocks-whole in
+    let boundary = IsCharBoundary-from_take bytes whole.result utf8 whole.ensures.within whole.ensures.utf8 in
+    let rest = c.utf8_by_chars.ensures.all (subst IsUtf8 (sym (rest_is_drop bytes whole.result)) (IsUtf8-drop bytes whole.result utf8 boundary)) in
+    omega (arith, rest, ap length (rest_is_drop bytes whole.result), length-drop whole.result bytes, whole.ensures.within)
+
+pub returns-in-None-clause-utf8 : goal.returns-in-None-clause-utf8
+returns-in-None-clause-utf8 c = subst IsUtf8 (sym (take-length c.args.bytes.now)) (all_ascii c.args.bytes.now c.in-None.ensures)

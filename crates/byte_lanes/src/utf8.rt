@@ -1,0 +1,160 @@
+ghost use Rattle.std.specs.Prelude.{◌≡◌, ◌<◌, ◌≤◌, ◌+◌, ℕ, true, length, take, map, slice_index, nat_le, nat_lt, ◌==◌};
+ghost use Rattle.std.specs.Simd.Lanes.{mask_l};
+ghost use Rattle.std.specs.Str.{IsUtf8};
+ghost use Rattle.byte_lanes.specs.Bytes.{is_above};
+ghost use Rattle.byte_lanes.specs.Places.{NonePasses};
+ghost use Rattle.byte_lanes.specs.Utf8.{AreInOrder, Follows};
+
+use crate::lanes::{BLOCK, FIRST_ABOVE_ASCII};
+use crate::places::first_above;
+use std::simd::prelude::*;
+use std::str::from_utf8;
+
+/// The least byte that begins a character of two bytes or more, of three or more, and of four.
+const TWO: u8 = 0xc0;
+
+const THREE: u8 = 0xe0;
+
+const FOUR: u8 = 0xf0;
+
+/// How many bytes before one tell whether it may stand there.
+const BEFORE: usize = 3;
+
+/// How many bytes in front are UTF-8 (RFC 3629, section 4); all of them where all are.
+pub fn utf8_len(bytes: &[u8]) -> usize
+    ensures within { result ≤ length bytes.now }
+    ensures utf8 { IsUtf8 (take result bytes.now) }
+    ensures all { IsUtf8 bytes.now → result ≡ length bytes.now }
+{
+    match first_above(bytes, 0) {
+        Some(place) => {
+            let whole = utf8_by_blocks(bytes, place);
+            whole + utf8_by_chars(&bytes[whole..])
+        }
+        None => bytes.len(),
+    }
+}
+
+// Some bytes in front that are UTF-8, the first above ASCII standing at place `above`.
+fn utf8_by_blocks(bytes: &[u8], above: usize) -> usize
+    requires inside { above ≤ length bytes.now }
+    requires ascii { NonePasses is_above bytes.now 0 above }
+    ensures within { result ≤ length bytes.now }
+    ensures utf8 { IsUtf8 (take result bytes.now) }
+{
+    if above < BEFORE {
+        return 0;
+    }
+    whole_end(bytes, ordered_end(bytes, above))
+}
+
+// A place up to which each byte may stand behind those before it.
+fn ordered_end(bytes: &[u8], above: usize) -> usize
+    requires low { 3 ≤ above }
+    requires inside { above ≤ length bytes.now }
+    requires ascii { NonePasses is_above bytes.now 0 above }
+    ensures low { 3 ≤ result }
+    ensures inside { result ≤ length bytes.now }
+    ensures ordered { AreInOrder bytes.now result }
+{
+    let mut at = above;
+    while bytes.len() - at >= BLOCK {
+        if !is_block_in_order(bytes, at) {
+            return at;
+        }
+        at += BLOCK;
+    }
+    at
+}
+
+#[inline(always)]
+fn is_block_in_order(bytes: &[u8], at: usize) -> bool
+    requires low { 3 ≤ at }
+    requires inside { at + 32 ≤ length bytes.now }
+    ensures { result ≡ true → AreInOrder bytes.now at → AreInOrder bytes.now (at + 32) }
+{
+    all_follow(
+        u8x32::from_slice(&bytes[at - 3..]),
+        u8x32::from_slice(&bytes[at - 2..]),
+        u8x32::from_slice(&bytes[at - 1..]),
+        u8x32::from_slice(&bytes[at..]),
+    )
+}
+
+// Whether in each lane the byte may stand behind the three others.
+#[inline(always)]
+fn all_follow(third: u8x32, second: u8x32, first: u8x32, byte: u8x32) -> bool
+    requires third { length third ≡ 32 }
+    requires second { length second ≡ 32 }
+    requires first { length first ≡ 32 }
+    requires byte { length byte ≡ 32 }
+    ensures { result ≡ true → (k : ℕ) → k < 32 → Follows (slice_index third k) (slice_index second k) (slice_index first k) (slice_index byte k) }
+{
+    let wanted = at_least(third, FOUR) | at_least(second, THREE) | at_least(first, TWO);
+    let within = at_least(byte, FIRST_ABOVE_ASCII) & below(byte, TWO);
+    let never = equal(byte, 0xc0) | equal(byte, 0xc1) | at_least(byte, 0xf5);
+    let low = equal(first, 0xe0) & below(byte, 0xa0) | equal(first, 0xf0) & below(byte, 0x90);
+    let high = equal(first, 0xed) & at_least(byte, 0xa0)
+        | equal(first, 0xf4) & at_least(byte, 0x90);
+    wanted == within && (never | low | high) == 0
+}
+
+// Bit k is set exactly where lane k is at least this.
+#[inline(always)]
+fn at_least(block: u8x32, least: u8) -> u64
+    requires { length block ≡ 32 }
+    ensures { result ≡ mask_l (map (λ byte. nat_le least byte) block) }
+{
+    block.simd_ge(u8x32::splat(least)).to_bitmask()
+}
+
+// The same where it is below.
+#[inline(always)]
+fn below(block: u8x32, bound: u8) -> u64
+    requires { length block ≡ 32 }
+    ensures { result ≡ mask_l (map (λ byte. nat_lt byte bound) block) }
+{
+    block.simd_lt(u8x32::splat(bound)).to_bitmask()
+}
+
+// The same where it is equal.
+#[inline(always)]
+fn equal(block: u8x32, other: u8) -> u64
+    requires { length block ≡ 32 }
+    ensures { result ≡ mask_l (map (λ byte. byte == other) block) }
+{
+    block.simd_eq(u8x32::splat(other)).to_bitmask()
+}
+
+// The end of the last whole character before place `end`.
+fn whole_end(bytes: &[u8], end: usize) -> usize
+    requires low { 3 ≤ end }
+    requires inside { end ≤ length bytes.now }
+    requires ascii { NonePasses is_above bytes.now 0 3 }
+    requires ordered { AreInOrder bytes.now end }
+    ensures within { result ≤ length bytes.now }
+    ensures utf8 { IsUtf8 (take result bytes.now) }
+{
+    if bytes[end - 1] >= TWO {
+        return end - 1;
+    }
+    if bytes[end - 2] >= THREE {
+        return end - 2;
+    }
+    if bytes[end - 3] >= FOUR {
+        return end - 3;
+    }
+    end
+}
+
+// A character at a time.
+fn utf8_by_chars(bytes: &[u8]) -> usize
+    ensures within { result ≤ length bytes.now }
+    ensures utf8 { IsUtf8 (take result bytes.now) }
+    ensures all { IsUtf8 bytes.now → result ≡ length bytes.now }
+{
+    match from_utf8(bytes) {
+        Ok(_) => bytes.len(),
+        Err(error) => error.valid_up_to(),
+    }
+}
