@@ -1,12 +1,12 @@
 -- Bytes that stand in order are UTF-8, but for a character at their end that isn't whole.
-use Rattle.std.proofs.Common.{◌≡◌, ◌≢◌, ◌⊎◌, inl, inr, ℕ, zero, suc, ◌+◌, ◌-◌, ◌*◌, ◌<◌, ◌≤◌, cond, ltb, lt-ltb, le-ltb, List, [], ◌∷◌, ◌++◌, length, take, get_or, refl, sym, ap, subst, ◌∙◌, arith, length-append}
+use Rattle.std.proofs.Common.{◌≡◌, ◌⊎◌, inl, inr, ℕ, zero, suc, ◌+◌, ◌-◌, ◌*◌, ◌<◌, ◌≤◌, cond, ltb, lt-ltb, le-ltb, List, [], ◌∷◌, ◌++◌, length, take, refl, sym, ap, subst, ◌∙◌, arith, length-append}
 use Rattle.std.proofs.lemmas.Bool.{cases_lt, cases_eq}
 use Rattle.std.proofs.lemmas.Str.{IsUtf8-nil, IsUtf8-append, encode_ascii, IsUtf8-encode}
 use Rattle.std.proofs.Math.Seq.{take-append-add}
 use Rattle.std.specs.Str.{IsUtf8}
 use Rattle.std.specs.Prelude.{⊤}
 use lib.Utf8.{low_scalar}
-use Rattle.byte_lanes.specs.Utf8.{Follows, AreInOrder}
+use Rattle.byte_lanes.specs.Utf8.{Follows}
 use Rattle.byte_lanes.proofs.Chars.{IsOneChar, front, char_two, char_three, char_four}
 
 -- behind these three bytes each may stand where it does

@@ -1,5 +1,5 @@
 -- The text that a string spells is UTF-8.
-use Rattle.std.proofs.Common.{append_assoc, subst, ◌≡◌, ◌≢◌, ◌⊎◌, inl, inr, ℕ, zero, suc, ◌+◌, ◌-◌, ◌*◌, ◌/◌, ◌<◌, ◌≤◌, Bool, true, false, cond, eqb, ltb, lt-ltb, le-ltb, le-leb, List, [], ◌∷◌, ◌++◌, Some, None, refl, ◌∙◌, arith}
+use Rattle.std.proofs.Common.{append_assoc, subst, ◌≡◌, ◌≢◌, ◌⊎◌, inl, inr, ℕ, zero, suc, ◌+◌, ◌-◌, ◌*◌, ◌<◌, ◌≤◌, Bool, true, false, cond, eqb, ltb, List, [], ◌∷◌, ◌++◌, Some, None, refl, arith}
 use Rattle.std.proofs.lemmas.Bool.{cases_lt, ltb-true, ltb-false, eqb-false}
 use Rattle.std.specs.Str.{IsUtf8}
 pub use Rattle.byte_lanes.proofs.Chars.{two, three, four, high_scalar, IsOneChar}

@@ -1,6 +1,5 @@
-use Rattle.std.proofs.Common.{◌≡◌, ℕ, ◌<◌, ◌≤◌, Bool, eqb, leb, ltb, ◌||◌, ◌&&◌, length, slice_index, arith, w8}
+use Rattle.std.proofs.Common.{◌<◌, eqb, leb, ltb, length, slice_index, arith}
 use Rattle.std.proofs.lemmas.Bool.{eqb-true}
-use Rattle.byte_lanes.specs.Utf8.{Follows}
 use Rattle.byte_lanes.proofs.LaneTests.{lane, either, both, same, none, follows}
 use Rattle.byte_lanes.proofs.utf8.all_follow.Goals as goal
 

@@ -1,6 +1,4 @@
-use Rattle.std.proofs.Common.{◌≡◌, ℕ, suc, ◌+◌, ◌-◌, ◌<◌, ◌≤◌, length, get_or, slice_index, inl, inr, ap, ◌∙◌, arith}
-use Rattle.std.specs.Simd.Lanes.{chunk}
-use Rattle.std.proofs.lemmas.Bool.{cases_lt}
+use Rattle.std.proofs.Common.{◌-◌, arith}
 use Rattle.std.proofs.lemmas.Simd.{length-chunk}
 use Rattle.byte_lanes.proofs.Ordered.{block_more}
 use Rattle.byte_lanes.proofs.utf8.is_block_in_order.Goals as goal

@@ -1,7 +1,6 @@
-use Rattle.std.proofs.Common.{◌≡◌, ◌<◌, ◌≤◌, length, take, drop, get_or, subst, sym, ap, ◌∙◌, arith, inl, inr, length-drop, take-add}
+use Rattle.std.proofs.Common.{length, take, drop, subst, sym, ap, arith, length-drop, take-add}
 use Rattle.std.proofs.Math.Seq.{take-length}
-use Rattle.std.proofs.lemmas.Bool.{leb-false, cases_lt}
-use Rattle.std.proofs.lemmas.Str.{IsUtf8-append, IsUtf8-from_ascii, IsUtf8-drop, IsCharBoundary-from_take}
+use Rattle.std.proofs.lemmas.Str.{IsUtf8-append, IsUtf8-drop, IsCharBoundary-from_take}
 use Rattle.std.specs.Str.{IsUtf8}
 use Rattle.byte_lanes.proofs.Ordered.{all_ascii, rest_is_drop}
 use Rattle.byte_lanes.proofs.utf8.utf8_len.Goals as goal

@@ -1,4 +1,4 @@
-use Rattle.std.proofs.Common.{refl, sym, subst, arith, []}
+use Rattle.std.proofs.Common.{refl, sym, subst, []}
 use Rattle.json_text.specs.declared.part.Part.TheVariants.{Start as start}
 use Rattle.json_text.specs.Reading.{Reads}
 use Rattle.json_text.proofs.Tokens.{read_start}
