@@ -1,7 +1,7 @@
 -- Bytes in order up to a place are UTF-8 up to the last whole character before it.
-use Rattle.std.proofs.Common.{◌≡◌, inl, inr, ℕ, zero, suc, ◌+◌, ◌-◌, ◌<◌, ◌≤◌, List, [], ◌∷◌, length, take, drop, get_or, slice_index, refl, sym, ap, ap₂, subst, ◌∙◌, arith, length-drop}
-use Rattle.std.proofs.lemmas.Str.{IsUtf8-from_ascii}
-use Rattle.std.proofs.lemmas.List.{get_or-take, get_or_past, length-take-le, take-take}
+use Rattle.std.proofs.Common.{take-add, false, ◌≡◌, inl, inr, ℕ, zero, suc, ◌+◌, ◌-◌, ◌<◌, ◌≤◌, List, [], ◌∷◌, length, take, drop, get_or, slice_index, refl, sym, ap, ap₂, subst, ◌∙◌, arith, length-drop}
+use Rattle.std.proofs.lemmas.Str.{IsUtf8-from_ascii, IsUtf8-append}
+use Rattle.std.proofs.lemmas.List.{get_or-take, get_or_past, length-take-le, take-take, drop-drop}
 use Rattle.std.proofs.lemmas.Simd.{get_or-chunk}
 use Rattle.std.proofs.lemmas.Bool.{cases_lt, leb-false}
 use Rattle.std.specs.Simd.Lanes.{chunk}
@@ -10,7 +10,7 @@ use Rattle.std.specs.Str.{IsUtf8}
 use Rattle.byte_lanes.specs.Bytes.{is_above}
 use Rattle.byte_lanes.specs.Places.{NonePasses}
 use Rattle.byte_lanes.specs.Utf8.{Follows, AreInOrder}
-use Rattle.byte_lanes.proofs.InOrder.{Run, begun, left, texts, ascii_front}
+use Rattle.byte_lanes.proofs.InOrder.{Run, begun, left, texts}
 
 run_of : (w x y : ℕ) (zs : List ℕ) → ((k : ℕ) → k < length zs → Follows (get_or (w ∷ x ∷ y ∷ zs) k 0) (get_or (x ∷ y ∷ zs) k 0) (get_or (y ∷ zs) k 0) (get_or zs k 0)) → Run w x y zs
 run_of w x y [] h = tt
@@ -20,25 +20,12 @@ left_of : (w x y : ℕ) (zs : List ℕ) → left w x y zs ≡ begun (get_or (w �
 left_of w x y [] = refl
 left_of w x y (z ∷ zs) = left_of x y z zs
 
--- an ASCII byte may stand behind others
-pub ascii_follows : (t s f b : ℕ) → t < 128 → s < 128 → f < 128 → b < 128 → Follows t s f b
-ascii_follows t s f b h i j k = record {
-  in_two = λ l. absurd (omega (arith, j, l));
-  in_three = λ l. absurd (omega (arith, i, l));
-  in_four = λ l. absurd (omega (arith, h, l));
-  begins = λ l m n. inl k;
-  behind_e0 = λ l. absurd (omega (arith, j, l));
-  behind_ed = λ l. absurd (omega (arith, j, l));
-  behind_f0 = λ l. absurd (omega (arith, j, l));
-  behind_f4 = λ l. absurd (omega (arith, j, l));
-}
-
--- of the bytes before place m + 3 the last that is of no whole character is so many before it
+-- of the bytes before place m, of which a character begins the first, the last `few` are of no whole one
 pub record IsWhole (bytes : List ℕ) (m few : ℕ) : Type 0 where
   pub within : few ≤ m
-  pub text : IsUtf8 (take (suc (suc (suc m)) - few) bytes)
+  pub text : IsUtf8 (take (m - few) bytes)
 
-pub whole_text : (m w x y : ℕ) (zs : List ℕ) → m ≤ length zs → w < 128 → x < 128 → y < 128 → AreInOrder (w ∷ x ∷ y ∷ zs) (suc (suc (suc m))) → IsWhole (w ∷ x ∷ y ∷ zs) m (begun (get_or (w ∷ x ∷ y ∷ zs) m 0) (get_or (x ∷ y ∷ zs) m 0) (get_or (y ∷ zs) m 0))
+pub whole_text : (m w x y : ℕ) (zs : List ℕ) → m ≤ length zs → w < 0xf0 → x < 0xe0 → y < 0xc0 → AreInOrder (w ∷ x ∷ y ∷ zs) (suc (suc (suc m))) → IsWhole zs m (begun (get_or (w ∷ x ∷ y ∷ zs) m 0) (get_or (x ∷ y ∷ zs) m 0) (get_or (y ∷ zs) m 0))
 whole_text m w x y zs room a b c order = found
   where
     ts : List ℕ
@@ -73,16 +60,12 @@ whole_text m w x y zs room a b c order = found
         let le : m ≤ m = omega arith in
         left_of w x y ts ∙ ap (λ n. begun (get_or (w ∷ x ∷ y ∷ ts) n 0) (get_or (x ∷ y ∷ ts) n 0) (get_or (y ∷ ts) n 0)) long ∙ rw (at_w m le, at_x m le, at_y m le) refl
 
-    found : IsWhole (w ∷ x ∷ y ∷ zs) m (begun (get_or (w ∷ x ∷ y ∷ zs) m 0) (get_or (x ∷ y ∷ zs) m 0) (get_or (y ∷ zs) m 0))
+    found : IsWhole zs m (begun (get_or (w ∷ x ∷ y ∷ zs) m 0) (get_or (x ∷ y ∷ zs) m 0) (get_or (y ∷ zs) m 0))
     found =
-        let text = texts m w x y ts (omega (arith, long)) (omega (arith, a)) (omega (arith, b)) (omega (arith, c)) run in
+        let text = texts m w x y ts (omega (arith, long)) a b c run in
         let within : few ≤ m = omega (arith, text.within, long) in
-        let cut : suc (suc (suc m)) - few ≡ suc (suc (suc (m - few))) = omega (arith, within) in
         let same : take (length ts - few) ts ≡ take (m - few) zs = ap (λ n. take (n - few) ts) long ∙ take-take (m - few) m zs (omega arith) in
-        subst (IsWhole (w ∷ x ∷ y ∷ zs) m) is (record {
-          within = within;
-          text = rw cut (ascii_front w (x ∷ y ∷ take (m - few) zs) a (ascii_front x (y ∷ take (m - few) zs) b (ascii_front y (take (m - few) zs) c (subst IsUtf8 same text.text))));
-        })
+        subst (IsWhole zs m) is (record { within = within; text = subst IsUtf8 same text.text })
 
 -- one more block
 pub block_more : (bytes : List ℕ) (at : ℕ) → 3 ≤ at → AreInOrder bytes at
@@ -104,28 +87,21 @@ block_more bytes at low before lanes k high = elim (cases_lt (suc (suc (suc k)))
       subst (λ x. x) (ap₂ (λ x y. Follows x y (get_or bytes (suc (suc k)) 0) (get_or bytes (suc (suc (suc k))) 0)) t s) (subst (λ x. x) (ap₂ (λ x y. Follows (get_or (chunk (at - 3) 32 bytes) j 0) (get_or (chunk (at - 2) 32 bytes) j 0) x y) f b) (lanes j within)))
 ]
 
--- ASCII is in order
-pub ascii_ordered : (bytes : List ℕ) (above : ℕ) → NonePasses is_above bytes 0 above → AreInOrder bytes above
-ascii_ordered bytes above plain k high =
-    let low : (j : ℕ) → j < above → get_or bytes j 0 < 128 = λ j h. leb-false 128 (get_or bytes j 0) (plain j (omega arith) h) in
-    ascii_follows _ _ _ _ (low k (omega (arith, high))) (low (suc k) (omega (arith, high))) (low (suc (suc k)) (omega (arith, high))) (low (suc (suc (suc k))) high)
-
--- the text up to the last whole character before place `end`
-pub whole_before : (bytes : List ℕ) (end few : ℕ) → 3 ≤ end → end ≤ length bytes → NonePasses is_above bytes 0 3 → AreInOrder bytes end → few ≡ begun (get_or bytes (end - 3) 0) (get_or bytes (end - 2) 0) (get_or bytes (end - 1) 0) → IsUtf8 (take (end - few) bytes)
-whole_before [] end few low high plain order is = absurd (omega (arith, low, high))
-whole_before (w ∷ []) end few low high plain order is = absurd (omega (arith, low, high))
-whole_before (w ∷ x ∷ []) end few low high plain order is = absurd (omega (arith, low, high))
-whole_before (w ∷ x ∷ y ∷ zs) end few low high plain order is =
+-- the text behind the first three bytes, up to the last whole character before place `end`
+pub whole_before : (bytes : List ℕ) (end few : ℕ) → 3 ≤ end → end ≤ length bytes → (get_or bytes 0 0 < 0xf0) × (get_or bytes 1 0 < 0xe0) × (get_or bytes 2 0 < 0xc0) → AreInOrder bytes end → few ≡ begun (get_or bytes (end - 3) 0) (get_or bytes (end - 2) 0) (get_or bytes (end - 1) 0) → (3 ≤ end - few) × IsUtf8 (take (end - few - 3) (drop 3 bytes))
+whole_before [] end few low high first order is = absurd (omega (arith, low, high))
+whole_before (w ∷ []) end few low high first order is = absurd (omega (arith, low, high))
+whole_before (w ∷ x ∷ []) end few low high first order is = absurd (omega (arith, low, high))
+whole_before (w ∷ x ∷ y ∷ zs) end few low high first order is =
     let m = end - 3 in
     let there : end ≡ suc (suc (suc m)) = omega (arith, low) in
     let second : end - 2 ≡ suc m = omega (arith, low) in
-    let first : end - 1 ≡ suc (suc m) = omega (arith, low) in
-    let a = leb-false 128 w (plain 0 (omega arith) (omega arith)) in
-    let b = leb-false 128 x (plain 1 (omega arith) (omega arith)) in
-    let c = leb-false 128 y (plain 2 (omega arith) (omega arith)) in
-    let whole = whole_text m w x y zs (omega (arith, high, there)) a b c (λ k h. order k (omega (arith, h, there))) in
-    let same : few ≡ begun (get_or (w ∷ x ∷ y ∷ zs) m 0) (get_or (x ∷ y ∷ zs) m 0) (get_or (y ∷ zs) m 0) = is ∙ ap₂ (λ i j. begun (get_or (w ∷ x ∷ y ∷ zs) m 0) (get_or (w ∷ x ∷ y ∷ zs) i 0) (get_or (w ∷ x ∷ y ∷ zs) j 0)) second first in
-    subst (λ n. IsUtf8 (take n (w ∷ x ∷ y ∷ zs))) (ap₂ (λ i j. i - j) (sym there) (sym same)) whole.text
+    let last : end - 1 ≡ suc (suc m) = omega (arith, low) in
+    let whole = whole_text m w x y zs (omega (arith, high, there)) first.0 first.1 first.2 (λ k h. order k (omega (arith, h, there))) in
+    let same : few ≡ begun (get_or (w ∷ x ∷ y ∷ zs) m 0) (get_or (x ∷ y ∷ zs) m 0) (get_or (y ∷ zs) m 0) = is ∙ ap₂ (λ i j. begun (get_or (w ∷ x ∷ y ∷ zs) m 0) (get_or (w ∷ x ∷ y ∷ zs) i 0) (get_or (w ∷ x ∷ y ∷ zs) j 0)) second last in
+    let within : few ≤ m = omega (arith, whole.within, same) in
+    let cut : m - begun (get_or (w ∷ x ∷ y ∷ zs) m 0) (get_or (x ∷ y ∷ zs) m 0) (get_or (y ∷ zs) m 0) ≡ end - few - 3 = ap (λ n. m - n) (sym same) ∙ omega (arith, there, within) in
+    (omega (arith, there, within), subst (λ n. IsUtf8 (take n zs)) cut whole.text)
 
 pub all_ascii : (bytes : List ℕ) → NonePasses is_above bytes 0 (length bytes) → IsUtf8 bytes
 all_ascii bytes plain = IsUtf8-from_ascii bytes (λ k. elim (cases_lt k (length bytes)) [
@@ -136,3 +112,18 @@ all_ascii bytes plain = IsUtf8-from_ascii bytes (λ k. elim (cases_lt k (length 
 -- the rest as a slice
 pub rest_is_drop : (bytes : List ℕ) (n : ℕ) → take (length bytes - n) (drop n bytes) ≡ drop n bytes
 rest_is_drop bytes n = ap (λ m. take m (drop n bytes)) (sym (length-drop n bytes)) ∙ take-length (drop n bytes)
+
+pub ascii_text : (bytes : List ℕ) (n : ℕ) → n ≤ length bytes → NonePasses is_above bytes 0 n → IsUtf8 (take n bytes)
+ascii_text bytes n room plain =
+    let long : length (take n bytes) ≡ n = length-take-le n bytes room in
+    all_ascii (take n bytes) (λ k low high.
+    let within : k < n = omega (arith, high, long) in
+    subst (λ x. is_above x ≡ false) (sym (get_or-take n bytes k 0 within)) (plain k low within))
+
+-- a text, and what follows it behind the three bytes at its end
+pub text_more : (bytes : List ℕ) (start more : ℕ) → 3 ≤ start → 3 ≤ more → IsUtf8 (take start bytes) → IsUtf8 (take (more - 3) (drop 3 (take (length bytes - (start - 3)) (drop (start - 3) bytes)))) → IsUtf8 (take (start - 3 + more) bytes)
+text_more bytes start more low high before behind =
+    let place : start - 3 + 3 ≡ start = omega (arith, low) in
+    let rest : drop 3 (take (length bytes - (start - 3)) (drop (start - 3) bytes)) ≡ drop start bytes = ap (drop 3) (rest_is_drop bytes (start - 3)) ∙ drop-drop 3 (start - 3) bytes ∙ ap (λ n. drop n bytes) place in
+    let sum : start + (more - 3) ≡ start - 3 + more = omega (arith, low, high) in
+    subst (λ n. IsUtf8 (take n bytes)) sum (subst IsUtf8 (sym (take-add start (more - 3) bytes)) (IsUtf8-append (take start bytes) (take (more - 3) (drop start bytes)) before (subst (λ l. IsUtf8 (take (more - 3) l)) rest behind)))

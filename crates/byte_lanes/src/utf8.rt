@@ -1,4 +1,4 @@
-ghost use Rattle.std.specs.Prelude.{◌≡◌, ◌<◌, ◌≤◌, ◌+◌, ℕ, true, length, take, map, slice_index, nat_le, nat_lt, ◌==◌};
+ghost use Rattle.std.specs.Prelude.{◌≡◌, ◌<◌, ◌≤◌, ◌+◌, ◌-◌, ℕ, true, length, take, drop, map, slice_index, nat_le, nat_lt, ◌==◌};
 ghost use Rattle.std.specs.Simd.Lanes.{mask_l};
 ghost use Rattle.std.specs.Str.{IsUtf8};
 ghost use Rattle.byte_lanes.specs.Bytes.{is_above};
@@ -42,22 +42,40 @@ fn utf8_by_blocks(bytes: &[u8], above: usize) -> usize
     ensures within { result ≤ length bytes.now }
     ensures utf8 { IsUtf8 (take result bytes.now) }
 {
-    if above < BEFORE {
-        return 0;
+    let start = start_of_blocks(bytes, above);
+    if start < BEFORE {
+        return start;
     }
-    whole_end(bytes, ordered_end(bytes, above))
+    let begin = start - BEFORE;
+    let rest = &bytes[begin..];
+    if rest[0] >= FOUR || rest[1] >= THREE || rest[2] >= TWO {
+        return start;
+    }
+    begin + whole_end(rest, ordered_end(rest))
 }
 
-// A place up to which each byte may stand behind those before it.
-fn ordered_end(bytes: &[u8], above: usize) -> usize
-    requires low { 3 ≤ above }
+// Bytes in front that are UTF-8, at least three where there are as many: those that are ASCII, or else some by characters.
+fn start_of_blocks(bytes: &[u8], above: usize) -> usize
     requires inside { above ≤ length bytes.now }
     requires ascii { NonePasses is_above bytes.now 0 above }
+    ensures within { result ≤ length bytes.now }
+    ensures utf8 { IsUtf8 (take result bytes.now) }
+{
+    if above < BEFORE {
+        utf8_by_chars(&bytes[..bytes.len().min(BLOCK)])
+    } else {
+        above
+    }
+}
+
+// A place up to which each byte behind the first three may stand where it does.
+fn ordered_end(bytes: &[u8]) -> usize
+    requires { 3 ≤ length bytes.now }
     ensures low { 3 ≤ result }
     ensures inside { result ≤ length bytes.now }
     ensures ordered { AreInOrder bytes.now result }
 {
-    let mut at = above;
+    let mut at = BEFORE;
     while bytes.len() - at >= BLOCK {
         if !is_block_in_order(bytes, at) {
             return at;
@@ -126,14 +144,15 @@ fn equal(block: u8x32, other: u8) -> u64
     block.simd_eq(u8x32::splat(other)).to_bitmask()
 }
 
-// The end of the last whole character before place `end`.
+// The end of the last whole character before place `end`, where one begins behind the first three bytes.
 fn whole_end(bytes: &[u8], end: usize) -> usize
     requires low { 3 ≤ end }
     requires inside { end ≤ length bytes.now }
-    requires ascii { NonePasses is_above bytes.now 0 3 }
+    requires begins { (slice_index bytes.now 0 < 0xf0) × (slice_index bytes.now 1 < 0xe0) × (slice_index bytes.now 2 < 0xc0) }
     requires ordered { AreInOrder bytes.now end }
+    ensures low { 3 ≤ result }
     ensures within { result ≤ length bytes.now }
-    ensures utf8 { IsUtf8 (take result bytes.now) }
+    ensures utf8 { IsUtf8 (take (result - 3) (drop 3 bytes.now)) }
 {
     if bytes[end - 1] >= TWO {
         return end - 1;

@@ -4,7 +4,7 @@ use Rattle.byte_lanes.proofs.utf8.ordered_end.Given as goal
 
 abbrev pub invariant-loop-at : goal.invariant-loop-at
 invariant-loop-at l = record {
-  low : l.above ≤ l.at;
+  low : 3 ≤ l.at;
   high : l.at ≤ length l.bytes;
   ordered : AreInOrder l.bytes l.at;
 }
