@@ -1,5 +1,9 @@
+<<<<<<< HEAD
 ghost use Rattle.std.specs.Prelude.{◌≡◌, ◌<◌, ◌≤◌, ◌+◌, ◌-◌, ℕ, true, length, take, drop, map, slice_index, nat_le, nat_lt, ◌==◌};
 ghost use Rattle.std.specs.Simd.Lanes.{mask_l};
+=======
+ghost use Rattle.std.specs.Prelude.{◌≡◌, ◌<◌, ◌≤◌, ◌+◌, ◌-◌, ℕ, true, length, take, drop, slice_index};
+>>>>>>> f2e024390a6f94438d4b06f7f9c536a05290925b
 ghost use Rattle.std.specs.Str.{IsUtf8};
 ghost use Rattle.byte_lanes.specs.Bytes.{is_above};
 ghost use Rattle.byte_lanes.specs.Places.{NonePasses};
@@ -108,6 +112,7 @@ fn all_follow(third: u8x32, second: u8x32, first: u8x32, byte: u8x32) -> bool
     requires byte { length byte ≡ 32 }
     ensures { result ≡ true → (k : ℕ) → k < 32 → Follows (slice_index third k) (slice_index second k) (slice_index first k) (slice_index byte k) }
 {
+<<<<<<< HEAD
     let wanted = at_least(third, FOUR) | at_least(second, THREE) | at_least(first, TWO);
     let within = at_least(byte, FIRST_ABOVE_ASCII) & below(byte, TWO);
     let never = equal(byte, 0xc0) | equal(byte, 0xc1) | at_least(byte, 0xf5);
@@ -142,6 +147,22 @@ fn equal(block: u8x32, other: u8) -> u64
     ensures { result ≡ mask_l (map (λ byte. byte == other) block) }
 {
     block.simd_eq(u8x32::splat(other)).to_bitmask()
+=======
+    let lead = byte.simd_ge(u8x32::splat(TWO));
+    let far = byte.simd_ge(u8x32::splat(0xa0));
+    let near = byte.simd_ge(u8x32::splat(0x90));
+    let least = first.simd_eq(u8x32::splat(0xe0));
+    let least_of_four = first.simd_eq(u8x32::splat(0xf0));
+    let wanted = third.simd_ge(u8x32::splat(FOUR))
+        | second.simd_ge(u8x32::splat(THREE))
+        | first.simd_ge(u8x32::splat(TWO));
+    let within = byte.simd_ge(u8x32::splat(FIRST_ABOVE_ASCII)) ^ lead;
+    let never = (byte.simd_ge(u8x32::splat(0xc2)) ^ lead) | byte.simd_ge(u8x32::splat(0xf5));
+    let low = (least & far ^ least) | (least_of_four & near ^ least_of_four);
+    let high = (first.simd_eq(u8x32::splat(0xed)) & far)
+        | (first.simd_eq(u8x32::splat(0xf4)) & near);
+    ((wanted ^ within) | never | low | high).to_bitmask() == 0
+>>>>>>> f2e024390a6f94438d4b06f7f9c536a05290925b
 }
 
 // The end of the last whole character before place `end`, where one begins behind the first three bytes.

@@ -1,3 +1,4 @@
+<<<<<<< HEAD
 use Rattle.std.proofs.Common.{◌<◌, eqb, leb, ltb, length, slice_index, arith}
 use Rattle.std.proofs.lemmas.Bool.{eqb-true}
 use Rattle.byte_lanes.proofs.LaneTests.{lane, either, both, same, none, follows}
@@ -22,3 +23,17 @@ returns-then-wanted-within c zeros k within =
     follows t s f b
     (same _ _ k _ _ c.if-wanted-within.true (either _ _ k _ _ (either _ _ k _ _ t_low s_low) f_low) (both _ _ k _ _ b_low b_high))
     (none _ k _ (eqb-true _ 0 zeros) (either _ _ k _ _ (either _ _ k _ _ never low) high))
+=======
+use Rattle.std.proofs.Common.{slice_index}
+use Rattle.byte_lanes.proofs.LaneTests.{none, follows, wrong, wrong_lanes, wrong_lane}
+use Rattle.byte_lanes.proofs.utf8.all_follow.Goals as goal
+
+pub returns : goal.returns
+returns c zeros k within =
+    let t = c.args.third in
+    let s = c.args.second in
+    let f = c.args.first in
+    let b = c.args.byte in
+    follows (slice_index t k) (slice_index s k) (slice_index f k) (slice_index b k)
+    (none (wrong_lanes t s f b) k (wrong (slice_index t k) (slice_index s k) (slice_index f k) (slice_index b k)) zeros (wrong_lane t s f b k c.requires.third c.requires.second c.requires.first c.requires.byte within))
+>>>>>>> f2e024390a6f94438d4b06f7f9c536a05290925b
