@@ -1,49 +1,3 @@
-<<<<<<< HEAD
--- From the masks of lanes to each lane, and from its tests to the order of its bytes.
-use Rattle.std.proofs.Common.{◌≡◌, ◌⊎◌, inl, inr, ℕ, ◌<◌, ◌≤◌, Bool, true, false, ◌&&◌, ◌||◌, cond, eqb, leb, ltb, min, max, List, length, map, get_or, bit_and, bit_or, refl, sym, ap, ap₂, ◌∙◌, arith}
-use Rattle.std.specs.Int.{bit_at}
-use Rattle.std.specs.Simd.Lanes.{mask_l}
-use Rattle.std.proofs.lemmas.Nat.Bits.{bit_at-zero, bit_at_and, bit_at_or}
-use Rattle.std.proofs.lemmas.Bool.{cases_lt, le-leb, leb-true, leb-false, ltb-true, ltb-false, eq-eqb, eqb-false}
-use Rattle.std.proofs.lemmas.List.{get_or-map}
-use Rattle.std.proofs.lemmas.Simd.{bit_mask_l}
-use Rattle.byte_lanes.specs.Utf8.{Follows}
-
--- bit k of m tells b
-abbrev pub Tells : ℕ → ℕ → Bool → Type 0
-Tells m k b = bit_at m k ≡ cond b 1 0
-
-pub lane : (p : ℕ → Bool) (xs : List ℕ) (m k : ℕ) → m ≡ mask_l (map p xs) → k < length xs → Tells m k (p (get_or xs k 0))
-lane p xs m k is within = ap (λ n. bit_at n k) is ∙ bit_mask_l (map p xs) k ∙ ap (λ b. cond b 1 0) (get_or-map p xs k 0 false within)
-
-max_of : (b c : Bool) → max (cond b 1 0) (cond c 1 0) ≡ cond (b || c) 1 0
-max_of true true = refl
-max_of true false = refl
-max_of false true = refl
-max_of false false = refl
-
-min_of : (b c : Bool) → min (cond b 1 0) (cond c 1 0) ≡ cond (b && c) 1 0
-min_of true true = refl
-min_of true false = refl
-min_of false true = refl
-min_of false false = refl
-
-pub either : (m n k : ℕ) (b c : Bool) → Tells m k b → Tells n k c → Tells (bit_or m n) k (b || c)
-either m n k b c h i = bit_at_or m n k ∙ ap₂ max h i ∙ max_of b c
-
-pub both : (m n k : ℕ) (b c : Bool) → Tells m k b → Tells n k c → Tells (bit_and m n) k (b && c)
-both m n k b c h i = bit_at_and m n k ∙ ap₂ min h i ∙ min_of b c
-
-pub same : (m n k : ℕ) (b c : Bool) → m ≡ n → Tells m k b → Tells n k c → b ≡ c
-same m n k true true e h i = refl
-same m n k false false e h i = refl
-same m n k true false e h i = absurd (omega (arith, sym h ∙ ap (λ x. bit_at x k) e ∙ i))
-same m n k false true e h i = absurd (omega (arith, sym h ∙ ap (λ x. bit_at x k) e ∙ i))
-
-pub none : (m k : ℕ) (b : Bool) → m ≡ 0 → Tells m k b → b ≡ false
-none m k true e h = absurd (omega (arith, sym h ∙ ap (λ x. bit_at x k) e ∙ bit_at-zero k))
-none m k false e h = refl
-=======
 -- From the lanes of comparisons to their tests, and from these to the order of a byte and the three before it.
 use Rattle.std.proofs.Common.{◌≡◌, ◌⊎◌, inl, inr, ℕ, ◌%◌, ◌^◌, ◌<◌, ◌≤◌, Bool, true, false, not, ◌&&◌, ◌||◌, cond, eqb, leb, List, length, map, replicate, get_or, bit_and, bit_or, bit_xor, refl, sym, ap, ap₂, ◌∙◌, arith}
 use Rattle.std.specs.Simd.Lanes.{mask_l, zip2, top}
@@ -127,7 +81,6 @@ none m k true e h =
     let empty : mask_l (map (top 7) m) ≡ 0 = sym (mask_l-mod (map (top 7) m) 64 short) ∙ eqb-true _ 0 e in
     let set : get_or (map (top 7) m) k false ≡ true = get_or-map (top 7) m k 0 false (omega (arith, h.within, h.wide)) ∙ ap (top 7) h.is in
     absurd (omega (arith, sym (bit_at-zero k) ∙ sym (ap (λ n. bit_at n k) empty) ∙ bit_mask_l (map (top 7) m) k ∙ ap (λ b. cond b 1 0) set))
->>>>>>> f2e024390a6f94438d4b06f7f9c536a05290925b
 
 or_no : (a b : Bool) → (a || b) ≡ false → (a ≡ false) × (b ≡ false)
 or_no true b h = absurd (cc)
@@ -152,64 +105,10 @@ or_none true b c h i j = absurd (cc)
 or_none false true c h i j = absurd (cc)
 or_none false false c h i j = j
 
-<<<<<<< HEAD
-and_yes : (a b : Bool) → (a && b) ≡ true → (a ≡ true) × (b ≡ true)
-and_yes true b h = (refl, h)
-and_yes false b h = absurd (cc)
-
-=======
->>>>>>> f2e024390a6f94438d4b06f7f9c536a05290925b
 and_no : (a b : Bool) → (a && b) ≡ false → a ≡ true → b ≡ false
 and_no true b h i = h
 and_no false b h i = absurd (cc)
 
-<<<<<<< HEAD
--- the byte goes on with a character
-goes_on : (byte : ℕ) (wanted : Bool) → wanted ≡ true → wanted ≡ (leb 0x80 byte && ltb byte 0xc0) → (0x80 ≤ byte) × (byte < 0xc0)
-goes_on byte wanted set is =
-    let r = and_yes (leb 0x80 byte) (ltb byte 0xc0) (sym is ∙ set) in
-    (leb-true 0x80 byte r.0, ltb-true byte 0xc0 r.1)
-
-begins_here : (byte : ℕ) → (leb 0x80 byte && ltb byte 0xc0) ≡ false → eqb byte 0xc0 ≡ false → eqb byte 0xc1 ≡ false → leb 0xf5 byte ≡ false → (byte < 0x80) ⊎ ((0xc2 ≤ byte) × (byte < 0xf5))
-begins_here byte alone c0 c1 f5 = elim (cases_lt byte 0x80) [
-  | inl low ↦ inl low
-  | inr high ↦ (
-      let wide : 0xc0 ≤ byte = ltb-false byte 0xc0 (and_no (leb 0x80 byte) (ltb byte 0xc0) alone (le-leb 0x80 byte high)) in
-      let other = eqb-false byte 0xc0 c0 in
-      let another = eqb-false byte 0xc1 c1 in
-      inr (omega (arith, wide, other, another), leb-false 0xf5 byte f5))
-]
-
-pub follows : (t s f b : ℕ)
-    → (leb 0xf0 t || leb 0xe0 s || leb 0xc0 f) ≡ (leb 0x80 b && ltb b 0xc0)
-    → (((eqb b 0xc0 || eqb b 0xc1 || leb 0xf5 b) || (eqb f 0xe0 && ltb b 0xa0 || eqb f 0xf0 && ltb b 0x90)) || (eqb f 0xed && leb 0xa0 b || eqb f 0xf4 && leb 0x90 b)) ≡ false
-    → Follows t s f b
-follows t s f b is wrong =
-    let parts = or_no ((eqb b 0xc0 || eqb b 0xc1 || leb 0xf5 b) || (eqb f 0xe0 && ltb b 0xa0 || eqb f 0xf0 && ltb b 0x90)) (eqb f 0xed && leb 0xa0 b || eqb f 0xf4 && leb 0x90 b) wrong in
-    let front = or_no (eqb b 0xc0 || eqb b 0xc1 || leb 0xf5 b) (eqb f 0xe0 && ltb b 0xa0 || eqb f 0xf0 && ltb b 0x90) parts.0 in
-    let never = or_no (eqb b 0xc0 || eqb b 0xc1) (leb 0xf5 b) front.0 in
-    let shortest = or_no (eqb b 0xc0) (eqb b 0xc1) never.0 in
-    let low = or_no (eqb f 0xe0 && ltb b 0xa0) (eqb f 0xf0 && ltb b 0x90) front.1 in
-    let high = or_no (eqb f 0xed && leb 0xa0 b) (eqb f 0xf4 && leb 0x90 b) parts.1 in
-    let wanted = (leb 0xf0 t || leb 0xe0 s || leb 0xc0 f) in
-    record {
-      in_two = λ h. goes_on b wanted (or_right (leb 0xf0 t) (leb 0xe0 s) (leb 0xc0 f) (le-leb 0xc0 f h)) is;
-      in_three = λ h. goes_on b wanted (or_middle (leb 0xf0 t) (leb 0xe0 s) (leb 0xc0 f) (le-leb 0xe0 s h)) is;
-      in_four = λ h. goes_on b wanted (or_left (leb 0xf0 t) (leb 0xe0 s) (leb 0xc0 f) (le-leb 0xf0 t h)) is;
-      begins = λ a c d. begins_here b (sym is ∙ or_none (leb 0xf0 t) (leb 0xe0 s) (leb 0xc0 f) (lt-leb t 0xf0 d) (lt-leb s 0xe0 c) (lt-leb f 0xc0 a)) shortest.0 shortest.1 never.1;
-      behind_e0 = λ h. ltb-false b 0xa0 (and_no (eqb f 0xe0) (ltb b 0xa0) low.0 (eq-eqb f 0xe0 h));
-      behind_ed = λ h. leb-false 0xa0 b (and_no (eqb f 0xed) (leb 0xa0 b) high.0 (eq-eqb f 0xed h));
-      behind_f0 = λ h. ltb-false b 0x90 (and_no (eqb f 0xf0) (ltb b 0x90) low.1 (eq-eqb f 0xf0 h));
-      behind_f4 = λ h. leb-false 0x90 b (and_no (eqb f 0xf4) (leb 0x90 b) high.1 (eq-eqb f 0xf4 h));
-    }
-  where
-    lt-leb : (x n : ℕ) → x < n → leb n x ≡ false
-    lt-leb x n h = not_le (leb n x) refl
-      where
-        not_le : (b : Bool) → leb n x ≡ b → leb n x ≡ false
-        not_le true e = absurd (omega (arith, leb-true n x e, h))
-        not_le false e = e
-=======
 -- where they don't differ they are the same
 pub alike : (a b : Bool) → differ a b ≡ false → a ≡ b
 alike true true h = refl
@@ -298,4 +197,3 @@ follows t s f b h0 =
       behind_f0 = λ h. leb-true 0x90 b (and_all (eqb f 0xf0) (leb 0x90 b) lows.1 (eq-eqb f 0xf0 h));
       behind_f4 = λ h. leb-false 0x90 b (and_no (eqb f 0xf4) (leb 0x90 b) highs.1 (eq-eqb f 0xf4 h));
     }
->>>>>>> f2e024390a6f94438d4b06f7f9c536a05290925b

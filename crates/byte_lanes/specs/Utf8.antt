@@ -1,9 +1,5 @@
 -- Which byte may stand behind which in UTF-8 (RFC 3629, section 4).
-<<<<<<< HEAD
-use Rattle.std.specs.Prelude.{◌≡◌, ◌⊎◌, ℕ, suc, ◌<◌, ◌≤◌, List, slice_index}
-=======
 use Rattle.std.specs.Prelude.{◌≡◌, ◌⊎◌, ℕ, suc, ◌<◌, ◌≤◌, Bool, cond, List, slice_index}
->>>>>>> f2e024390a6f94438d4b06f7f9c536a05290925b
 
 -- a byte may stand behind these three, of which `first` is the nearest
 pub record Follows (third second first byte : ℕ) : Type 0 where
@@ -22,10 +18,7 @@ pub record Follows (third second first byte : ℕ) : Type 0 where
 -- so does each byte before place `end` that has three before it
 abbrev pub AreInOrder : List ℕ → ℕ → Type 0
 AreInOrder bytes end = (k : ℕ) → suc (suc (suc k)) < end → Follows (slice_index bytes k) (slice_index bytes (suc k)) (slice_index bytes (suc (suc k))) (slice_index bytes (suc (suc (suc k))))
-<<<<<<< HEAD
-=======
 
 -- a lane of a comparison
 abbrev pub mark : Bool → ℕ
 mark b = cond b 255 0
->>>>>>> f2e024390a6f94438d4b06f7f9c536a05290925b

@@ -1,9 +1,4 @@
-<<<<<<< HEAD
-ghost use Rattle.std.specs.Prelude.{◌≡◌, ◌<◌, ◌≤◌, ◌+◌, ◌-◌, ℕ, true, length, take, drop, map, slice_index, nat_le, nat_lt, ◌==◌};
-ghost use Rattle.std.specs.Simd.Lanes.{mask_l};
-=======
 ghost use Rattle.std.specs.Prelude.{◌≡◌, ◌<◌, ◌≤◌, ◌+◌, ◌-◌, ℕ, true, length, take, drop, slice_index};
->>>>>>> f2e024390a6f94438d4b06f7f9c536a05290925b
 ghost use Rattle.std.specs.Str.{IsUtf8};
 ghost use Rattle.byte_lanes.specs.Bytes.{is_above};
 ghost use Rattle.byte_lanes.specs.Places.{NonePasses};
@@ -112,42 +107,6 @@ fn all_follow(third: u8x32, second: u8x32, first: u8x32, byte: u8x32) -> bool
     requires byte { length byte ≡ 32 }
     ensures { result ≡ true → (k : ℕ) → k < 32 → Follows (slice_index third k) (slice_index second k) (slice_index first k) (slice_index byte k) }
 {
-<<<<<<< HEAD
-    let wanted = at_least(third, FOUR) | at_least(second, THREE) | at_least(first, TWO);
-    let within = at_least(byte, FIRST_ABOVE_ASCII) & below(byte, TWO);
-    let never = equal(byte, 0xc0) | equal(byte, 0xc1) | at_least(byte, 0xf5);
-    let low = equal(first, 0xe0) & below(byte, 0xa0) | equal(first, 0xf0) & below(byte, 0x90);
-    let high = equal(first, 0xed) & at_least(byte, 0xa0)
-        | equal(first, 0xf4) & at_least(byte, 0x90);
-    wanted == within && (never | low | high) == 0
-}
-
-// Bit k is set exactly where lane k is at least this.
-#[inline(always)]
-fn at_least(block: u8x32, least: u8) -> u64
-    requires { length block ≡ 32 }
-    ensures { result ≡ mask_l (map (λ byte. nat_le least byte) block) }
-{
-    block.simd_ge(u8x32::splat(least)).to_bitmask()
-}
-
-// The same where it is below.
-#[inline(always)]
-fn below(block: u8x32, bound: u8) -> u64
-    requires { length block ≡ 32 }
-    ensures { result ≡ mask_l (map (λ byte. nat_lt byte bound) block) }
-{
-    block.simd_lt(u8x32::splat(bound)).to_bitmask()
-}
-
-// The same where it is equal.
-#[inline(always)]
-fn equal(block: u8x32, other: u8) -> u64
-    requires { length block ≡ 32 }
-    ensures { result ≡ mask_l (map (λ byte. byte == other) block) }
-{
-    block.simd_eq(u8x32::splat(other)).to_bitmask()
-=======
     let lead = byte.simd_ge(u8x32::splat(TWO));
     let far = byte.simd_ge(u8x32::splat(0xa0));
     let near = byte.simd_ge(u8x32::splat(0x90));
@@ -162,7 +121,6 @@ fn equal(block: u8x32, other: u8) -> u64
     let high = (first.simd_eq(u8x32::splat(0xed)) & far)
         | (first.simd_eq(u8x32::splat(0xf4)) & near);
     ((wanted ^ within) | never | low | high).to_bitmask() == 0
->>>>>>> f2e024390a6f94438d4b06f7f9c536a05290925b
 }
 
 // The end of the last whole character before place `end`, where one begins behind the first three bytes.
