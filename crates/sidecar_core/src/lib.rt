@@ -1,12 +1,12 @@
 //! All objects of a sidecar, each in a cell of its own, and the one way of all requests over them.
 //!
 //! - `objects` has the cells, and a pass: a seat of each; `passing` starts the cells, splits passes off, meets them and ends the cells.
-//! - `config` says what a sidecar is configured as, and `shared` what all passes share; `starting` and `closing` are its begin and its end, and `room` is what
-//!   the end needs.
+//! - `config` says what a sidecar is configured as, and `shared` what all passes share; `site` is a store as requests find it; `starting` and `closing` are its
+//!   begin and its end, and `room` is what the end needs.
 //! - `responding` answers a request by its route: `state_request` at a store, where `storing` makes the call, and `note_request` at the book of
 //!   metadata; `refusing` has the responses that need no object. `delivering` makes deliveries, and counts them.
 //! - `desk` answers the requests of connections, and `connection` serves one.
-//! - `doing` has what is done for a request, as events.
+//! - `doing` has what is done for a request, as events, and `kinds` what the objects are, as contracts see them.
 #![tactic(auto)]
 
 mod closing;

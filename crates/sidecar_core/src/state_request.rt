@@ -87,8 +87,7 @@ fn at_site<K: Keeper, C: Clock, R: Rng, W: Wait>(
     }
 }
 
-/// Gives a command to the store of this place, under what is bound to it, and answers what it came to. The command is left at the moment of the
-/// last attempt.
+/// Gives a command to the store of this place, under what is bound to it, and answers what it came to.
 fn call<K: Keeper, C: Clock, R: Rng, W: Wait>(
     rt: &W,
     shared: &Shared<K>,

@@ -24,7 +24,7 @@ use std::sync::Wait;
 use turn_cell::{ApiErr, Object, Seat, TurnCell};
 
 /// Makes a state call at the store of this place, under what is bound to it: each attempt is one step of the store, let through by the breaker that is bound, if
-/// one is, and reported to it. The command is left at the moment of the last attempt.
+/// one is, and reported to it. The command is left as it was but for its moment.
 pub fn run_store<K: Keeper, C: Clock, R: Rng, W: Wait>(
     rt: &W,
     objects: &Objects<K>,
