@@ -9,7 +9,7 @@ use Rattle.std.specs.declared.cmp.Ordering.TheVariants.{Less, Equal, Greater}
 use Rattle.std.specs.FinMap.{get-insert, get-remove}
 use Rattle.keeper_core.specs.Rows.{Row, Rows, byte_order, row_at, entry_bytes, bytes_in}
 use Rattle.keeper_core.specs.Changes.{after_change, after_changes}
-use Rattle.keeper_core.specs.Growth.{found_bytes, bytes_at, bytes_after, key_of}
+use Rattle.keeper_core.specs.Growth.{found_bytes, bytes_at, bytes_after, bytes_put, key_of}
 use Rattle.keeper_core.specs.declared.changes.Change.{Change}
 use Rattle.keeper_core.specs.declared.changes.Change.TheVariants.{Put, Remove}
 use Rattle.keeper_core.proofs.Sorted.{Key, total, antisymmetric}
@@ -40,12 +40,22 @@ bytes_at-after_change rows (Put key value version until) q =
 bytes_at-after_change rows (Remove key) q =
     ap (found_bytes q) (get-remove total rows key q ∙ ap (λ b. cond b None (row_at rows q)) ((eq_by_cmp_equiv total).symm q key)) ∙ sym (over_cond (found_bytes q) _ None (row_at rows q))
 
-bytes_in-after_change : (rows : Rows) (change : Change) → bytes_in (after_change rows change) + bytes_at rows (key_of change) ≡ bytes_in rows + bytes_after change
+pub bytes_in-after_change : (rows : Rows) (change : Change) → bytes_in (after_change rows change) + bytes_at rows (key_of change) ≡ bytes_in rows + bytes_after change
 bytes_in-after_change rows (Put key value version until) = bytes_in-insert rows key (record { value = value; version = version; until = until })
 bytes_in-after_change rows (Remove key) = omega (arith, bytes_in-remove rows key)
 
-bytes_at-most : (rows : Rows) (key : Key) → bytes_at rows key ≤ bytes_in rows
+pub bytes_at-most : (rows : Rows) (key : Key) → bytes_at rows key ≤ bytes_in rows
 bytes_at-most rows key = omega (arith, bytes_in-remove rows key)
+
+-- one more change puts what its key takes after it
+pub bytes_put-append : (changes : List Change) (change : Change) → bytes_put (changes ++ change ∷ []) ≡ bytes_put changes + bytes_after change
+bytes_put-append [] change = omega arith
+bytes_put-append (other ∷ changes) change = omega (arith, bytes_put-append changes change)
+
+-- rows take at most what they took before and what changes put
+pub bytes_in-most : (rows : Rows) (changes : List Change) → bytes_in (after_changes rows changes) ≤ bytes_in rows + bytes_put changes
+bytes_in-most rows [] = omega arith
+bytes_in-most rows (change ∷ changes) = omega (arith, bytes_in-most (after_change rows change) changes, bytes_in-after_change rows change)
 
 pub after_changes-append : (rows : Rows) (changes : List Change) (change : Change) → after_changes rows (changes ++ change ∷ []) ≡ after_change (after_changes rows changes) change
 after_changes-append rows [] change = refl

@@ -1,5 +1,5 @@
 -- What single rows and changes take.
-use Rattle.std.specs.Prelude.{ℕ, List, Option, Some, None}
+use Rattle.std.specs.Prelude.{ℕ, ◌+◌, List, [], ◌∷◌, Option, Some, None}
 use Rattle.keeper_core.specs.Rows.{Row, Rows, row_at, entry_bytes}
 use Rattle.keeper_core.specs.declared.changes.Change.{Change}
 use Rattle.keeper_core.specs.declared.changes.Change.TheVariants.{Put, Remove}
@@ -22,3 +22,8 @@ key_of (Remove key) = key
 abbrev pub bytes_after : Change → ℕ
 bytes_after (Put key value version until) = entry_bytes (key, record { value = value; version = version; until = until })
 bytes_after (Remove key) = 0
+
+-- what changes put: what its key takes after each
+abbrev pub bytes_put : List Change → ℕ
+bytes_put [] = 0
+bytes_put (change ∷ changes) = bytes_after change + bytes_put changes

@@ -1,11 +1,11 @@
 -- A search tree whose nodes stand in one list and name each other by their places in it.
-use Rattle.std.specs.Prelude.{◌≡◌, ◌≢◌, ℕ, suc, ◌+◌, ◌-◌, ◌*◌, ◌^◌, ◌<◌, ◌≤◌, ◌==◌, nat_lt, min, max, cond, List, [], ◌∷◌, ◌++◌, length, map, slice_get, Option, Some, None}
+use Rattle.std.specs.Prelude.{◌≡◌, ◌≢◌, ℕ, suc, ◌+◌, ◌-◌, ◌*◌, ◌^◌, ◌<◌, ◌≤◌, ◌==◌, nat_lt, min, max, cond, List, [], ◌∷◌, ◌++◌, length, map, filter, slice_get, Option, Some, None, option_map, IsTrue}
 use Rattle.std.specs.List.{sum_by}
 use Rattle.std.specs.Ordering.{is_lt}
-use Rattle.std.specs.FinMap.{find}
+use Rattle.std.specs.FinMap.{find, is_sorted}
 use Rattle.std.specs.declared.alloc.Global.{Global}
 use Rattle.std.specs.declared.vec.Vec.{Vec}
-use Rattle.keeper_core.specs.Rows.{Entry, byte_order}
+use Rattle.keeper_core.specs.Rows.{Entry, byte_order, lapsed_in, is_behind}
 use Rattle.keeper_core.specs.Ends.{end_alone}
 use Rattle.keeper_core.specs.Tree.{last_moment}
 use Rattle.keeper_core.specs.declared.links.Link.{Link}
@@ -145,6 +145,11 @@ pub record HasNode (links : List Link) (at : ℕ) : Type 0 where
   pub top : parent_at links root ≡ none
   pub within : 0 < times at (slots shape)
 
+-- this is so, where below a node the one tree stands before it and the other behind it
+abbrev pub WithSides : List Link → Shape → ℕ → Shape → Type 0 → Type 0
+WithSides links before at behind Then =
+    Proper (length links) (slots (Fork before at behind)) → at < length links → Holds links before (left_at links at) → Holds links behind (right_at links at) → Then
+
 -- nodes were changed so that a tree of this shape stands below this place; the others, and all ends, are as they were
 pub record Built (old new : List Link) (shape : Shape) (at : ℕ) : Type 0 where
   pub holds : Holds new shape at
@@ -216,3 +221,14 @@ with_slot keys slot (other ∷ others) = cond (is_lt (byte_order (key_at keys sl
 -- the least of a node's own last moment and of what its children say
 abbrev pub least_by : List Link → ℕ → ℕ
 least_by links slot = min (last_moment (until_at links slot)) (min (least_at links (left_at links slot)) (least_at links (right_at links slot)))
+
+-- this is so of a tree and of the places of its nodes in order with one more, where that one has no children and is not among them
+abbrev pub PutsNode : List (Vec ℕ Global) → List Link → ℕ → ℕ → (Shape → List ℕ → Type 0) → Type 0
+PutsNode keys links at slot Then =
+    (shape : Shape) → Holds links shape at → Proper (length links) (slot ∷ slots shape) → left_at links slot ≡ none → right_at links slot ≡ none
+    → IsTrue (is_sorted byte_order (entries_at keys links (slots shape))) → Then shape (with_slot keys slot (slots shape))
+
+-- the place of the first key, of those behind another, whose row is not live at a moment
+abbrev pub FindsLapsed : List (Vec ℕ Global) → List Link → Shape → List ℕ → ℕ → Option ℕ → Type 0
+FindsLapsed keys links shape after moment found =
+    option_map (key_at keys) found ≡ slice_get (filter (is_behind (Some after)) (lapsed_in moment (entries_at keys links (slots shape)))) 0

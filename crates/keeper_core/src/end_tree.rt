@@ -1,10 +1,10 @@
 ghost use Rattle.std.specs.Prelude.{◌≡◌, ◌≢◌, ◌≤◌, ◌<◌, ◌+◌, ◌-◌, [], ◌∷◌, ℕ, Some, None, length, filter, option_map, slice_get, count_by, IfOk, IsTrue};
 ghost use Rattle.std.specs.Vec.{vec_capacity};
-ghost use Rattle.std.specs.FinMap.{find, put, is_sorted};
+ghost use Rattle.std.specs.FinMap.{find, put};
 ghost use Rattle.keeper_core.specs.Rows.{byte_order, lapsed_in, is_behind};
 ghost use Rattle.keeper_core.specs.Ends.{end_alone};
 ghost use Rattle.keeper_core.specs.Tree.{with_end, without};
-ghost use Rattle.keeper_core.specs.Shapes.{Shape, none, slots, left_at, right_at, key_at, entries_at, Holds, Proper, IsTree, Finds, with_slot};
+ghost use Rattle.keeper_core.specs.Shapes.{Shape, slots, key_at, entries_at, Holds, Proper, IsTree, Finds, PutsNode};
 ghost use Rattle.keeper_core.specs.EndTable.{slots_in, ends_in, has_end, with_link, with_links, IsTop, IsPlaced, IsWhole};
 
 use crate::insertion::insert;
@@ -58,6 +58,13 @@ impl EndTree {
             root: NONE,
             idle: 0,
         }
+    }
+
+    /// Whether no key ever had an end.
+    pub(crate) fn is_empty(&self) -> bool
+        ensures { IsTrue result → self.now.ends ≡ [] }
+    {
+        self.links.is_empty()
     }
 
     /// Takes memory for further keys.
@@ -233,7 +240,7 @@ fn place(links: &mut [Link], keys: &[Vec<u8>], root: usize, slot: usize) -> usiz
     requires tree { IsTree links.old root }
     requires keys { length keys.now ≡ length links.old }
     requires slot { slot < length links.old }
-    ensures { (shape : Shape) → Holds links.old shape root → Proper (length links.old) (slot ∷ slots shape) → left_at links.old slot ≡ none → right_at links.old slot ≡ none → IsTrue (is_sorted byte_order (entries_at keys.now links.old (slots shape))) → IsPlaced links.old links.new shape (with_slot keys.now slot (slots shape)) result }
+    ensures { PutsNode keys.now links.old root slot (λ shape list. IsPlaced links.old links.new shape list result) }
 {
     let root = insert(links, keys, root, slot);
     set_top(links, root);

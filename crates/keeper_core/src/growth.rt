@@ -1,9 +1,12 @@
-ghost use Rattle.std.specs.Prelude.{◌≡◌, ◌+◌, ◌<◌, ◌^◌, length, unwrap_or, IfOk};
+//! What changes make of the bytes that rows take.
+ghost use Rattle.std.specs.Prelude.{◌≡◌, ◌≢◌, ◌+◌, ◌-◌, ◌<◌, ◌≤◌, ◌^◌, ℕ, List, Option, length, unwrap_or, option_map, IfOk, OnOk, Err};
 ghost use Rattle.keeper_core.specs.Rows.{bytes_in};
-ghost use Rattle.keeper_core.specs.Changes.{after_changes};
-ghost use Rattle.keeper_core.specs.Growth.{bytes_at, bytes_after, key_of};
+ghost use Rattle.keeper_core.specs.Changes.{after_change, after_changes};
+ghost use Rattle.keeper_core.specs.Growth.{found_bytes, bytes_at, bytes_after, bytes_put, key_of};
+ghost use Rattle.keeper_core.specs.Table.{row_of};
 
-use crate::{Change, RowTable};
+use crate::prepared::StoredRow;
+use crate::{Change, KeepErr, RowTable};
 use side_base::NoMemory;
 use std::alloc::Global;
 use std::collections::BTreeMap;
@@ -11,8 +14,49 @@ use std::collections::BTreeMap;
 /// What a row takes beside its key and its value.
 const ROW_BYTES: u128 = 8;
 
+/// What changes put: of each put its key, its value and 8 bytes.
+pub(crate) fn bytes_put(changes: &[Change]) -> u128
+    ensures exact { result ≡ bytes_put changes.now }
+    ensures limit { result < 2 ^ 128 - 2 ^ 64 }
+{
+    let mut put = 0;
+    for change in changes {
+        put += bytes_after(change);
+    }
+    put
+}
+
+/// Whether the rows of a table of this `size` keep to a limit after changes that put so many bytes. Only where what is put doesn't fit
+/// beside what is there, what is replaced and removed is reckoned, and a note of each key takes memory.
+pub(crate) fn keep_to(
+    alloc: Global,
+    table: &RowTable,
+    size: u64,
+    put: u128,
+    limit: u64,
+    changes: &[Change],
+) -> Result<(), KeepErr>
+    requires size { size ≡ bytes_in table.now.rows }
+    requires put { put ≡ bytes_put changes.now }
+    requires few { put < 2 ^ 128 - 2 ^ 64 }
+    ensures fits { OnOk result (bytes_in (after_changes table.now.rows changes.now) ≤ limit) }
+    ensures full { (len : ℕ) → result ≡ Err (KeepErr.Full len) → (len ≡ bytes_in (after_changes table.now.rows changes.now)) × (limit < len) }
+    ensures failed { result ≢ Err KeepErr.Failed }
+{
+    if u128::from(size) + put <= u128::from(limit) {
+        return Ok(());
+    }
+    let Ok(len) = size_after(alloc, table, size, changes) else {
+        return Err(KeepErr::NoMemory);
+    };
+    if len > u128::from(limit) {
+        return Err(KeepErr::Full { len });
+    }
+    Ok(())
+}
+
 /// What the rows of a table of this `size` take after changes: of each its key, its value and 8 bytes.
-pub(crate) fn size_after(
+fn size_after(
     alloc: Global,
     table: &RowTable,
     size: u64,
@@ -21,6 +65,9 @@ pub(crate) fn size_after(
     requires { size ≡ bytes_in table.now.rows }
     ensures { IfOk result (λ len. len ≡ bytes_in (after_changes table.now.rows changes.now)) }
 {
+    if let [only] = changes {
+        return Ok(size_after_one(table, size, only));
+    }
     let mut len = u128::from(size);
     // What each key takes that was changed so far.
     let mut taken: BTreeMap<&[u8], u128> = BTreeMap::new(alloc);
@@ -32,6 +79,14 @@ pub(crate) fn size_after(
         len = len - before + after;
     }
     Ok(len)
+}
+
+/// What the rows of a table of this `size` take after one change.
+fn size_after_one(table: &RowTable, size: u64, change: &Change) -> u128
+    requires { size ≡ bytes_in table.now.rows }
+    ensures { result ≡ bytes_in (after_change table.now.rows change.now) }
+{
+    u128::from(size) - bytes_at(table, key_of(change)) + bytes_after(change)
 }
 
 /// What was noted, or else what a key takes among the rows of a table.
@@ -62,6 +117,16 @@ fn bytes_after(change: &Change) -> u128
     match change {
         Change::Put { key, value, .. } => row_bytes(key.bytes(), value.bytes()),
         Change::Remove { .. } => 0,
+    }
+}
+
+/// What a key of this length takes with the row that it has.
+pub(crate) fn found_bytes(key_len: usize, found: &Option<StoredRow>) -> u128
+    ensures { (key : List ℕ) → length key ≡ key_len → result ≡ found_bytes key (option_map row_of found.now) }
+{
+    match found {
+        Some(row) => key_len as u128 + row.value.len() as u128 + ROW_BYTES,
+        None => 0,
     }
 }
 

@@ -2,8 +2,10 @@ ghost use Rattle.std.specs.Prelude.{◌≡◌, ◌≤◌, ◌<◌, ◌+◌, opti
 ghost use Rattle.std.specs.Option.{option_copied};
 ghost use Rattle.std.specs.FinMap.{empty, insert, remove};
 ghost use Rattle.keeper_core.specs.Rows.{row_at};
+ghost use Rattle.keeper_core.specs.Growth.{bytes_at};
 ghost use Rattle.keeper_core.specs.Table.{row_of};
 
+use crate::growth::found_bytes;
 use crate::prepared::StoredRow;
 use crate::secret_state::SecretState;
 use side_base::NoMemory;
@@ -52,23 +54,27 @@ impl HashedRows {
         self.map.reserve(additional)
     }
 
-    /// Gives a key a row, whatever it had; takes no memory.
-    pub(crate) fn insert(&mut self, key: Vec<u8>, row: StoredRow)
+    /// Gives a key a row, and answers what it took before; takes no memory.
+    pub(crate) fn insert(&mut self, key: Vec<u8>, row: StoredRow) -> u128
         requires { 0 < self.old.room }
         ensures rows { self.new.rows ≡ insert self.old.rows key.items (row_of row) }
         ensures room { self.old.room ≤ self.new.room + 1 }
+        ensures took { result ≡ bytes_at self.old.rows key.items }
     {
+        let key_len = key.len();
         match self.map.insert(key, row) {
-            Ok(_) => {}
+            Ok(old) => found_bytes(key_len, &old),
             Err(_) => unreachable!(),
         }
     }
 
-    /// Takes a key and its row out, where it has one.
-    pub(crate) fn remove(&mut self, key: &[u8])
+    /// Takes a key and its row out, where it has one, and answers what it took.
+    pub(crate) fn remove(&mut self, key: &[u8]) -> u128
         ensures rows { self.new.rows ≡ remove self.old.rows key.now }
         ensures room { self.old.room ≤ self.new.room }
+        ensures took { result ≡ bytes_at self.old.rows key.now }
     {
-        let _ = self.map.remove(key);
+        let old = self.map.remove(key);
+        found_bytes(key.len(), &old)
     }
 }

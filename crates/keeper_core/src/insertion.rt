@@ -1,8 +1,7 @@
-ghost use Rattle.std.specs.Prelude.{◌≡◌, ◌∷◌, ◌<◌, length, IsTrue};
+ghost use Rattle.std.specs.Prelude.{◌≡◌, ◌<◌, length};
 ghost use Rattle.std.specs.Ordering.{is_lt};
-ghost use Rattle.std.specs.FinMap.{is_sorted};
 ghost use Rattle.keeper_core.specs.Rows.{byte_order};
-ghost use Rattle.keeper_core.specs.Shapes.{Shape, none, left_at, right_at, slots, key_at, entries_at, with_slot, Proper, Holds, IsTree, Inserted};
+ghost use Rattle.keeper_core.specs.Shapes.{left_at, right_at, key_at, IsTree, Inserted, PutsNode};
 
 use crate::links::{Link, left_at, mark, right_at, set_left, set_right};
 use crate::rotation::balanced;
@@ -12,7 +11,7 @@ pub(crate) fn insert(links: &mut [Link], keys: &[Vec<u8>], at: usize, slot: usiz
     requires tree { IsTree links.old at }
     requires keys { length keys.now ≡ length links.old }
     requires slot { slot < length links.old }
-    ensures { (shape : Shape) → Holds links.old shape at → Proper (length links.old) (slot ∷ slots shape) → left_at links.old slot ≡ none → right_at links.old slot ≡ none → IsTrue (is_sorted byte_order (entries_at keys.now links.old (slots shape))) → Inserted links.old links.new shape (with_slot keys.now slot (slots shape)) result }
+    ensures { PutsNode keys.now links.old at slot (λ shape list. Inserted links.old links.new shape list result) }
 {
     if at >= links.len() {
         mark(links, slot);

@@ -1,7 +1,7 @@
-ghost use Rattle.std.specs.Prelude.{◌≡◌, ◌<◌, length};
+ghost use Rattle.std.specs.Prelude.{◌≡◌, ◌<◌};
 ghost use Rattle.keeper_core.specs.Tree.{last_moment};
 ghost use Rattle.keeper_core.specs.Fields.{Rewritten, with_left, with_right, with_parent, with_until, with_least, with_marks};
-ghost use Rattle.keeper_core.specs.Shapes.{Shape, left_at, right_at, parent_at, until_at, least_at, height_at, least_by, slots, Proper, Holds, Built};
+ghost use Rattle.keeper_core.specs.Shapes.{Shape, left_at, right_at, parent_at, until_at, least_at, height_at, least_by, Built, WithSides};
 ghost use Rattle.keeper_core.specs.Shapes.Shape.{Fork};
 
 /// What stands for no node.
@@ -88,7 +88,7 @@ pub(crate) fn least_by(links: &[Link], at: usize) -> u64
 
 /// Marks a node by its children, and tells them that it is their parent.
 pub(crate) fn mark(links: &mut [Link], at: usize)
-    ensures { (before behind : Shape) → Proper (length links.old) (slots (Fork before at behind)) → at < length links.old → Holds links.old before (left_at links.old at) → Holds links.old behind (right_at links.old at) → Built links.old links.new (Fork before at behind) at }
+    ensures { (before behind : Shape) → WithSides links.old before at behind (Built links.old links.new (Fork before at behind) at) }
 {
     let left = left_at(links, at);
     let right = right_at(links, at);

@@ -2,7 +2,7 @@ ghost use Rattle.std.specs.Prelude.{◌≡◌};
 ghost use Rattle.keeper_core.specs.Rows.{bytes_in, IsCounted};
 
 use crate::failing::FailingCommits;
-use crate::growth::size_after;
+use crate::growth::{bytes_put, keep_to};
 use crate::{Changes, KeepErr, Keeper, RowTable, RowView};
 use side_base::{Places, Sequence};
 use std::alloc::Global;
@@ -112,17 +112,21 @@ impl Keeper for MemoryKeeper {
             return Err(KeepErr::Failed);
         }
         let list = changes.list.into_vec();
-        let Ok(len) = size_after(self.alloc, &self.table, self.size, &list) else {
-            return Err(KeepErr::NoMemory);
-        };
+        let put = bytes_put(&list);
+        match keep_to(self.alloc, &self.table, self.size, put, self.limit, &list) {
+            Ok(()) => {}
+            Err(KeepErr::NoMemory) => return Err(KeepErr::NoMemory),
+            Err(error) => {
+                self.failing.pass();
+                return Err(error);
+            }
+        }
         let Ok(prepared) = self.table.prepare(self.alloc, Sequence::from_vec(list)) else {
             return Err(KeepErr::NoMemory);
         };
         self.failing.pass();
-        if len > u128::from(self.limit) {
-            return Err(KeepErr::Full { len });
-        }
-        self.table.apply(prepared);
+        let freed = self.table.apply(prepared);
+        let len = u128::from(self.size) + put - freed;
         self.size = len as u64;
         self.next = changes.next;
         Ok(())

@@ -1,12 +1,11 @@
-ghost use Rattle.std.specs.Prelude.{◌≡◌, ◌<◌, length};
-ghost use Rattle.keeper_core.specs.Shapes.{Shape, left_at, right_at, slots, height_of, left_lifted, right_lifted, left_outward, right_outward, Proper, Holds, Built, Rebalanced};
-ghost use Rattle.keeper_core.specs.Shapes.Shape.{Fork};
+ghost use Rattle.std.specs.Prelude.{◌<◌, length};
+ghost use Rattle.keeper_core.specs.Shapes.{Shape, left_at, right_at, slots, height_of, left_lifted, right_lifted, left_outward, right_outward, Proper, Holds, Built, Rebalanced, WithSides};
 
 use crate::links::{Link, height_at, left_at, mark, right_at, set_left, set_right};
 
 /// The root of a tree of the same nodes in the same order, where those below `at` may differ in height by two.
 pub(crate) fn balanced(links: &mut [Link], at: usize) -> usize
-    ensures { (before behind : Shape) → Proper (length links.old) (slots (Fork before at behind)) → at < length links.old → Holds links.old before (left_at links.old at) → Holds links.old behind (right_at links.old at) → Rebalanced links.old links.new before at behind result }
+    ensures { (before behind : Shape) → WithSides links.old before at behind (Rebalanced links.old links.new before at behind result) }
 {
     let left = left_at(links, at);
     let right = right_at(links, at);
@@ -50,7 +49,7 @@ fn outward_right(links: &mut [Link], at: usize) -> usize
 
 /// The node's left child, in the node's place, with the node to its right.
 fn lifted_left(links: &mut [Link], at: usize) -> usize
-    ensures { (before behind : Shape) → 0 < height_of before → Proper (length links.old) (slots (Fork before at behind)) → at < length links.old → Holds links.old before (left_at links.old at) → Holds links.old behind (right_at links.old at) → Built links.old links.new (left_lifted before at behind) result }
+    ensures { (before behind : Shape) → 0 < height_of before → WithSides links.old before at behind (Built links.old links.new (left_lifted before at behind) result) }
 {
     let top = left_at(links, at);
     let middle = right_at(links, top);
@@ -63,7 +62,7 @@ fn lifted_left(links: &mut [Link], at: usize) -> usize
 
 /// The node's right child, in the node's place, with the node to its left.
 fn lifted_right(links: &mut [Link], at: usize) -> usize
-    ensures { (before behind : Shape) → 0 < height_of behind → Proper (length links.old) (slots (Fork before at behind)) → at < length links.old → Holds links.old before (left_at links.old at) → Holds links.old behind (right_at links.old at) → Built links.old links.new (right_lifted before at behind) result }
+    ensures { (before behind : Shape) → 0 < height_of behind → WithSides links.old before at behind (Built links.old links.new (right_lifted before at behind) result) }
 {
     let top = right_at(links, at);
     let middle = left_at(links, top);

@@ -1,6 +1,7 @@
-ghost use Rattle.std.specs.Prelude.{◌≡◌, ◌≤◌, ◌<◌, ◌+◌, ◌^◌, ℕ, length, option_map, is_some, IfOk, IsTrue};
-ghost use Rattle.std.specs.FinMap.{empty, find, insert, remove, is_sorted};
-ghost use Rattle.keeper_core.specs.Rows.{row_at, next_lapsed, seen, byte_order, IsCounted};
+ghost use Rattle.std.specs.Prelude.{◌≡◌, ◌≤◌, ◌<◌, ◌+◌, ◌-◌, ◌^◌, min, ℕ, length, option_map, is_some, IfOk};
+ghost use Rattle.std.specs.FinMap.{empty, find, insert, remove};
+ghost use Rattle.keeper_core.specs.Rows.{row_at, next_lapsed, seen, byte_order, bytes_in, IsCounted};
+ghost use Rattle.keeper_core.specs.Growth.{bytes_at, bytes_put, key_of};
 ghost use Rattle.keeper_core.specs.Changes.{after_change, after_changes, VersionsAreBelow};
 ghost use Rattle.keeper_core.specs.Prepared.{change_of, IsReady, IsEndOf};
 ghost use Rattle.keeper_core.specs.Ends.{end_of};
@@ -63,6 +64,7 @@ impl RowTable {
                 value: row.value.bytes(),
                 version: row.version,
                 until: row.until,
+                kept: &row.value,
             }),
             None => None,
         }
@@ -87,26 +89,31 @@ impl RowTable {
         Prepared::new(alloc, list)
     }
 
-    /// Makes prepared changes, in order; takes no memory.
-    pub fn apply(&mut self, prepared: Prepared)
+    /// Makes prepared changes, in order, and answers how many bytes went with the rows that they replaced and removed, at most 2^128 - 1;
+    /// takes no memory.
+    pub fn apply(&mut self, prepared: Prepared) -> u128
         requires { length prepared ≤ self.old.room }
         ensures rows { self.new.rows ≡ after_changes self.old.rows prepared }
+        ensures freed { result ≡ min (bytes_in self.old.rows + bytes_put prepared - bytes_in self.new.rows) (2 ^ 128 - 1) }
 
         // Where the versions put are below a later next version, all are.
         ensures counted { (next later : ℕ) → IsCounted self.old.rows next → next ≤ later → later ≤ 2 ^ 62 → VersionsAreBelow later prepared → IsCounted self.new.rows later }
     {
         let mut steps = prepared.steps;
+        let mut freed: u128 = 0;
         while let Some(step) = steps.take_first() {
-            self.make(step);
+            freed = freed.saturating_add(self.make(step));
         }
+        freed
     }
 
-    /// Makes a change.
-    fn make(&mut self, step: Step)
+    /// Makes a change, and answers what its key took before.
+    fn make(&mut self, step: Step) -> u128
         requires room { 0 < self.old.room }
         requires ready { IsReady step }
         ensures rows { self.new.rows ≡ after_change self.old.rows (change_of step) }
         ensures room { self.old.room ≤ self.new.room + 1 }
+        ensures took { result ≡ bytes_at self.old.rows (key_of (change_of step)) }
     {
         match step {
             Step::Place { key, row, end } => self.place(key, row, end),
@@ -114,27 +121,45 @@ impl RowTable {
         }
     }
 
-    /// Gives a key a row, whatever it had.
-    fn place(&mut self, key: Vec<u8>, row: StoredRow, end: Option<Vec<u8>>)
+    /// Gives a key a row, and answers what it took before.
+    fn place(&mut self, key: Vec<u8>, row: StoredRow, end: Option<Vec<u8>>) -> u128
         requires room { 0 < self.old.room }
         requires ready { IsEndOf key.items row.until end }
         ensures rows { self.new.rows ≡ insert self.old.rows key.items (row_of row) }
         ensures room { self.old.room ≤ self.new.room + 1 }
+        ensures took { result ≡ bytes_at self.old.rows key.items }
     {
-        let kept = kept_end(&self.rows, &key);
+        let kept = self.kept_end(&key);
         let mut row = row;
         row.end = with_end(&mut self.ends, kept, &key, row.until, end);
-        self.rows.insert(key, row);
+        self.rows.insert(key, row)
     }
 
-    /// Takes a key and its row out, where it has one.
-    fn take_out(&mut self, key: &[u8])
+    /// Takes a key and its row out, where it has one, and answers what it took.
+    fn take_out(&mut self, key: &[u8]) -> u128
         ensures rows { self.new.rows ≡ remove self.old.rows key.now }
         ensures room { self.old.room ≤ self.new.room }
+        ensures took { result ≡ bytes_at self.old.rows key.now }
     {
-        let kept = kept_end(&self.rows, key);
+        let kept = self.kept_end(key);
         without(&mut self.ends, kept, key);
-        self.rows.remove(key);
+        self.rows.remove(key)
+    }
+
+    /// What a key's row has of an end. Where no key ever had one, the row is not looked up.
+    fn kept_end(&self, key: &[u8]) -> KeptEnd
+        ensures { result.ended ≡ is_some (end_of (row_at self.now.rows key.now)) }
+    {
+        if self.ends.is_empty() {
+            return NO_END;
+        }
+        match self.rows.get(key) {
+            Some(row) => KeptEnd {
+                ended: row.until != 0,
+                hint: row.end,
+            },
+            None => NO_END,
+        }
     }
 }
 
@@ -147,20 +172,10 @@ struct KeptEnd {
     hint: usize,
 }
 
-fn kept_end(rows: &HashedRows, key: &[u8]) -> KeptEnd
-    ensures { result.ended ≡ is_some (end_of (row_at rows.now.rows key.now)) }
-{
-    match rows.get(key) {
-        Some(row) => KeptEnd {
-            ended: row.until != 0,
-            hint: row.end,
-        },
-        None => KeptEnd {
-            ended: false,
-            hint: NONE,
-        },
-    }
-}
+const NO_END: KeptEnd = KeptEnd {
+    ended: false,
+    hint: NONE,
+};
 
 /// Gives a key this end, whatever it had, and answers the place that it may have.
 fn with_end(

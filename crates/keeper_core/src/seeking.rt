@@ -1,9 +1,9 @@
-ghost use Rattle.std.specs.Prelude.{◌≡◌, ◌<◌, ℕ, List, Some, length, option_map, filter, slice_get, IsTrue};
+ghost use Rattle.std.specs.Prelude.{◌≡◌, ◌<◌, ℕ, List, Some, length, option_map, slice_get, IsTrue};
 ghost use Rattle.std.specs.FinMap.{is_sorted};
 ghost use Rattle.std.specs.declared.alloc.Global.{Global};
 ghost use Rattle.std.specs.declared.vec.Vec.{Vec};
-ghost use Rattle.keeper_core.specs.Rows.{byte_order, lapsed_in, is_behind};
-ghost use Rattle.keeper_core.specs.Shapes.{Shape, slots, key_at, entries_at, Holds, IsTree, Finds};
+ghost use Rattle.keeper_core.specs.Rows.{byte_order, lapsed_in};
+ghost use Rattle.keeper_core.specs.Shapes.{Shape, slots, key_at, entries_at, Holds, IsTree, Finds, FindsLapsed};
 
 use crate::links::{Link, last_moment};
 use std::cmp::Ordering;
@@ -39,7 +39,7 @@ pub(crate) fn next_lapsed(
 ) -> Option<usize>
     requires tree { IsTree links.now at }
     requires keys { length keys.now ≡ length links.now }
-    ensures lapsed { (shape : Shape) → Holds links.now shape at → IsTrue (is_sorted byte_order (entries_at keys.now links.now (slots shape))) → option_map (key_at keys.now) result ≡ slice_get (filter (is_behind (Some after.now)) (lapsed_in moment (entries_at keys.now links.now (slots shape)))) 0 }
+    ensures lapsed { (shape : Shape) → Holds links.now shape at → IsTrue (is_sorted byte_order (entries_at keys.now links.now (slots shape))) → FindsLapsed keys.now links.now shape after.now moment result }
     ensures within { (slot : ℕ) → result ≡ Some slot → slot < length links.now }
 {
     let Some(link) = links.get(at) else {

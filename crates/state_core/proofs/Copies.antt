@@ -19,10 +19,11 @@ copied_more first items i item old new change so_far within is copied pushed =
     ∙ ap (λ p. first ++ map change_of (take i items ++ p ∷ [])) is
     ∙ ap (λ xs. first ++ map change_of xs) (sym (take_more items i item within))
 
-pub copied_all : (rows : Rows) (moment next : ℕ) (writes : List Write) (items : List Pending) (i : ℕ) (changes : List Change) → changes ≡ numbered next (sweep rows moment) ++ map change_of (take i items)
-    → length items ≤ i → map change_of items ≡ numbered next writes → changes ≡ numbered next (sweep rows moment ++ writes)
-copied_all rows moment next writes items i changes so_far all is =
-    so_far
-    ∙ ap (λ xs. numbered next (sweep rows moment) ++ map change_of xs) (take_all i items all)
-    ∙ ap (λ xs. numbered next (sweep rows moment) ++ xs) is
+pub copied_all : (rows : Rows) (moment next : ℕ) (writes : List Write) (items last : List Pending) (i : ℕ) (changes all : List Change) → changes ≡ numbered next (sweep rows moment) ++ map change_of (take i items)
+    → length items ≤ i → all ≡ changes ++ map change_of last → map change_of (items ++ last) ≡ numbered next writes → all ≡ numbered next (sweep rows moment ++ writes)
+copied_all rows moment next writes items last i changes all so_far whole pushed is =
+    pushed
+    ∙ ap (λ xs. xs ++ map change_of last) (so_far ∙ ap (λ xs. numbered next (sweep rows moment) ++ map change_of xs) (take_all i items whole))
+    ∙ append_assoc (numbered next (sweep rows moment)) (map change_of items) (map change_of last)
+    ∙ ap (λ xs. numbered next (sweep rows moment) ++ xs) (sym (map-append change_of items last) ∙ is)
     ∙ numbered-swept rows moment next writes

@@ -20,7 +20,7 @@ pub(crate) fn answered<K: Keeper>(alloc: Global, keeper: &mut K, cmd: &Cmd, now:
     ensures { IsAnswered (HasMade K.Keeper keeper.old keeper.new) (held K.Keeper keeper.old) (held K.Keeper keeper.new) (K.faults keeper.old) (K.faults keeper.new) now cmd.now result }
 {
     match cmd {
-        Cmd::Get { key, .. } => get(alloc, keeper, key, now),
+        Cmd::Get { key, .. } => get(keeper, key, now),
         Cmd::Bulk { keys, .. } => bulk(alloc, keeper, keys, now),
         Cmd::Save { items, .. } => save(alloc, keeper, items, now),
         Cmd::Delete {

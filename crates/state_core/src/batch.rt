@@ -1,15 +1,16 @@
 //! The changes that a command is to make, and what they make of the rows.
-ghost use Rattle.std.specs.Prelude.{◌≡◌, ◌<◌, ◌≤◌, ◌+◌, ◌^◌, ◌++◌, ℕ, List, [], ◌∷◌, IfOk, OnOk};
+ghost use Rattle.std.specs.Prelude.{◌≡◌, ◌<◌, ◌≤◌, ◌+◌, ◌^◌, ◌++◌, ◌↔◌, ℕ, List, [], map, IsTrue, IfOk, OnOk};
 ghost use Rattle.keeper_core.specs.Rows.{Rows};
-ghost use Rattle.state_core.specs.Write.{Write, upsert, removal};
+ghost use Rattle.state_core.specs.Write.{Write};
 ghost use Rattle.state_core.specs.Judged.{version_in};
-ghost use Rattle.state_core.specs.Batch.{IsBatch, HasPut, HasRemoved, HasJudged};
-ghost use Rattle.state_core.specs.Pending.{change_of};
+ghost use Rattle.state_core.specs.Current.{is_current};
+ghost use Rattle.state_core.specs.Batch.{IsBatch, HasAdded, HasPut, HasRemoved, JudgesNext, version_at, changes_of, last_of};
+ghost use Rattle.state_core.specs.Pending.{change_of, key_of, version_of};
 ghost use Rattle.state_core.specs.Taken.{IsTtl};
 ghost use Rattle.state_core.specs.Current.{until_of};
 ghost use Rattle.side_base.specs.declared.moment.TheConstants.{MOMENT_LIMIT};
 
-use crate::current::is_current;
+use crate::current::{is_current, is_current_for_all};
 use crate::reading::live_version;
 use crate::{Item, Mode, Op};
 use keeper_core::{Change, Keeper};
@@ -53,15 +54,37 @@ impl<'a> Pending<'a> {
             }),
         }
     }
+
+    /// The key that it changes.
+    fn key(self) -> &'a str
+        ensures { result.now ≡ key_of self.entry }
+    {
+        match self {
+            Pending::Put { item, .. } => item.key.as_str(),
+            Pending::Remove { key } => key.as_str(),
+        }
+    }
+
+    /// The version that its key has then; `None` where it leaves no row.
+    fn version(self) -> Option<u64>
+        ensures { result ≡ version_of self.entry }
+    {
+        match self {
+            Pending::Put { version, .. } => Some(version),
+            Pending::Remove { .. } => None,
+        }
+    }
 }
 
-/// Changes that a command is to make.
+/// Changes that a command is to make. The last one stands in no list and no tree, so that one change takes no memory.
 #[derive(Drop)]
 pub(crate) struct Batch<'a> {
-    pub(crate) changes: Vec<Pending<'a>>,
+    /// The changes before the last.
+    pub(crate) earlier: Vec<Pending<'a>>,
+    pub(crate) last: Option<Pending<'a>>,
     /// The version that the next write gets after them.
     pub(crate) next: u64,
-    /// The version of each key that they change; `None` where they leave no row.
+    /// The version of each key that the changes before the last change; `None` where they leave no row.
     pub(crate) versions: BTreeMap<&'a str, Option<u64>>,
 }
 
@@ -71,10 +94,18 @@ impl<'a> Batch<'a> {
         ensures { (rows : Rows) (moment : ℕ) → IsBatch rows next moment [] result }
     {
         Batch {
-            changes: Vec::new(alloc),
+            earlier: Vec::new(alloc),
+            last: None,
             next,
             versions: BTreeMap::new(alloc),
         }
+    }
+
+    /// Whether there is no change.
+    pub(crate) fn is_empty(&self) -> bool
+        ensures { IsTrue result ↔ (changes_of self.now ≡ []) }
+    {
+        self.earlier.is_empty() && self.last.is_none()
     }
 
     /// One more change: an item is stored, and lives up to `until`, in milliseconds since 1970, or for ever where that is 0.
@@ -82,12 +113,11 @@ impl<'a> Batch<'a> {
         requires { self.old.next < 2 ^ 63 }
         ensures { OnOk result (HasPut self.old self.new item.now.key item.now.value until) }
     {
-        self.changes.push(Pending::Put {
+        self.add(Pending::Put {
             item,
             version: self.next,
             until,
         })?;
-        self.versions.insert(item.key.as_str(), Some(self.next))?;
         self.next += 1;
         Ok(())
     }
@@ -96,9 +126,31 @@ impl<'a> Batch<'a> {
     fn remove(&mut self, key: &'a Text) -> Result<(), NoMemory>
         ensures { OnOk result (HasRemoved self.old self.new key.now) }
     {
-        self.changes.push(Pending::Remove { key })?;
-        self.versions.insert(key.as_str(), None)?;
+        self.add(Pending::Remove { key })
+    }
+
+    /// One more change.
+    fn add(&mut self, pending: Pending<'a>) -> Result<(), NoMemory>
+        ensures { OnOk result (HasAdded self.old self.new pending.entry) }
+    {
+        let Some(before) = self.last else {
+            self.last = Some(pending);
+            return Ok(());
+        };
+        self.versions.insert(before.key(), before.version())?;
+        self.earlier.push(before)?;
+        self.last = Some(pending);
         Ok(())
+    }
+
+    /// The version that the changes give a key; `None` where none is of this key.
+    fn version(&self, key: &str) -> Option<Option<u64>>
+        ensures { result ≡ version_at self.now key.now }
+    {
+        match self.last {
+            Some(last) if last.key() == key => Some(last.version()),
+            _ => self.versions.get(key).copied(),
+        }
     }
 }
 
@@ -106,10 +158,21 @@ impl<'a> Batch<'a> {
 fn version_in<K: Keeper>(keeper: &K, batch: &Batch<'_>, key: &str, moment: u64) -> Option<u64>
     ensures { (writes : List Write) → IsBatch (K.rows keeper.now) (K.next keeper.now) moment writes batch.now → result ≡ version_in (K.rows keeper.now) (K.next keeper.now) moment writes key.now }
 {
-    match batch.versions.get(key) {
-        Some(version) => *version,
+    match batch.version(key) {
+        Some(version) => version,
         None => live_version(keeper, key, moment),
     }
+}
+
+/// Whether an item is current for what its key has after the changes. That is looked up only where it decides.
+fn passes<K: Keeper>(keeper: &K, batch: &Batch<'_>, item: &Item, moment: u64) -> bool
+    ensures { (writes : List Write) → IsBatch (K.rows keeper.now) (K.next keeper.now) moment writes batch.now → result ≡ is_current item.now.mode item.now.etag (version_in (K.rows keeper.now) (K.next keeper.now) moment writes item.now.key) }
+{
+    if is_current_for_all(item.mode, &item.etag) {
+        return true;
+    }
+    let version = version_in(keeper, batch, item.key.as_str(), moment);
+    is_current(item.mode, &item.etag, version)
 }
 
 /// Judges an item. One that passes is stored by a further change of the batch.
@@ -122,11 +185,10 @@ pub(crate) fn judge_upsert<'a, K: Keeper>(
     requires room { batch.old.next < 2 ^ 63 }
     requires moment { moment < MOMENT_LIMIT }
     requires ttl { IsTtl item.now.ttl }
-    ensures judged { (writes : List Write) → IsBatch (K.rows keeper.now) (K.next keeper.now) moment writes batch.old → IfOk result (λ passed. HasJudged (K.rows keeper.now) (K.next keeper.now) moment writes (Op.Upsert item.now) passed batch.new) }
+    ensures judged { JudgesNext (K.rows keeper.now) (K.next keeper.now) moment (Op.Upsert item.now) batch.old batch.new result }
     ensures room { OnOk result (batch.new.next ≤ batch.old.next + 1) }
 {
-    let version = version_in(keeper, batch, item.key.as_str(), moment);
-    let passes = is_current(item.mode, &item.etag, version);
+    let passes = passes(keeper, batch, item, moment);
     if passes {
         batch.put(item, until_of(moment, item.ttl))?;
     }
@@ -142,7 +204,7 @@ pub(crate) fn judge_removal<'a, K: Keeper>(
     mode: Mode,
     moment: u64,
 ) -> Result<bool, NoMemory>
-    ensures judged { (writes : List Write) → IsBatch (K.rows keeper.now) (K.next keeper.now) moment writes batch.old → IfOk result (λ passed. HasJudged (K.rows keeper.now) (K.next keeper.now) moment writes (Op.Remove key.now etag.now mode) passed batch.new) }
+    ensures judged { JudgesNext (K.rows keeper.now) (K.next keeper.now) moment (Op.Remove key.now etag.now mode) batch.old batch.new result }
     ensures room { OnOk result (batch.new.next ≡ batch.old.next) }
 {
     let version = version_in(keeper, batch, key.as_str(), moment);
@@ -151,6 +213,23 @@ pub(crate) fn judge_removal<'a, K: Keeper>(
         batch.remove(key)?;
     }
     Ok(passes)
+}
+
+/// Appends the last of the changes, copied, where there is one.
+pub(crate) fn push_last(
+    alloc: Global,
+    changes: &mut Vec<Change>,
+    batch: &Batch<'_>,
+) -> Result<(), NoMemory>
+    ensures { OnOk result (changes.new.items ≡ changes.old.items ++ map change_of (last_of batch.now)) }
+{
+    match batch.last {
+        Some(last) => {
+            changes.push(last.copied(alloc)?)?;
+            Ok(())
+        }
+        None => Ok(()),
+    }
 }
 
 /// From when on a row that is stored at a moment is no longer live, by its seconds to live; 0 is never.

@@ -1,13 +1,11 @@
 //! How the changes of a command are made, and rows that are not live are swept away with them.
-ghost use Rattle.std.specs.Prelude.{◌≡◌, ◌<◌, ◌≤◌, ◌^◌, ◌++◌, ℕ, List, [], ◌∷◌, IfOk, OnOk, true};
+ghost use Rattle.std.specs.Prelude.{◌≡◌, ◌<◌, ◌++◌, ℕ, List, IfOk};
 ghost use Rattle.state_core.specs.Write.{Write, numbered, sweep};
-ghost use Rattle.state_core.specs.Reply.{held};
-ghost use Rattle.keeper_core.specs.Commits.{HasMade};
-ghost use Rattle.state_core.specs.Written.{stores, done_or, refusal_of, IsCommitted};
-ghost use Rattle.state_core.specs.Batch.{IsBatch};
+ghost use Rattle.state_core.specs.Written.{refusal_of};
+ghost use Rattle.state_core.specs.Batch.{IsBatch, CommitsBatch};
 
 use crate::Reply;
-use crate::batch::Batch;
+use crate::batch::{Batch, push_last};
 use keeper_core::{Change, Changes, KeepErr, Keeper};
 use side_base::{Blob, NoMemory, Sequence};
 use std::alloc::Global;
@@ -26,9 +24,9 @@ pub(crate) fn commit<K: Keeper>(
     moment: u64,
 ) -> Result<(), Reply>
     requires { (writes : List Write) × IsBatch (K.rows keeper.old) (K.next keeper.old) moment writes batch }
-    ensures { (writes : List Write) (done : Reply) → IsBatch (K.rows keeper.old) (K.next keeper.old) moment writes batch.entry → stores done ≡ true → IsCommitted (HasMade K.Keeper keeper.old keeper.new) (held K.Keeper keeper.old) (held K.Keeper keeper.new) (K.faults keeper.old) (K.faults keeper.new) moment writes done (done_or done result) }
+    ensures { CommitsBatch K.Keeper keeper.old keeper.new moment batch.entry result }
 {
-    if batch.changes.is_empty() {
+    if batch.is_empty() {
         return Ok(());
     }
     if batch.next > NEXT_LIMIT {
@@ -67,9 +65,10 @@ fn swept<K: Keeper>(
     ensures next { IfOk result (λ changes. changes.next ≡ batch.now.next) }
 {
     let mut changes = sweep(alloc, keeper, moment)?;
-    for pending in &batch.changes {
+    for pending in &batch.earlier {
         changes.push(pending.copied(alloc)?)?;
     }
+    push_last(alloc, &mut changes, batch)?;
     Ok(Changes {
         list: Sequence::from_vec(changes),
         next: batch.next,

@@ -1,5 +1,5 @@
 //! For which rows a write is current.
-ghost use Rattle.std.specs.Prelude.{◌≡◌, option_map};
+ghost use Rattle.std.specs.Prelude.{◌≡◌, ℕ, Option, IsTrue, true};
 ghost use Rattle.state_core.specs.Current.{is_current, is_version};
 
 use crate::Mode;
@@ -14,6 +14,16 @@ pub(crate) fn is_current(mode: Mode, etag: &Option<Text>, version: Option<u64>) 
         (Mode::LastWrite, _) | (Mode::Unsaid, None) => true,
         (Mode::Unsaid | Mode::FirstWrite, Some(etag)) => is_version(etag, version),
         (Mode::FirstWrite, None) => version.is_none(),
+    }
+}
+
+/// Whether a write of this mode and ETag is current whatever its key has.
+pub(crate) fn is_current_for_all(mode: Mode, etag: &Option<Text>) -> bool
+    ensures { IsTrue result → (version : Option ℕ) → is_current mode etag.now version ≡ true }
+{
+    match (mode, etag) {
+        (Mode::LastWrite, _) | (Mode::Unsaid, None) => true,
+        (Mode::Unsaid | Mode::FirstWrite, Some(_)) | (Mode::FirstWrite, None) => false,
     }
 }
 

@@ -1,10 +1,9 @@
 //! Items and operations are judged in order, each by the rows as the passing ones before it leave them.
-ghost use Rattle.std.specs.Prelude.{◌≡◌, ◌<◌, ◌≤◌, ◌+◌, ◌^◌, ℕ, List, [], ◌∷◌, map, IfOk, OnOk, Err};
+ghost use Rattle.std.specs.Prelude.{◌≡◌, ◌<◌, ◌≤◌, ◌+◌, ◌^◌, ℕ, [], map, IfOk, OnOk, Err};
 ghost use Rattle.std.specs.List.{All};
 ghost use Rattle.side_base.specs.declared.moment.TheConstants.{MOMENT_LIMIT};
-ghost use Rattle.state_core.specs.Write.{Write};
 ghost use Rattle.state_core.specs.Taken.{IsTtl, HasTtl};
-ghost use Rattle.state_core.specs.Batch.{HasJudged, IsBatch, HasJudgedAll, HasStopped};
+ghost use Rattle.state_core.specs.Batch.{HasJudged, JudgesNext, HasJudgedAll, HasStopped};
 
 use crate::batch::{Batch, judge_removal, judge_upsert};
 use crate::{Items, Mode, Op, Ops};
@@ -97,7 +96,7 @@ fn judge_op<'a, K: Keeper>(
     requires room { batch.old.next < 2 ^ 63 }
     requires moment { moment < MOMENT_LIMIT }
     requires ttl { HasTtl op.now }
-    ensures judged { (writes : List Write) → IsBatch (K.rows keeper.now) (K.next keeper.now) moment writes batch.old → IfOk result (λ passed. HasJudged (K.rows keeper.now) (K.next keeper.now) moment writes op.now passed batch.new) }
+    ensures judged { JudgesNext (K.rows keeper.now) (K.next keeper.now) moment op.now batch.old batch.new result }
     ensures room { OnOk result (batch.new.next ≤ batch.old.next + 1) }
 {
     match op {

@@ -1,12 +1,12 @@
 //! What keys have at a moment, as a store answers it.
-ghost use Rattle.std.specs.Prelude.{◌≡◌, ◌⊎◌, OnOk, IfOk, ℕ, ◌+◌, ◌≤◌, map, option_map};
+ghost use Rattle.std.specs.Prelude.{◌≡◌, ◌⊎◌, IfOk, ◌+◌, map, option_map};
 ghost use Rattle.keeper_core.specs.Rows.{seen};
 ghost use Rattle.state_core.specs.Current.{live_at, version_of};
 ghost use Rattle.state_core.specs.Reply.{reading, found_of, bulk_row, bulk_len, bulk_reading};
 
 use crate::{BulkRow, Found, Keys, Reply, Rows};
 use keeper_core::{Keeper, RowView};
-use side_base::{Blob, NoMemory, Text};
+use side_base::{NoMemory, Text};
 use std::alloc::Global;
 
 /// The row of a key, where it is live at a moment.
@@ -32,12 +32,12 @@ pub(crate) fn live_version<K: Keeper>(keeper: &K, key: &str, moment: u64) -> Opt
 }
 
 /// The reply to a `Get`.
-pub(crate) fn get<K: Keeper>(alloc: Global, keeper: &K, key: &Text, moment: u64) -> Reply
+pub(crate) fn get<K: Keeper>(keeper: &K, key: &Text, moment: u64) -> Reply
     ensures { (result ≡ reading (live_at (K.rows keeper.now) moment key.now)) ⊎ (result ≡ Reply.NoMemory) }
 {
     match live_row(keeper, key.as_str(), moment) {
         None => Reply::Absent,
-        Some(row) => match copy_of(alloc, row.value) {
+        Some(row) => match row.copy_value() {
             Ok(value) => Reply::Value {
                 value,
                 version: row.version,
@@ -90,7 +90,7 @@ fn bulk_rows<K: Keeper>(
     for place in 0..keys.len() {
         let key = keys.at(place);
         let found = match live_row(keeper, key.as_str(), moment) {
-            Some(row) => Some(copied(alloc, &row)?),
+            Some(row) => Some(copied(&row)?),
             None => None,
         };
         rows.push(BulkRow {
@@ -102,18 +102,11 @@ fn bulk_rows<K: Keeper>(
 }
 
 /// A value with its version, copied.
-fn copied(alloc: Global, row: &RowView<'_>) -> Result<Found, NoMemory>
+fn copied(row: &RowView<'_>) -> Result<Found, NoMemory>
     ensures { IfOk result (λ found. option_map found_of (seen (Some row.now)) ≡ Some found) }
 {
     Ok(Found {
-        value: copy_of(alloc, row.value)?,
+        value: row.copy_value()?,
         version: row.version,
     })
-}
-
-/// The bytes of a value for a reply, which are written out and not copied again.
-fn copy_of(alloc: Global, value: &[u8]) -> Result<Blob, NoMemory>
-    ensures { IfOk result (λ blob. blob ≡ value.now) }
-{
-    Ok(Blob::from_vec(value.to_vec(alloc)?))
 }
