@@ -12,4 +12,5 @@ pub mod Read
 pub mod Runs
 pub mod Staged
 pub mod Unique
+pub mod Walked
 pub mod Writes

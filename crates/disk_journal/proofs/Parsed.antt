@@ -1,5 +1,5 @@
 -- The records of a file are read one by one.
-use Rattle.std.proofs.Common.{◌≡◌, ℕ, ◌+◌, ◌^◌, ◌<◌, ◌≤◌, List, [], ◌∷◌, ◌++◌, length, refl, sym, ◌∙◌, ap, subst, arith, append_assoc, length-append}
+use Rattle.std.proofs.Common.{◌≡◌, ℕ, ◌+◌, ◌^◌, ◌<◌, ◌≤◌, List, [], ◌∷◌, ◌++◌, length, refl, sym, ◌∙◌, ap, arith, append_assoc, length-append}
 use Rattle.std.proofs.lemmas.List.Elements.{All-nil, All-push}
 use Rattle.disk_journal.specs.Image.{header, record_of, records, front, end_of, HaveLengths, IsImage}
 use Rattle.disk_journal.specs.Parsing.{IsClosed, BeginsWith}
@@ -12,23 +12,26 @@ pub record ReadSoFar (behind : List ℕ) (bodies : List (List ℕ)) (rest : List
   pub lengths : HaveLengths bodies
   pub end_is : end ≡ end_of bodies
 
-pub nothing_read : (behind : List ℕ) (bodies : List (List ℕ)) → bodies ≡ [] → ReadSoFar behind bodies behind 16
-nothing_read behind bodies none =
-    subst (λ z. ReadSoFar behind z behind 16) (sym none) (record { read = refl; lengths = All-nil (λ b. length b < 2 ^ 64); end_is = sym end_of-nil })
+-- of some bodies
+pub record ReadOn (behind rest : List ℕ) (end : ℕ) : Type 0 where
+  pub bodies : List (List ℕ)
+  pub so_far : ReadSoFar behind bodies rest end
+
+pub nothing_read : (behind : List ℕ) → ReadSoFar behind [] behind 16
+nothing_read behind = record { read = refl; lengths = All-nil (λ b. length b < 2 ^ 64); end_is = sym end_of-nil }
 
 pub read_within : (behind : List ℕ) (bodies : List (List ℕ)) (rest : List ℕ) (end : ℕ) → ReadSoFar behind bodies rest end → end + length rest ≡ 16 + length behind
 read_within behind bodies rest end so_far =
     omega (arith, so_far.end_is, ap length so_far.read, length-append (records bodies) rest, length-append header (records bodies), length-header)
 
-pub read_on : (behind : List ℕ) (bodies more : List (List ℕ)) (rest body after : List ℕ) (end : ℕ) → ReadSoFar behind bodies rest end → BeginsWith rest body after → more ≡ bodies ++ body ∷ [] → ReadSoFar behind more after (end + (9 + length body))
-read_on behind bodies more rest body after end so_far begins pushed =
-    subst (λ z. ReadSoFar behind z after (end + (9 + length body))) (sym pushed) (record {
-      read =
-          so_far.read ∙ ap (λ z. records bodies ++ z) begins.bytes_are ∙ sym (append_assoc (records bodies) (record_of body) after)
-          ∙ ap (λ z. z ++ after) (sym (records-push bodies body));
-      lengths = All-push (λ b. length b < 2 ^ 64) bodies body so_far.lengths begins.has_length;
-      end_is = omega (arith, so_far.end_is, end_of-push bodies body);
-    })
+pub read_on : (behind : List ℕ) (bodies : List (List ℕ)) (rest body after : List ℕ) (end : ℕ) → ReadSoFar behind bodies rest end → BeginsWith rest body after → ReadSoFar behind (bodies ++ body ∷ []) after (end + (9 + length body))
+read_on behind bodies rest body after end so_far begins = record {
+  read =
+      so_far.read ∙ ap (λ z. records bodies ++ z) begins.bytes_are ∙ sym (append_assoc (records bodies) (record_of body) after)
+      ∙ ap (λ z. z ++ after) (sym (records-push bodies body));
+  lengths = All-push (λ b. length b < 2 ^ 64) bodies body so_far.lengths begins.has_length;
+  end_is = omega (arith, so_far.end_is, end_of-push bodies body);
+}
 
 pub record_within : (behind : List ℕ) (bodies : List (List ℕ)) (rest body after : List ℕ) (end : ℕ) → ReadSoFar behind bodies rest end → BeginsWith rest body after → end + (9 + length body) ≤ 16 + length behind
 record_within behind bodies rest body after end so_far begins =

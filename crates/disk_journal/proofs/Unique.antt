@@ -36,11 +36,11 @@ same_record a b xs ys short_a short_b same =
     record { body = body; rest = append_cancel_left a xs ys (rest ∙ ap (λ l. l ++ ys) (sym body)) }
 
 -- a gate that is not open begins no record
-shut_is_no_record : (gate : ℕ) (behind body rest : List ℕ) → gate ≢ 1 → gate ∷ behind ≡ record_of body ++ rest → ⊥
+pub shut_is_no_record : (gate : ℕ) (behind body rest : List ℕ) → gate ≢ 1 → gate ∷ behind ≡ record_of body ++ rest → ⊥
 shut_is_no_record gate behind body rest shut same = shut (cc same)
 
 -- what lacks some bytes of a record begins with no whole record
-part_is_no_record : (part body rest : List ℕ) → IsPart part → length body < 2 ^ 64 → part ≡ record_of body ++ rest → ⊥
+pub part_is_no_record : (part body rest : List ℕ) → IsPart part → length body < 2 ^ 64 → part ≡ record_of body ++ rest → ⊥
 part_is_no_record part body rest is short same =
     let whole : record_of body ++ (rest ++ is.missing) ≡ record_of is.body ++ [] =
     sym (append_assoc (record_of body) rest is.missing) ∙ ap (λ z. z ++ is.missing) (sym same) ∙ is.whole ∙ sym (append-nil (record_of is.body)) in
@@ -55,7 +55,7 @@ part_is_not_shut : (gate : ℕ) (behind : List ℕ) → gate ≢ 1 → IsPart (g
 part_is_not_shut gate behind shut is = shut (cc is.whole)
 
 -- what follows the records of some bodies, and of some others, where both are the same bytes
-split : (body : List ℕ) (bodies : List (List ℕ)) (rest : List ℕ) → records (body ∷ bodies) ++ rest ≡ record_of body ++ (records bodies ++ rest)
+pub split : (body : List ℕ) (bodies : List (List ℕ)) (rest : List ℕ) → records (body ∷ bodies) ++ rest ≡ record_of body ++ (records bodies ++ rest)
 split body bodies rest = append_assoc (record_of body) (records bodies) rest
 
 one_list : (bodies others : List (List ℕ)) (gate other : ℕ) (behind beyond : List ℕ) → HaveLengths bodies → HaveLengths others → gate ≢ 1 → other ≢ 1

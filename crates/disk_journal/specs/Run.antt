@@ -59,3 +59,13 @@ pub record AreOfRun (bodies : List (List ℕ)) (answers : List (Option (List ℕ
   pub more : List (List ℕ)
   pub at_most_one : length more ≤ 1
   pub found_are : found ≡ (bodies ++ acknowledged (take count answers)) ++ more
+
+-- between these calls and those behind them, and at each moment of the latter, a crash leaves what was held, what was acknowledged, and at most one more
+abbrev pub LeavesWhatWasMade : {D : Type 0} (disking : Ghosts D) → Journal D disking → Journal D disking → Journal D disking → List (Option (List ℕ)) → List (Option (List ℕ)) → List (List ℕ) → Option (List ℕ) → Type 0
+LeavesWhatWasMade disking first mid last front back bodies doubt =
+    Leads disking first front mid → Leads disking mid back last → Holds disking first bodies doubt → AtEachMoment disking (disk_of mid) (disk_of last) (IsOfRun (bodies ++ acknowledged front) back)
+
+-- this is so of each run, where the disk tells what a crash in it may have left
+abbrev pub AfterACrash : {D E : Type 0} → Ghosts D → (other : Ghosts E) → E → (List (List ℕ) → List (Option (List ℕ)) → List (Option (List ℕ)) → Type 0) → Type 0
+AfterACrash disking other disk Then =
+    (bodies : List (List ℕ)) (front back : List (Option (List ℕ))) (c : List ℕ) → IsLeftByRun disking bodies front back c → other.contents disk ≡ Some c → Then bodies front back

@@ -2,9 +2,9 @@ ghost use Rattle.std.specs.Prelude.{◌+◌, ◌<◌, ◌≤◌, ◌^◌};
 
 use crate::formatting::format;
 use crate::loading::read_all;
-use crate::parsing::bodies_of;
+use crate::parsing::gate_of;
 use crate::writing::{set_gate, stage};
-use crate::{Bodies, JournalErr};
+use crate::{Bodies, JournalErr, Records};
 use side_world::Disk;
 use std::alloc::Global;
 
@@ -34,6 +34,7 @@ impl<D: Disk> Journal<D> {
     ghost use Rattle.disk_journal.specs.Image.{header, IsImage, IsWithOrWithout, end_of};
     ghost use Rattle.disk_journal.specs.Journal.{disk_of, len_of, limit_of, torn_of, Holds};
     ghost use Rattle.disk_journal.specs.Moments.{Reads, Shows, AtEachMoment, ChangesNothing};
+    ghost use Rattle.disk_journal.specs.Records.{bytes_in, IsOver};
     ghost use Rattle.disk_journal.specs.Refusal.{IsNoJournal};
     ghost use Rattle.disk_journal.specs.declared.error.JournalErr.TheVariants.{Failed, NotAJournal, Full};
 
@@ -62,16 +63,8 @@ impl<D: Disk> Journal<D> {
         }
     }
 
-    /// Opens the journal of a disk, and gives its bodies; has all that was written reach the disk first. `limit` is the greatest length
-    /// of the file, in bytes, that an append may lead to.
-    ///
-    /// Refuses with `NotAJournal` at the first byte of the header that differs, at the length of a file with no room for the header, at
-    /// the gate of an open record that runs past the end, or at the end where a gate should stand; the disk is given back.
-    pub fn load(
-        alloc: Global,
-        mut disk: D,
-        limit: u64,
-    ) -> Result<(Journal<D>, Bodies), (D, JournalErr)>
+    /// Opens the journal of a disk, and gives its bodies, copied; else as `open`.
+    pub fn load(alloc: Global, disk: D, limit: u64) -> Result<(Journal<D>, Bodies), (D, JournalErr)>
         // Where the disk tells what a read gives, these are its bodies, and no others are.
         ensures image { IfOk result (λ opened. Reads D.Disk disk (λ bytes. IsImage bytes opened.1)) }
         ensures only { IfOk result (λ opened. Reads D.Disk disk (λ bytes. (others : List (List ℕ)) → IsImage bytes others → others ≡ opened.1)) }
@@ -91,19 +84,56 @@ impl<D: Disk> Journal<D> {
         ensures not_full { IfErr result (λ e. (len : ℕ) → e.1 ≡ Full len → ⊥) }
         ensures no_fewer_given_back { IfErr result (λ e. D.faults disk ≤ D.faults e.0) }
     {
+        let (journal, records) = match Journal::open(alloc, disk, limit) {
+            Ok(opened) => opened,
+            Err(error) => return Err(error),
+        };
+        match records.copied(alloc) {
+            Ok(bodies) => Ok((journal, bodies)),
+            Err(_) => Err((journal.into_disk(), JournalErr::NoMemory)),
+        }
+    }
+
+    /// Opens the journal of a disk, and gives the bytes of its file, which lend its bodies; has all that was written reach the disk first.
+    /// Takes memory for those bytes alone. `limit` is the greatest length of the file, in bytes, that an append may lead to.
+    ///
+    /// Refuses with `NotAJournal` at the first byte of the header that differs, at the length of a file with no room for the header, at
+    /// the gate of an open record that runs past the end, or at the end where a gate should stand; the disk is given back.
+    pub fn open(
+        alloc: Global,
+        mut disk: D,
+        limit: u64,
+    ) -> Result<(Journal<D>, Records), (D, JournalErr)>
+        // The bytes are a file of the bodies that the journal holds, and where the disk tells what a read gives, they are that.
+        ensures holds { IfOk result (λ opened. IsOver D.Disk (bytes_in opened.1) opened.0) }
+        ensures read { IfOk result (λ opened. Reads D.Disk disk (λ bytes. bytes_in opened.1 ≡ bytes)) }
+        ensures refused { IfErr result (λ e. (at : ℕ) → e.1 ≡ NotAJournal at → Reads D.Disk disk (λ bytes. IsNoJournal bytes at)) }
+        ensures refused_only { IfErr result (λ e. (at : ℕ) → e.1 ≡ NotAJournal at → Reads D.Disk disk (λ bytes. (bodies : List (List ℕ)) → IsImage bytes bodies → ⊥)) }
+        ensures limit { IfOk result (λ opened. limit_of opened.0 ≡ limit) }
+
+        // A crash inside it leaves what one before it might have left.
+        ensures opened { IfOk result (λ opened. ChangesNothing D.Disk disk (disk_of opened.0)) }
+        ensures given_back { IfErr result (λ e. ChangesNothing D.Disk disk e.0) }
+
+        ensures failed { IfErr result (λ e. e.1 ≡ Failed → Rose (D.faults disk) (D.faults e.0)) }
+        ensures no_fault { IfOk result (λ opened. D.faults (disk_of opened.0) ≡ D.faults disk) }
+        ensures no_fault_given_back { IfErr result (λ e. (e.1 ≡ Failed → ⊥) → D.faults e.0 ≡ D.faults disk) }
+        ensures not_full { IfErr result (λ e. (len : ℕ) → e.1 ≡ Full len → ⊥) }
+        ensures no_fewer_given_back { IfErr result (λ e. D.faults disk ≤ D.faults e.0) }
+    {
         let bytes = match read_all(alloc, &mut disk) {
             Ok(bytes) => bytes,
             Err(e) => return Err((disk, e)),
         };
-        match bodies_of(alloc, &bytes) {
-            Ok((bodies, end)) => {
+        match gate_of(&bytes) {
+            Ok(end) => {
                 let journal = Journal {
                     disk,
                     end,
                     limit,
                     torn: false,
                 };
-                Ok((journal, bodies))
+                Ok((journal, Records { bytes }))
             }
             Err(e) => Err((disk, e)),
         }

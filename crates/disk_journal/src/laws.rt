@@ -1,11 +1,10 @@
 //! What holds of every journal, as functions whose contract is the law.
-ghost use Rattle.std.specs.Prelude.{◌≡◌, ◌≤◌, false, ℕ, List, ◌++◌, length, take, Option, Some, None, Err, IfOk, IfErr, OnOk, OnErr};
+ghost use Rattle.std.specs.Prelude.{◌≡◌, false, ℕ, List, ◌++◌, Option, Some, None, Err, IfOk, IfErr, OnOk, OnErr};
 ghost use Rattle.side_world.specs.Faults.{Rose};
 ghost use Rattle.disk_journal.specs.Image.{IsImage};
-ghost use Rattle.disk_journal.specs.Journal.{disk_of, limit_of, torn_of, Holds};
-ghost use Rattle.disk_journal.specs.Moments.{AtEachMoment};
+ghost use Rattle.disk_journal.specs.Journal.{disk_of, limit_of, torn_of};
 ghost use Rattle.disk_journal.specs.Refusal.{IsNoJournal};
-ghost use Rattle.disk_journal.specs.Run.{acknowledged, IsCall, Leads, IsOfRun, IsLeftByRun, AreOfRun};
+ghost use Rattle.disk_journal.specs.Run.{acknowledged, IsCall, AreOfRun, LeavesWhatWasMade, AfterACrash};
 ghost use Rattle.disk_journal.specs.declared.error.JournalErr.TheVariants.{NotAJournal};
 ghost use Rattle.disk_journal.specs.declared.journal.Journal.{Journal};
 
@@ -46,7 +45,7 @@ pub fn repair_in_a_run<D: Disk>(journal: &mut Journal<D>) -> Result<(), JournalE
 /// A crash at any moment behind some calls leaves the bodies that the journal held before them, all that they acknowledged, those that
 /// the first of the calls behind them acknowledged, in order, and then at most one more.
 pub fn a_crash_leaves_what_was_acknowledged<D: Disk>()
-    ensures { (first mid last : Journal D D.Disk) (front back : List (Option (List ℕ))) (bodies : List (List ℕ)) (doubt : Option (List ℕ)) → Leads D.Disk first front mid → Leads D.Disk mid back last → Holds D.Disk first bodies doubt → AtEachMoment D.Disk (disk_of mid) (disk_of last) (IsOfRun (bodies ++ acknowledged front) back) }
+    ensures { (first mid last : Journal D D.Disk) (front back : List (Option (List ℕ))) (bodies : List (List ℕ)) (doubt : Option (List ℕ)) → LeavesWhatWasMade D.Disk first mid last front back bodies doubt }
 {}
 
 /// Opens what a crash at such a moment left: it has just those bodies, and is never refused as no journal.
@@ -56,8 +55,8 @@ pub fn load_after_a_crash<D: Disk, E: Disk>(
     limit: u64,
 ) -> Result<(Journal<E>, Bodies), (E, JournalErr)>
     ensures limit { IfOk result (λ opened. limit_of opened.0 ≡ limit) }
-    ensures found { IfOk result (λ opened. (bodies : List (List ℕ)) (front back : List (Option (List ℕ))) (c : List ℕ) → IsLeftByRun D.Disk bodies front back c → E.contents disk ≡ Some c → AreOfRun (bodies ++ acknowledged front) back opened.1) }
-    ensures not_refused { IfErr result (λ e. (bodies : List (List ℕ)) (front back : List (Option (List ℕ))) (c : List ℕ) → IsLeftByRun D.Disk bodies front back c → E.contents disk ≡ Some c → (at : ℕ) → e.1 ≡ NotAJournal at → ⊥) }
+    ensures found { IfOk result (λ opened. AfterACrash D.Disk E.Disk disk (λ bodies front back. AreOfRun (bodies ++ acknowledged front) back opened.1)) }
+    ensures not_refused { IfErr result (λ e. AfterACrash D.Disk E.Disk disk (λ bodies front back. (at : ℕ) → e.1 ≡ NotAJournal at → ⊥)) }
 {
     Journal::load(alloc, disk, limit)
 }

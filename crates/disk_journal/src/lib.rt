@@ -7,9 +7,10 @@ mod journal;
 pub mod laws;
 mod loading;
 mod parsing;
+mod records;
 mod writing;
 
 pub use error::JournalErr;
 pub use formatting::format;
 pub use journal::Journal;
-pub use parsing::Bodies;
+pub use records::{Bodies, Records, Walk};

@@ -1,18 +1,16 @@
-//! The bodies that the bytes of a file say.
-ghost use Rattle.std.specs.Prelude.{◌≡◌, ◌≢◌, ◌<◌, ◌≤◌, ◌+◌, ◌^◌, ℕ, [], ◌∷◌, ◌++◌, length, take, slice_index, Err, IfSome, IfNone, IfOk, OnOk};
+//! Where the bytes of a file have their records, and where they are no journal.
+ghost use Rattle.std.specs.Prelude.{◌≡◌, ◌≢◌, ◌<◌, ◌≤◌, ◌+◌, ◌^◌, ℕ, List, ◌++◌, length, take, slice_index, Err, IfSome, IfNone, IfOk};
 ghost use Rattle.disk_journal.specs.Image.{IsImage, header, end_of};
 ghost use Rattle.disk_journal.specs.Parsing.{IsFound};
 ghost use Rattle.disk_journal.specs.Refusal.{IsNoJournal, IsCutShort};
 ghost use Rattle.disk_journal.specs.declared.error.JournalErr.TheVariants.{Failed, NotAJournal, Full};
 
 use crate::JournalErr;
-use side_base::{Blob, Sequence};
-use std::alloc::Global;
 
-/// The byte strings of a journal, in order.
-pub type Bodies = Sequence<Blob>;
+/// How many bytes stand before the first gate.
+pub(crate) const HEADER_BYTES: usize = 16;
 
-const HEADER: [u8; 16] = *b"SIDEJNL2\0\0\0\0\0\0\0\0";
+const HEADER: [u8; HEADER_BYTES] = *b"SIDEJNL2\0\0\0\0\0\0\0\0";
 
 /// What stands at the place of a gate.
 pub(crate) enum Found<'b> {
@@ -24,11 +22,10 @@ pub(crate) enum Found<'b> {
     Record { body: &'b [u8], rest: &'b [u8] },
 }
 
-/// The bodies of a file, and the place of its closed gate.
-pub(crate) fn bodies_of(alloc: Global, bytes: &[u8]) -> Result<(Bodies, u64), JournalErr>
-    ensures image { IfOk result (λ read. IsImage bytes.now read.0) }
-    ensures end { IfOk result (λ read. read.1 ≡ end_of read.0) }
-    ensures within { IfOk result (λ read. read.1 + 1 ≤ length bytes.now) }
+/// The place of the closed gate behind the records of a file.
+pub(crate) fn gate_of(bytes: &[u8]) -> Result<u64, JournalErr>
+    ensures image { IfOk result (λ end. (bodies : List (List ℕ)) × IsImage bytes.now bodies × (end ≡ end_of bodies)) }
+    ensures within { IfOk result (λ end. end + 1 ≤ length bytes.now) }
     ensures refused { (at : ℕ) → result ≡ Err (NotAJournal at) → IsNoJournal bytes.now at }
     ensures not_failed { result ≡ Err Failed → ⊥ }
     ensures not_full { (len : ℕ) → result ≡ Err (Full len) → ⊥ }
@@ -40,28 +37,25 @@ pub(crate) fn bodies_of(alloc: Global, bytes: &[u8]) -> Result<(Bodies, u64), Jo
     if let Some(at) = first_difference(bytes, &HEADER) {
         return Err(JournalErr::NotAJournal { at: at as u64 });
     }
-    records_of(alloc, &bytes[HEADER.len()..])
+    gate_behind(&bytes[HEADER.len()..])
 }
 
-/// The bodies of the records in `behind`, which stands behind the header, and the place of the closed gate behind them.
-fn records_of(alloc: Global, behind: &[u8]) -> Result<(Bodies, u64), JournalErr>
+/// The place of the closed gate behind the records in `behind`, which stands behind the header.
+fn gate_behind(behind: &[u8]) -> Result<u64, JournalErr>
     requires { 16 + length behind.now < 2 ^ 64 }
-    ensures image { IfOk result (λ read. IsImage (header ++ behind.now) read.0) }
-    ensures end { IfOk result (λ read. read.1 ≡ end_of read.0) }
-    ensures within { IfOk result (λ read. read.1 + 1 ≤ 16 + length behind.now) }
+    ensures image { IfOk result (λ end. (bodies : List (List ℕ)) × IsImage (header ++ behind.now) bodies × (end ≡ end_of bodies)) }
+    ensures within { IfOk result (λ end. end + 1 ≤ 16 + length behind.now) }
     ensures refused { (at : ℕ) → result ≡ Err (NotAJournal at) → IsCutShort (header ++ behind.now) at }
     ensures not_failed { result ≡ Err Failed → ⊥ }
     ensures not_full { (len : ℕ) → result ≡ Err (Full len) → ⊥ }
 {
-    let mut bodies = Bodies::new(alloc);
     let mut end = HEADER.len() as u64;
     let mut rest = behind;
     loop {
         match found_in(rest) {
-            Found::Closed => return Ok((bodies, end)),
+            Found::Closed => return Ok(end),
             Found::Cut => return Err(JournalErr::NotAJournal { at: end }),
             Found::Record { body, rest: after } => {
-                keep(alloc, &mut bodies, body)?;
                 end += 9 + body.len() as u64;
                 rest = after;
             }
@@ -86,7 +80,7 @@ fn first_difference(bytes: &[u8], wanted: &[u8]) -> Option<usize>
 }
 
 /// What stands at the front of `bytes`, where a gate should.
-fn found_in(bytes: &[u8]) -> Found<'_>
+pub(crate) fn found_in(bytes: &[u8]) -> Found<'_>
     ensures { IsFound bytes.now result }
 {
     let [gate, behind @ ..] = bytes else {
@@ -104,20 +98,4 @@ fn found_in(bytes: &[u8]) -> Found<'_>
     }
     let (body, rest) = content.split_at(len as usize);
     Found::Record { body, rest }
-}
-
-/// Adds a copy of `body`.
-fn keep(alloc: Global, bodies: &mut Bodies, body: &[u8]) -> Result<(), JournalErr>
-    ensures kept { OnOk result (bodies.new ≡ bodies.old ++ body.now ∷ []) }
-    ensures not_failed { result ≡ Err Failed → ⊥ }
-    ensures no_other { (at : ℕ) → result ≡ Err (NotAJournal at) → ⊥ }
-    ensures not_full { (len : ℕ) → result ≡ Err (Full len) → ⊥ }
-{
-    let Ok(body) = Blob::from_bytes(alloc, body) else {
-        return Err(JournalErr::NoMemory);
-    };
-    match bodies.push(body) {
-        Ok(()) => Ok(()),
-        Err(_) => Err(JournalErr::NoMemory),
-    }
 }

@@ -1,5 +1,5 @@
 -- Bodies that say commits, one after the other.
-use Rattle.std.proofs.Common.{◌≡◌, ℕ, ◌+◌, ◌^◌, ◌<◌, List, [], ◌∷◌, ◌++◌, length, refl, sym, ◌∙◌, ap, subst, arith, append_assoc}
+use Rattle.std.proofs.Common.{◌≡◌, ℕ, ◌+◌, ◌^◌, ◌<◌, List, [], ◌∷◌, ◌++◌, length, Some, refl, sym, ◌∙◌, ap, subst, arith, append_assoc}
 use Rattle.std.proofs.lemmas.List.{append-nil}
 use Rattle.std.specs.FinMap.{empty}
 use Rattle.keeper_core.specs.Rows.{Rows}
@@ -8,7 +8,9 @@ use Rattle.keeper_core.specs.declared.changes.Changes.{Changes}
 use Rattle.disk_journal.specs.Image.{end_of}
 use Rattle.keeper_journal.specs.Body.{IsBodyOf}
 use Rattle.keeper_journal.specs.History.{rows_after, rows_of, next_after, next_of, MayFollow, SayFrom, Say, IsFaultyAt}
-use Rattle.keeper_journal.specs.Following.{Follows, SaysNoneAfter}
+use Rattle.disk_journal.specs.Records.{HasLeft, GivesNext}
+use Rattle.disk_journal.specs.declared.records.Walk.{Walk}
+use Rattle.keeper_journal.specs.Following.{Follows, SaysNoneAfter, HasReplayed}
 use Rattle.keeper_journal.specs.declared.following.Replay.{Replay}
 use Rattle.keeper_journal.proofs.Bodies.{same_body}
 use Rattle.keeper_journal.proofs.Files.{end-first, end-more, end-front}
@@ -132,7 +134,21 @@ is_faulty all rest after body replay at so_far is none = record {
   gate = so_far.gate;
 }
 
-pub replayed_all : (all rest : List (List ℕ)) (replay : Replay) (at : ℕ) → ReplayedSoFar all rest replay at → rest ≡ [] → (commits : List Changes) × Say all commits × (replay.table.rows ≡ rows_of commits) × (replay.next ≡ next_of commits)
+pub replayed_all : (all rest : List (List ℕ)) (replay : Replay) (at : ℕ) → ReplayedSoFar all rest replay at → rest ≡ [] → HasReplayed all replay
 replayed_all all rest replay at so_far is =
     let whole : so_far.before ≡ all = sym (so_far.bodies_are ∙ ap (λ (r : List (List ℕ)). so_far.before ++ r) is ∙ append-nil so_far.before) in
-    (so_far.commits, subst (λ (b : List (List ℕ)). Say b so_far.commits) whole so_far.say, so_far.rows, so_far.next)
+    record { commits = so_far.commits; say = subst (λ (b : List (List ℕ)). Say b so_far.commits) whole so_far.say; rows = so_far.rows; next = so_far.next }
+
+-- a loop over the bodies of a walk
+pub record WalkedSoFar (all : List (List ℕ)) (walk : Walk) (replay : Replay) (at : ℕ) : Type 0 where
+  pub rest : List (List ℕ)
+  pub left : HasLeft walk rest
+  pub so_far : ReplayedSoFar all rest replay at
+
+pub walked_more : (all : List (List ℕ)) (old new : Walk) (body : List ℕ) (before after : Replay) (at : ℕ) → (walked : WalkedSoFar all old before at) → GivesNext walked.rest new (Some body) → Follows body before after
+    → WalkedSoFar all new after (at + (9 + length body))
+walked_more all old new body before after at walked given follows = record {
+  rest = given.0;
+  left = given.2;
+  so_far = replayed_more all walked.rest given.0 body before after at walked.so_far given.1 follows;
+}

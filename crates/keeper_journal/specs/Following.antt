@@ -3,7 +3,7 @@ use Rattle.std.specs.Prelude.{◌≡◌, ℕ, List}
 use Rattle.keeper_core.specs.Changes.{after_changes}
 use Rattle.keeper_core.specs.declared.changes.Changes.{Changes}
 use Rattle.keeper_journal.specs.Body.{IsBodyOf}
-use Rattle.keeper_journal.specs.History.{MayFollow}
+use Rattle.keeper_journal.specs.History.{MayFollow, Say, rows_of, next_of}
 use Rattle.keeper_journal.specs.declared.following.Replay.{Replay}
 
 -- the body says a commit that may follow, and that was made
@@ -17,3 +17,10 @@ pub record Follows (body : List ℕ) (old new : Replay) : Type 0 where
 -- a body says no commit that may follow where the next version is this one
 abbrev pub SaysNoneAfter : ℕ → List ℕ → Type 0
 SaysNoneAfter next body = (commit : Changes) → IsBodyOf body commit → MayFollow next commit → ⊥
+
+-- these bodies say commits, and all were made
+pub record HasReplayed (bodies : List (List ℕ)) (replay : Replay) : Type 0 where
+  pub commits : List Changes
+  pub say : Say bodies commits
+  pub rows : replay.table.rows ≡ rows_of commits
+  pub next : replay.next ≡ next_of commits

@@ -1,5 +1,5 @@
 -- Which commits a keeper keeps.
-use Rattle.std.specs.Prelude.{◌≡◌, ℕ, List, Option, Some, None}
+use Rattle.std.specs.Prelude.{◌≡◌, ◌⊎◌, ℕ, List, Option, Some, None}
 use Rattle.side_world.specs.declared.disk.Disk.{Ghosts}
 use Rattle.keeper_core.specs.declared.changes.Changes.{Changes}
 use Rattle.keeper_core.specs.Rows.{Rows}
@@ -31,3 +31,7 @@ pub record KeptAs {D : Type 0} (disking : Ghosts D) (journal : Journal D disking
 -- the keeper keeps these commits
 abbrev pub Kept : {D : Type 0} (disking : Ghosts D) → JournalKeeper D disking → List Changes → Option Changes → Type 0
 Kept disking keeper commits doubt = KeptAs disking keeper.journal (rows_in keeper) (next_in keeper) commits doubt
+
+-- after a commit that was not made: it keeps what it kept, and in doubt is what was, or nothing, or that commit
+abbrev pub IsUndone : {D : Type 0} (disking : Ghosts D) → JournalKeeper D disking → List Changes → Option Changes → Changes → Type 0
+IsUndone disking keeper commits doubt commit = Kept disking keeper commits doubt ⊎ Kept disking keeper commits None ⊎ Kept disking keeper commits (Some commit)

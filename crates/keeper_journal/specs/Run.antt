@@ -58,3 +58,13 @@ pub record KeepsOfRun {D : Type 0} (disking : Ghosts D) (keeper : JournalKeeper 
   pub more : List Changes
   pub at_most_one : length more ≤ 1
   pub kept : Kept disking keeper ((commits ++ acknowledged (take count answers)) ++ more) None
+
+-- between these calls and those behind them, and at each moment of the latter, a crash leaves what was kept, what was acknowledged, and at most one more
+abbrev pub LeavesWhatWasMade : {D : Type 0} (disking : Ghosts D) → JournalKeeper D disking → JournalKeeper D disking → JournalKeeper D disking → List (Option Changes) → List (Option Changes) → List Changes → Option Changes → Type 0
+LeavesWhatWasMade disking first mid last front back commits doubt =
+    Leads disking first front mid → Leads disking mid back last → Kept disking first commits doubt → AtEachMoment disking (disk_in mid) (disk_in last) (IsOfRun (commits ++ acknowledged front) back)
+
+-- this is so of each run, where the disk tells what a crash in it may have left
+abbrev pub AfterACrash : {D E : Type 0} → Ghosts D → (other : Ghosts E) → E → (List Changes → List (Option Changes) → List (Option Changes) → Type 0) → Type 0
+AfterACrash disking other disk Then =
+    (commits : List Changes) (front back : List (Option Changes)) (c : List ℕ) → IsLeftByRun disking commits front back c → other.contents disk ≡ Some c → Then commits front back

@@ -18,7 +18,7 @@ impl<D: Disk> Keeper for JournalKeeper<D> {
     ghost use Rattle.disk_journal.specs.Moments.{AtEachMoment};
     ghost use Rattle.keeper_journal.specs.History.{IsWithOneAtMost};
     ghost use Rattle.keeper_journal.specs.JournalKeeper.{rows_in, next_in, journal_in, disk_in, size_in, limit_in, size_with};
-    ghost use Rattle.keeper_journal.specs.Kept.{Kept};
+    ghost use Rattle.keeper_journal.specs.Kept.{Kept, IsUndone};
     ghost use Rattle.keeper_journal.specs.Run.{Leads, leads_on};
 
     ghost rows = { rows_in };
@@ -61,10 +61,10 @@ impl<D: Disk> Keeper for JournalKeeper<D> {
 
         // What it kept is kept, and with this commit only after `Ok`. One that failed at its gate is in doubt until the next commit.
         ensures kept { (commits : List Changes) (doubt : Option Changes) → Kept D.Disk self.old commits doubt → OnOk result (Kept D.Disk self.new (commits ++ changes ∷ []) None) }
-        ensures undone { (commits : List Changes) (doubt : Option Changes) → Kept D.Disk self.old commits doubt → OnErr result (Kept D.Disk self.new commits doubt ⊎ Kept D.Disk self.new commits None ⊎ Kept D.Disk self.new commits (Some changes)) }
+        ensures undone { (commits : List Changes) (doubt : Option Changes) → Kept D.Disk self.old commits doubt → OnErr result (IsUndone D.Disk self.new commits doubt changes) }
 
         // A crash at any moment of the call leaves what was kept, with this commit or without it, or with the one in doubt.
-        ensures any_moment { (commits : List Changes) (doubt : Option Changes) → Kept D.Disk self.old commits doubt → AtEachMoment D.Disk (disk_in self.old) (disk_in self.new) (IsWithOneAtMost commits doubt changes) }
+        ensures any_moment { (kept : List Changes) (doubt : Option Changes) → Kept D.Disk self.old kept doubt → AtEachMoment D.Disk (disk_in self.old) (disk_in self.new) (IsWithOneAtMost kept doubt changes) }
 
         // What was made is told as it was given, and nothing else is.
         ensures leads { OnOk result (Leads D.Disk self.old (Some changes ∷ []) self.new) }

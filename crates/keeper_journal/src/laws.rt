@@ -4,15 +4,13 @@ ghost use Rattle.side_world.specs.Faults.{Rose};
 ghost use Rattle.keeper_core.specs.Changes.{VersionsAreBelow};
 ghost use Rattle.keeper_core.specs.Commits.{acknowledged, HasMade};
 ghost use Rattle.keeper_core.specs.declared.changes.Changes.{Changes};
-ghost use Rattle.disk_journal.specs.Moments.{AtEachMoment};
 ghost use Rattle.disk_journal.specs.declared.error.JournalErr.TheVariants.{NotAJournal};
 ghost use Rattle.keeper_journal.specs.Body.{IsBodyOf};
 ghost use Rattle.keeper_journal.specs.History.{IsHistory, IsRefusedAt};
 ghost use Rattle.keeper_journal.specs.JournalKeeper.{disk_in, next_in, size_in, limit_in, size_with};
 ghost use Rattle.keeper_journal.specs.AnyKeeper.{KeptByAny, AnyReads};
-ghost use Rattle.keeper_journal.specs.Kept.{Kept};
 ghost use Rattle.keeper_journal.specs.declared.any_keeper.AnyKeeper.{AnyKeeper};
-ghost use Rattle.keeper_journal.specs.Run.{HasAtMostOneMore, IsCall, Leads, IsOfRun, IsLeftByRun, KeepsOfRun};
+ghost use Rattle.keeper_journal.specs.Run.{HasAtMostOneMore, IsCall, KeepsOfRun, LeavesWhatWasMade, AfterACrash};
 ghost use Rattle.keeper_journal.specs.declared.journal_keeper.JournalKeeper.{JournalKeeper};
 
 use crate::{AnyKeeper, JournalKeeper};
@@ -55,13 +53,13 @@ pub fn commit_in_a_run<D: Disk>(
 /// A crash at any moment behind some commits leaves those that the keeper kept before them, all that were acknowledged, those that the
 /// first of the calls behind them acknowledged, in order, and then at most one more.
 pub fn a_crash_leaves_what_was_acknowledged<D: Disk>()
-    ensures { (first mid last : JournalKeeper D D.Disk) (front back : List (Option Changes)) (commits : List Changes) (doubt : Option Changes) → Leads D.Disk first front mid → Leads D.Disk mid back last → Kept D.Disk first commits doubt → AtEachMoment D.Disk (disk_in mid) (disk_in last) (IsOfRun (commits ++ acknowledged front) back) }
+    ensures { (first mid last : JournalKeeper D D.Disk) (front back : List (Option Changes)) (commits : List Changes) (doubt : Option Changes) → LeavesWhatWasMade D.Disk first mid last front back commits doubt }
 {}
 
 /// The disk of a keeper, as its commits leave it, has the commits that the keeper kept before them and those of them that were made, in
 /// order, and then at most one more.
 pub fn a_disk_has_what_was_made<D: Disk>()
-    ensures { (first last : AnyKeeper D D.Disk) (commits made : List Changes) (doubt : Option Changes) → HasMade ⟦<AnyKeeper<D> as Keeper>⟧ first last made → KeptByAny first commits doubt → AnyReads last (HasAtMostOneMore (commits ++ made)) }
+    ensures { (first last : AnyKeeper D D.Disk) (kept made : List Changes) (doubt : Option Changes) → HasMade ⟦<AnyKeeper<D> as Keeper>⟧ first last made → KeptByAny first kept doubt → AnyReads last (HasAtMostOneMore (kept ++ made)) }
 {}
 
 /// Starts on what a crash at such a moment left: it keeps just those commits, and so has their rows and their next version; it is never
@@ -74,8 +72,8 @@ pub fn start_after_a_crash<D: Disk, E: Disk>(
 ) -> Result<JournalKeeper<E>, (E, JournalErr)>
     requires { limit < 2 ^ 32 }
     ensures limit { IfOk result (λ keeper. limit_in keeper ≡ limit) }
-    ensures found { IfOk result (λ keeper. (commits : List Changes) (front back : List (Option Changes)) (c : List ℕ) → IsLeftByRun D.Disk commits front back c → E.contents disk ≡ Some c → KeepsOfRun E.Disk keeper (commits ++ acknowledged front) back) }
-    ensures not_refused { IfErr result (λ e. (commits : List Changes) (front back : List (Option Changes)) (c : List ℕ) → IsLeftByRun D.Disk commits front back c → E.contents disk ≡ Some c → (at : ℕ) → e.1 ≡ NotAJournal at → ⊥) }
+    ensures found { IfOk result (λ keeper. AfterACrash D.Disk E.Disk disk (λ commits front back. KeepsOfRun E.Disk keeper (commits ++ acknowledged front) back)) }
+    ensures not_refused { IfErr result (λ e. AfterACrash D.Disk E.Disk disk (λ commits front back. (at : ℕ) → e.1 ≡ NotAJournal at → ⊥)) }
     ensures failed { IfErr result (λ e. e.1 ≡ JournalErr.Failed → Rose (E.faults disk) (E.faults e.0)) }
 {
     JournalKeeper::start(alloc, disk, limit, secret)

@@ -34,11 +34,11 @@ pub(crate) fn opened<D: Disk>(
     ensures no_fault_given_back { IfErr result (λ e. (e.1 ≡ Failed → ⊥) → D.faults e.0 ≡ D.faults disk) }
     ensures no_fewer_given_back { IfErr result (λ e. D.faults disk ≤ D.faults e.0) }
 {
-    let (journal, bodies) = match Journal::load(alloc, disk, limit) {
-        Ok(loaded) => loaded,
+    let (journal, records) = match Journal::open(alloc, disk, limit) {
+        Ok(opened) => opened,
         Err(error) => return Err(error),
     };
-    match replay(alloc, bodies, secret) {
+    match replay(alloc, records.walk(), secret) {
         Ok(replay) => Ok(JournalKeeper::over(alloc, journal, replay)),
         Err(error) => Err((journal.into_disk(), error)),
     }

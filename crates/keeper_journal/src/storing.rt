@@ -1,9 +1,9 @@
-ghost use Rattle.std.specs.Prelude.{◌≡◌, ◌⊎◌, ◌+◌, ◌≤◌, max, true, false, ℕ, List, [], ◌∷◌, ◌++◌, length, Option, Some, None, Err, IsOk, OnOk, OnErr};
+ghost use Rattle.std.specs.Prelude.{◌≡◌, ◌+◌, ◌≤◌, max, true, false, ℕ, List, [], ◌∷◌, ◌++◌, length, Option, None, Err, IsOk, OnOk, OnErr};
 ghost use Rattle.side_world.specs.Faults.{Rose};
 ghost use Rattle.disk_journal.specs.Journal.{Holds, disk_of, len_of, limit_of, torn_of};
 ghost use Rattle.disk_journal.specs.Moments.{AtEachMoment};
 ghost use Rattle.keeper_core.specs.declared.keeper.KeepErr.TheVariants.{Failed};
-ghost use Rattle.keeper_journal.specs.Storing.{IsWithDoubt, IsWithOneAtMost};
+ghost use Rattle.keeper_journal.specs.Storing.{IsWithDoubt, IsWithOneAtMost, HoldsAsBefore};
 
 use disk_journal::Journal;
 use keeper_core::KeepErr;
@@ -34,7 +34,7 @@ pub(crate) fn mend<D: Disk>(journal: &mut Journal<D>) -> Result<(), KeepErr>
 pub(crate) fn store<D: Disk>(journal: &mut Journal<D>, body: &[u8]) -> Result<(), KeepErr>
     requires { len_of journal.old + 9 + length body.now ≤ limit_of journal.old }
     ensures stored { (bodies : List (List ℕ)) (doubt : Option (List ℕ)) → Holds D.Disk journal.old bodies doubt → OnOk result (Holds D.Disk journal.new (bodies ++ body.now ∷ []) None) }
-    ensures undone { (bodies : List (List ℕ)) (doubt : Option (List ℕ)) → Holds D.Disk journal.old bodies doubt → OnErr result (Holds D.Disk journal.new bodies doubt ⊎ Holds D.Disk journal.new bodies None ⊎ Holds D.Disk journal.new bodies (Some body.now)) }
+    ensures undone { (bodies : List (List ℕ)) (doubt : Option (List ℕ)) → Holds D.Disk journal.old bodies doubt → OnErr result (HoldsAsBefore D.Disk journal.new bodies doubt body.now) }
     ensures any_moment { (bodies : List (List ℕ)) (doubt : Option (List ℕ)) → Holds D.Disk journal.old bodies doubt → AtEachMoment D.Disk (disk_of journal.old) (disk_of journal.new) (IsWithOneAtMost bodies doubt body.now) }
     ensures failed { OnErr result ((result ≡ Err Failed) × Rose (D.faults (disk_of journal.old)) (D.faults (disk_of journal.new))) }
     ensures no_fault { OnOk result (D.faults (disk_of journal.new) ≡ D.faults (disk_of journal.old)) }

@@ -1,15 +1,14 @@
-use Rattle.std.proofs.Common.{Err, ◌∙◌, ap, subst}
+use Rattle.std.proofs.Common.{ℕ, List, None, sym, ◌∙◌, subst}
 use Rattle.disk_journal.specs.Image.{IsImage}
-use Rattle.disk_journal.specs.Refusal.{IsNoJournal}
-use Rattle.disk_journal.proofs.Unique.{says_one_list, image_is_no_refusal}
+use Rattle.disk_journal.specs.Journal.{Holds}
 use Rattle.disk_journal.proofs.journal.Journal.load.Goals as goal
 
-pub returns-in-Ok-bodies_of-clause-only : goal.returns-in-Ok-bodies_of-clause-only
-returns-in-Ok-bodies_of-clause-only g c bytes told others image =
-    let read = c.deref.ensures.value ∙ c.in-Ok.ensures.bytes bytes told in
-    says_one_list bytes c.in-Ok-bodies_of.bodies others (subst (λ z. IsImage z c.in-Ok-bodies_of.bodies) read c.in-Ok-bodies_of.ensures.image) image
+pub returns-in-Ok-copied-clause-only : goal.returns-in-Ok-copied-clause-only
+returns-in-Ok-copied-clause-only g c bytes told others image =
+    let over = c.in-Ok.ensures.holds in
+    over.only others (subst (λ z. IsImage z others) (sym (c.in-Ok.ensures.read bytes told)) image) ∙ sym (c.in-Ok-copied.ensures over.bodies over.image)
 
-pub returns-clause-refused_only : goal.returns-clause-refused_only
-returns-clause-refused_only g c at is bytes told bodies image =
-    let read = c.deref.ensures.value ∙ c.in-Ok.ensures.bytes bytes told in
-    image_is_no_refusal bytes bodies at image (subst (λ z. IsNoJournal z at) read (c.in-Err-bodies_of.ensures.refused at (ap Err is)))
+pub returns-in-Ok-copied-clause-holds : goal.returns-in-Ok-copied-clause-holds
+returns-in-Ok-copied-clause-holds g c =
+    let over = c.in-Ok.ensures.holds in
+    subst (λ (bodies : List (List ℕ)). Holds g.D.Disk c.in-Ok.opened.0 bodies None) (sym (c.in-Ok-copied.ensures over.bodies over.image)) over.holds

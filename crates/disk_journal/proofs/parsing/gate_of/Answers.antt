@@ -1,8 +1,8 @@
-use Rattle.std.proofs.Common.{◌≡◌, inr, IfOk, subst}
-use Rattle.disk_journal.specs.Image.{IsImage}
+use Rattle.std.proofs.Common.{◌≡◌, ℕ, List, inr, IfOk, subst}
+use Rattle.disk_journal.specs.Image.{IsImage, end_of}
 use Rattle.disk_journal.specs.Refusal.{IsNoJournal, IsCutShort}
 use Rattle.disk_journal.proofs.Headers.{other_header, behind_header}
-use Rattle.disk_journal.proofs.parsing.bodies_of.Goals as goal
+use Rattle.disk_journal.proofs.parsing.gate_of.Goals as goal
 
 pub returns-in-Some-clause-refused : goal.returns-in-Some-clause-refused
 returns-in-Some-clause-refused c at same =
@@ -12,7 +12,8 @@ returns-in-Some-clause-refused c at same =
     subst (IsNoJournal c.args.bytes.now) place here
 
 pub returns-clause-image : goal.returns-clause-image
-returns-clause-image c = subst (λ z. IfOk c.records_of.result (λ read. IsImage z read.0)) (behind_header c.args.bytes.now c.in_default.ensures.equal) c.records_of.ensures.image
+returns-clause-image c =
+    subst (λ z. IfOk c.gate_behind.result (λ end. (bodies : List (List ℕ)) × IsImage z bodies × (end ≡ end_of bodies))) (behind_header c.args.bytes.now c.in_default.ensures.equal) c.gate_behind.ensures.image
 
 pub returns-clause-refused : goal.returns-clause-refused
-returns-clause-refused c at same = inr (inr (subst (λ z. IsCutShort z at) (behind_header c.args.bytes.now c.in_default.ensures.equal) (c.records_of.ensures.refused at same)))
+returns-clause-refused c at same = inr (inr (subst (λ z. IsCutShort z at) (behind_header c.args.bytes.now c.in_default.ensures.equal) (c.gate_behind.ensures.refused at same)))
