@@ -99,7 +99,12 @@ fn made(
 }
 
 /// Measures a row by so many rounds, and writes what one of them takes.
-pub(crate) fn tell<R: Clock + Eprint>(rt: &R, alloc: Global, row: Row, times: u32) -> io::Result<()> {
+pub(crate) fn tell<R: Clock + Eprint>(
+    rt: &R,
+    alloc: Global,
+    row: Row,
+    times: u32,
+) -> io::Result<()> {
     let request = request(alloc, row.kind)?;
     let value = value(alloc)?;
     let prefix = Prefix {

@@ -191,7 +191,12 @@ fn ends_cost<R: Clock>(
 
 /// The same among so many rows of which every other one ends in so many seconds: a save that gives its row an end, and one that takes it
 /// away. Each measure begins later than the one before it has ended, since a store takes no moment back.
-pub(crate) fn ending<R: Clock + Eprint>(rt: &R, alloc: Global, rows: u32, seconds: u64) -> io::Result<()>
+pub(crate) fn ending<R: Clock + Eprint>(
+    rt: &R,
+    alloc: Global,
+    rows: u32,
+    seconds: u64,
+) -> io::Result<()>
     requires { IsTtl (Some seconds) }
 {
     let Some(now) = Moment::at(0) else {
