@@ -1,5 +1,5 @@
 //! Calls of a link to listeners of the tests' own.
-use net_edge::TcpLink;
+use host_devices::TcpLink;
 use side_base::{Blob, LinkRequest, Method, NoMemory, Response, Sequence, Text};
 use side_world::{Link, LinkErr};
 use std::alloc::Global;

@@ -1,7 +1,8 @@
 //! The devices of files, clocks and numbers, and what std has as sources and sinks.
-use net_edge::{HostClock, HostDisk, HostFiles, StartNumbers, StdSink, StdSource};
+use host_devices::{HostClock, HostDisk, HostFiles, StdSink, StdSource};
+use net_edge::HostOutside;
 use side_base::{Blob, Names, NoMemory};
-use side_world::{Clock, Disk, Failed, Files, FilesErr, gather, send};
+use side_world::{Clock, Disk, Failed, Files, FilesErr, Outside, gather, send};
 use std::alloc::Global;
 use std::io::Write;
 use std::test::Fail;
@@ -160,10 +161,10 @@ fn the_clock_of_the_host_goes_on(rt: HostRuntime) -> Result<(), Fail> {
 
 #[test]
 fn start_numbers_differ(rt: HostRuntime) -> Result<(), Fail> {
-    let mut one = StartNumbers::new(&rt)?;
-    let mut other = StartNumbers::new(&rt)?;
-    let first = one.next_number();
-    assert_ne!(rt; first, one.next_number());
-    assert_ne!(rt; first, other.next_number());
+    let mut one = HostOutside::new(rt)?;
+    let mut other = HostOutside::new(rt)?;
+    let first = one.start_number();
+    assert_ne!(rt; first, one.start_number());
+    assert_ne!(rt; first, other.start_number());
     Ok(())
 }

@@ -16,7 +16,7 @@ const ANSWER_LIMIT_MS: u64 = 20_000;
 const ASKED: u32 = 400;
 
 /// How many pieces a stretch has at most.
-const PIECES: u32 = 100_000;
+const PIECES: u32 = 1_000_000_000;
 
 /// What is answered to each request.
 const ANSWER: &[u8] = b"answer";

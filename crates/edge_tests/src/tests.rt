@@ -17,6 +17,7 @@ fn short() -> DoorLimits {
         crowded_ms: 20,
         patience_ms: 60,
         pressed_ms: 20,
+        held_ms: 200,
     }
 }
 
@@ -168,13 +169,47 @@ fn answered_beside_drips<R: Net<Listener = TcpListener, Stream = TcpStream> + Cl
     piece_of(&mut whole)
 }
 
-/// Slow clients beside which one more is answered.
+/// Sends so many pieces to a client's connection, or fewer where there is no room for more, or it was closed.
+fn flood(client: &mut TcpStream, pieces: u32) {
+    for _ in 0..pieces {
+        if client.write(&[b'a'; 4096]).is_err() {
+            return;
+        }
+    }
+}
+
+/// The same while four others send as much as is taken, without an end of a request, for some seconds.
+fn answered_beside_floods<R: Net<Listener = TcpListener, Stream = TcpStream> + Clock + AllocGlobal>(
+    rt: &R,
+    port: u16,
+) -> io::Result<usize> {
+    let mut floods = send_halves(rt, port, 4)?;
+    let mut whole = connect(rt, port)?;
+    for flooding in floods.iter_mut() {
+        flooding.set_nonblocking(true)?;
+    }
+    for round in 0..2_500u32 {
+        for flooding in floods.iter_mut() {
+            flood(flooding, 200);
+        }
+        if round == 250 {
+            whole.write_all(b"whole.")?;
+        }
+        sleep(rt, Duration::from_millis(1));
+    }
+    whole.set_nonblocking(true)?;
+    piece_of(&mut whole)
+}
+
+/// Clients that hold workers, beside which one more is answered.
 #[derive(Clone, Copy)]
 enum Slow {
     /// So many that have sent half a request.
     Halves(u32),
     /// Four that go on sending.
     Drips,
+    /// Four that send as much as is taken.
+    Floods,
 }
 
 /// How many bytes one client more is answered beside slow ones at a door that is shut afterwards.
@@ -187,6 +222,7 @@ fn answered_at<R: Net<Listener = TcpListener, Stream = TcpStream> + Clock + Allo
     let answered = match slow {
         Slow::Halves(count) => answered_beside_halves(rt, port, count),
         Slow::Drips => answered_beside_drips(rt, port),
+        Slow::Floods => answered_beside_floods(rt, port),
     };
     door.shut();
     answered
@@ -238,6 +274,25 @@ fn four_slow_requests_leave_a_worker_to_a_fifth_client(rt: HostRuntime) -> Resul
         &rt,
         || for_each_mut(&rt, &mut workers, 4, &|_, worker| serve_to_the_end(worker)),
         || answered_at(&rt, &door, port, Slow::Drips),
+    );
+    assert_eq!(rt; answered?, 6);
+    Ok(())
+}
+
+#[test]
+fn four_requests_without_an_end_leave_a_worker_to_a_fifth_client(
+    rt: HostRuntime,
+) -> Result<(), Fail> {
+    let door = TcpDoor::open(&rt, 0)?;
+    let port = door.port()?;
+    let mut workers = Vec::new(rt.alloc());
+    for _ in 0..4u32 {
+        workers.push(door.acceptor(rt)?)?;
+    }
+    let (_, answered) = join(
+        &rt,
+        || for_each_mut(&rt, &mut workers, 4, &|_, worker| serve_to_the_end(worker)),
+        || answered_at(&rt, &door, port, Slow::Floods),
     );
     assert_eq!(rt; answered?, 6);
     Ok(())

@@ -1,7 +1,7 @@
 //! One round, written as a line of standard error.
 use crate::appends::{append, write};
 use disk_journal::{Journal, format};
-use net_edge::HostDisk;
+use host_devices::HostDisk;
 use side_world::Disk;
 use std::alloc::Global;
 use std::fs::{File, Files, remove_file};

@@ -25,9 +25,10 @@ pub(crate) fn read_now(stream: &TcpStream, into: &mut [u8]) -> io::Result<Option
     }
 }
 
-/// Reads what comes in time from a peer that keeps this pace; nothing where it doesn't.
+/// Reads what comes in time from a peer that keeps this pace; nothing where it doesn't. The worker with this bit waits for it.
 pub(crate) fn read_in_time(
     door: &Door,
+    worker: u64,
     stream: &TcpStream,
     pace: &mut Pace,
     into: &mut [u8],
@@ -37,9 +38,9 @@ pub(crate) fn read_in_time(
     if let Some(n) = read_now(stream, into)? {
         return Ok(n);
     }
-    door.begin_wait(stream);
+    door.begin_wait(worker, stream);
     let outcome = await_bytes(door, stream, pace, into);
-    door.end_wait();
+    door.end_wait(worker);
     outcome
 }
 
@@ -78,9 +79,11 @@ fn write_now(stream: &TcpStream, piece: &[u8]) -> io::Result<Option<usize>>
     }
 }
 
-/// Writes what the peer takes in time, which keeps this pace; nothing where it doesn't take any.
+/// Writes what the peer takes in time, which keeps this pace; nothing where it doesn't take any. The worker with this bit waits
+/// for it.
 pub(crate) fn write_in_time(
     door: &Door,
+    worker: u64,
     stream: &TcpStream,
     pace: &mut Pace,
     piece: &[u8],
@@ -90,9 +93,9 @@ pub(crate) fn write_in_time(
     if let Some(n) = write_now(stream, piece)? {
         return Ok(n);
     }
-    door.begin_wait(stream);
+    door.begin_wait(worker, stream);
     let outcome = await_room(door, stream, pace, piece);
-    door.end_wait();
+    door.end_wait(worker);
     outcome
 }
 

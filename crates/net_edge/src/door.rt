@@ -37,9 +37,11 @@ pub(crate) struct Door {
     listener: TcpListener,
     places: Places,
     limits: DoorLimits,
-    /// How many acceptors there are, and how many of their workers wait for a slow peer.
+    /// How many acceptors there are.
     workers: AtomicU64,
+    /// The bits of those workers that wait for a slow peer, and of those whose peer has sent for long within requests.
     waiting: AtomicU64,
+    held: AtomicU64,
     /// The moment at which accepting begins again; 0 where it goes on.
     resumes_at: AtomicU64,
     /// The moment of the last sweep, and how many there were.
@@ -100,6 +102,7 @@ impl Door {
             limits,
             workers: AtomicU64::new(0),
             waiting: AtomicU64::new(0),
+            held: AtomicU64::new(0),
             resumes_at: AtomicU64::new(0),
             swept_at: AtomicU64::new(0),
             sweeps: AtomicU64::new(0),
@@ -114,9 +117,13 @@ impl Door {
         Ok(self.listener.local_addr()?.port())
     }
 
-    /// One worker more waits at the door.
-    pub(crate) fn add_worker(&self) {
-        self.workers.fetch_add(1, Ordering::SeqCst);
+    /// One worker more waits at the door: its bit among those of all, of which there are 64.
+    pub(crate) fn add_worker(&self) -> u64 {
+        let others = self.workers.fetch_add(1, Ordering::SeqCst);
+        match u32::try_from(others) {
+            Ok(others) => 1u64.checked_shl(others).unwrap_or(0),
+            Err(_) => 0,
+        }
     }
 
     /// No connection comes from now on.
@@ -267,35 +274,57 @@ impl Door {
         self.places.sweep_piece(piece, before);
     }
 
-    /// A worker begins to wait for a slow peer, whose connection is no longer reported.
-    pub(crate) fn begin_wait(&self, stream: &TcpStream) {
+    /// The worker with this bit begins to wait for a slow peer, whose connection is no longer reported.
+    pub(crate) fn begin_wait(&self, worker: u64, stream: &TcpStream) {
         self.places.mute(&self.set, stream.as_raw_fd());
-        self.waiting.fetch_add(1, Ordering::SeqCst);
+        self.waiting.fetch_or(worker, Ordering::SeqCst);
     }
 
     /// It no longer waits.
-    pub(crate) fn end_wait(&self) {
-        self.waiting.fetch_sub(1, Ordering::SeqCst);
+    pub(crate) fn end_wait(&self, worker: u64) {
+        self.waiting.fetch_and(!worker, Ordering::SeqCst);
+    }
+
+    /// Whether a peer that has sent within requests for so many milliseconds counts among those that hold a worker.
+    pub(crate) fn is_long(&self, ms: u64) -> bool {
+        ms >= self.limits.pressed_ms
+    }
+
+    /// Whether a peer that has sent within requests for so many milliseconds has to leave its worker to others now.
+    pub(crate) fn is_too_long(&self, ms: u64) -> bool {
+        ms >= self.limits.held_ms && self.is_pressed()
+    }
+
+    /// The peer of the worker with this bit has sent for long.
+    pub(crate) fn begin_hold(&self, worker: u64) {
+        self.held.fetch_or(worker, Ordering::SeqCst);
+    }
+
+    /// It no longer holds the worker.
+    pub(crate) fn end_hold(&self, worker: u64) {
+        self.held.fetch_and(!worker, Ordering::SeqCst);
     }
 
     /// For how many milliseconds a peer may be waited for before another look; 0 where its time is over.
     pub(crate) fn patience(&self, pace: &Pace) -> i32 {
+        let limits = &self.limits;
         let left = if self.is_pressed() {
-            self.limits
+            limits
                 .pressed_ms
                 .saturating_sub(pace.owed_while_pressed())
+                .min(limits.held_ms.saturating_sub(pace.waited()))
         } else {
-            self.limits.patience_ms.saturating_sub(pace.owed())
+            limits.patience_ms.saturating_sub(pace.owed())
         };
         left.min(LOOK_MS as u64) as i32
     }
 
-    /// Whether all workers end, or all wait for slow peers and something else wants one of them.
+    /// Whether all workers end, or peers hold them all and something else wants one of them.
     fn is_pressed(&self) -> bool {
         if self.is_ending() {
             return true;
         }
-        self.waiting.load(Ordering::SeqCst) >= self.workers.load(Ordering::SeqCst)
-            && self.set.has_ready()
+        let taken = self.waiting.load(Ordering::SeqCst) | self.held.load(Ordering::SeqCst);
+        u64::from(taken.count_ones()) >= self.workers.load(Ordering::SeqCst) && self.set.has_ready()
     }
 }

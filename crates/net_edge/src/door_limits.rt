@@ -18,8 +18,10 @@ pub struct DoorLimits {
     pub crowded_ms: u64,
     /// A worker waits so long for the rest of a request, and so long for a peer that doesn't read.
     pub patience_ms: u64,
-    /// The same where all workers wait so, and another connection, or other work, wants one of them, and where all workers end.
+    /// The same where peers hold all workers, and another connection, or other work, wants one of them, and where all workers end.
     pub pressed_ms: u64,
+    /// The most of a worker's time that a peer then has without a moment between two requests, whatever it sends or takes.
+    pub held_ms: u64,
 }
 
 impl DoorLimits {
@@ -31,6 +33,7 @@ impl DoorLimits {
         ensures crowded { result.crowded_ms ≡ 1000 }
         ensures patience { result.patience_ms ≡ 30000 }
         ensures pressed { result.pressed_ms ≡ 100 }
+        ensures held { result.held_ms ≡ 1000 }
     {
         DoorLimits {
             places: places(),
@@ -38,6 +41,7 @@ impl DoorLimits {
             crowded_ms: 1_000,
             patience_ms: 30_000,
             pressed_ms: 100,
+            held_ms: 1_000,
         }
     }
 }

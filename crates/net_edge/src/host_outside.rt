@@ -1,8 +1,9 @@
 ghost use Rattle.std.specs.Prelude.{◌≡◌, None, IfOk};
 ghost use Rattle.side_world.specs.Outside.{IsNewDisk, AreNew};
 
-use crate::fault_count::FaultCount;
-use crate::{HostClock, HostDisk, NoLink, StartNumbers, TcpAcceptor, TcpDoor};
+use crate::start_numbers::StartNumbers;
+use crate::{TcpAcceptor, TcpDoor};
+use host_devices::{FaultCount, HostClock, HostDisk, NoLink};
 use side_world::{Acceptor, Disk, Failed, Link, Outside, WorkerParts};
 use std::fs::{File, Files};
 use std::io::{self, ErrorKind};

@@ -10,6 +10,8 @@ pub(crate) struct Pace {
     owed: u64,
     /// The same where others want the worker, in 1,024ths of a millisecond, of which each byte is worth one.
     owed_while_pressed: u64,
+    /// For how many milliseconds it was waited for in all.
+    waited: u64,
 }
 
 impl Pace {
@@ -18,6 +20,7 @@ impl Pace {
         Pace {
             owed: 0,
             owed_while_pressed: 0,
+            waited: 0,
         }
     }
 
@@ -32,6 +35,7 @@ impl Pace {
         let parts = ms.saturating_mul(BYTES_WHILE_PRESSED);
         self.owed = self.owed.saturating_add(ms);
         self.owed_while_pressed = self.owed_while_pressed.saturating_add(parts);
+        self.waited = self.waited.saturating_add(ms);
     }
 
     /// How many milliseconds are owed.
@@ -42,5 +46,10 @@ impl Pace {
     /// The same where others want the worker.
     pub(crate) fn owed_while_pressed(&self) -> u64 {
         self.owed_while_pressed / BYTES_WHILE_PRESSED
+    }
+
+    /// For how many milliseconds it was waited for, whatever its bytes are worth.
+    pub(crate) fn waited(&self) -> u64 {
+        self.waited
     }
 }

@@ -5,14 +5,14 @@ use std::random::RandomSource;
 
 /// Numbers that nobody can predict who doesn't know the keys that the system gave: no two runs have the same.
 #[derive(Drop)]
-pub struct StartNumbers {
+pub(crate) struct StartNumbers {
     keys: RandomState,
     given: u64,
 }
 
 impl StartNumbers {
     /// Numbers by new keys of the system.
-    pub fn new<R: RandomSource>(rt: &R) -> io::Result<Self> {
+    pub(crate) fn new<R: RandomSource>(rt: &R) -> io::Result<Self> {
         Ok(StartNumbers {
             keys: RandomState::new(rt)?,
             given: 0,
@@ -20,7 +20,7 @@ impl StartNumbers {
     }
 
     /// The next number.
-    pub fn next_number(&mut self) -> u64 {
+    pub(crate) fn next_number(&mut self) -> u64 {
         self.given = self.given.wrapping_add(1);
         self.keys.hash_one(self.given)
     }

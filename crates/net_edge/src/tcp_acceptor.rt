@@ -2,10 +2,10 @@ ghost use Rattle.std.specs.Prelude.{◌≡◌, ◌↔◌, None, IsOk, true};
 
 use crate::connection::part_with;
 use crate::door::{Door, LOOK_MS, Look};
-use crate::fault_count::FaultCount;
 use crate::tcp_sink::TcpSink;
 use crate::tcp_source::TcpSource;
 use crate::waiting::now_ms;
+use host_devices::FaultCount;
 use side_world::{Accepted, Acceptor, Failed, Sink, Source};
 use std::io;
 use std::net::TcpStream;
@@ -23,6 +23,8 @@ const LOOKS: u32 = 1_000;
 pub struct TcpAcceptor<R> {
     rt: R,
     door: Arc<Door>,
+    /// The worker's bit among those of all workers of the door.
+    worker: u64,
     /// What the last connection had of the door, for the next one: all workers would count in one place otherwise.
     spare: Option<Doors>,
     /// The last answer was `Idle`.
@@ -57,10 +59,11 @@ impl<R: Wait + AllocGlobal> TcpAcceptor<R> {
     pub(crate) fn new(rt: R, door: Arc<Door>) -> Self
         ensures { ⟦<TcpAcceptor<R> as Acceptor>⟧.faults result ≡ 0 }
     {
-        door.add_worker();
+        let worker = door.add_worker();
         TcpAcceptor {
             rt,
             door,
+            worker,
             spare: None,
             was_idle: false,
             faults: FaultCount::none(),
@@ -158,8 +161,8 @@ impl<R: Wait + AllocGlobal> Acceptor for TcpAcceptor<R> {
                     has_ended,
                 },
             ) => Accepted::Conn {
-                source: TcpSource::new(doors.of_source, stream, has_ended),
-                sink: TcpSink::new(doors.of_sink, other_stream),
+                source: TcpSource::new(doors.of_source, self.worker, stream, has_ended),
+                sink: TcpSink::new(doors.of_sink, self.worker, other_stream),
             },
             Ok(Next::Idle) => {
                 self.was_idle = true;

@@ -2,8 +2,8 @@ ghost use Rattle.std.specs.Prelude.{◌≡◌, None};
 
 use crate::connection::write_in_time;
 use crate::door::Door;
-use crate::fault_count::FaultCount;
 use crate::pace::Pace;
+use host_devices::FaultCount;
 use side_world::{Failed, Sink};
 use std::net::TcpStream;
 use std::sync::Arc;
@@ -14,6 +14,8 @@ use std::sync::Arc;
 /// of which nothing was taken in time.
 pub struct TcpSink {
     door: Arc<Door>,
+    /// The bit of its worker.
+    worker: u64,
     stream: Arc<TcpStream>,
     /// How the peer takes what it is sent.
     pace: Pace,
@@ -23,12 +25,13 @@ pub struct TcpSink {
 impl TcpSink {
     ghost use Rattle.std.specs.Prelude.{◌≡◌, ◌≢◌, ◌↔◌, true};
 
-    /// To the peer of this connection.
-    pub(crate) fn new(door: Arc<Door>, stream: Arc<TcpStream>) -> Self
+    /// To the peer of this connection, which the worker with this bit serves.
+    pub(crate) fn new(door: Arc<Door>, worker: u64, stream: Arc<TcpStream>) -> Self
         ensures { ⟦<TcpSink as Sink>⟧.faults result ≡ 0 }
     {
         TcpSink {
             door,
+            worker,
             stream,
             pace: Pace::new(),
             faults: FaultCount::none(),
@@ -41,6 +44,7 @@ impl TcpSink {
     {
         let TcpSink {
             door,
+            worker: _,
             stream: _,
             pace: _,
             faults,
@@ -55,7 +59,7 @@ impl Sink for TcpSink {
     ghost faults = { λ s. s.faults };
 
     fn write(&mut self, piece: &[u8]) -> Result<usize, Failed> {
-        match write_in_time(&self.door, &self.stream, &mut self.pace, piece) {
+        match write_in_time(&self.door, self.worker, &self.stream, &mut self.pace, piece) {
             Ok(n) if n > 0 => {
                 self.pace.note(n);
                 Ok(n)

@@ -2,8 +2,9 @@ ghost use Rattle.std.specs.Prelude.{◌≡◌, None, true};
 
 use crate::connection::{read_in_time, read_now};
 use crate::door::Door;
-use crate::fault_count::FaultCount;
 use crate::pace::Pace;
+use crate::waiting::now_ms;
+use host_devices::FaultCount;
 use side_world::{Failed, Source};
 use std::io;
 use std::net::TcpStream;
@@ -12,14 +13,20 @@ use std::sync::Arc;
 /// How often one connection is looked at between requests before others have their turn.
 const LOOKS_AT_ONCE: u32 = 64;
 
+/// For how many milliseconds, in the same way.
+const MS_AT_ONCE: u64 = 100;
+
 /// What the peer of a connection sends in one stretch: from a moment at which something is there until one at which, between
 /// two requests, nothing more is. It tells no content.
 ///
 /// Between two requests, of which `between` tells it, a read answers 0 where nothing is there: without a look where the last read
 /// left nothing, since what comes later is reported anew. Within a request it waits, and answers 0 where it has waited too long in
-/// this stretch. Each error of the connection is a fault.
+/// this stretch, or where its peer has sent for too long without a moment between two requests. Each error of the connection is a
+/// fault.
 pub struct TcpSource {
     door: Arc<Door>,
+    /// The bit of its worker.
+    worker: u64,
     stream: Arc<TcpStream>,
     /// The reader holds no part of a request.
     is_between: bool,
@@ -28,6 +35,10 @@ pub struct TcpSource {
     ended: bool,
     /// How many looks there were between two requests.
     looks: u32,
+    /// The moment at which it was first read within a request, or for a second time between two, in milliseconds; 0 where it wasn't.
+    since: u64,
+    /// The door counts its worker among those that a peer holds.
+    is_counted: bool,
     /// The report of this stretch said that the peer sends no more, so that no other will come.
     has_no_more: bool,
     /// The last read left nothing.
@@ -42,19 +53,27 @@ pub struct TcpSource {
 impl TcpSource {
     ghost use Rattle.std.specs.Prelude.{◌≡◌, ◌≤◌, ◌↔◌, length, true, false, None, IfOk, IfSome};
 
-    /// A stretch that begins.
-    pub(crate) fn new(door: Arc<Door>, stream: Arc<TcpStream>, has_no_more: bool) -> Self
+    /// A stretch that begins, which the worker with this bit serves.
+    pub(crate) fn new(
+        door: Arc<Door>,
+        worker: u64,
+        stream: Arc<TcpStream>,
+        has_no_more: bool,
+    ) -> Self
         ensures no_faults { ⟦<TcpSource as Source>⟧.faults result ≡ 0 }
         ensures not_ended { ⟦<TcpSource as Source>⟧.ended result ≡ false }
         ensures does_not_rest { result.rests ≡ false }
     {
         TcpSource {
             door,
+            worker,
             stream,
             is_between: true,
             rests: false,
             ended: false,
             looks: 0,
+            since: 0,
+            is_counted: false,
             has_no_more,
             is_drained: false,
             pace: Pace::new(),
@@ -73,17 +92,81 @@ impl TcpSource {
     {
         let TcpSource {
             door,
+            worker,
             stream,
             is_between: _,
             rests,
             ended: _,
             looks: _,
+            since: _,
+            is_counted,
             has_no_more: _,
             is_drained: _,
             pace: _,
             faults,
         } = self;
+        if is_counted {
+            door.end_hold(worker);
+        }
         ((door, stream), rests && faults.is_none())
+    }
+
+    /// What comes next of a request that has begun; no bytes where its peer's time is over.
+    fn rest_of_request(&mut self, into: &mut [u8]) -> io::Result<usize>
+        ensures within { IfOk result (λ n. n ≤ length into.new) }
+        ensures is_between { self.new.is_between ≡ self.old.is_between }
+        ensures does_not_rest { self.new.rests ≡ self.old.rests }
+        ensures ended { self.new.ended ≡ self.old.ended }
+        ensures faults { self.new.faults ≡ self.old.faults }
+    {
+        if self.has_had_its_time() {
+            return Ok(0);
+        }
+        let n = read_in_time(&self.door, self.worker, &self.stream, &mut self.pace, into)?;
+        self.pace.note(n);
+        self.is_drained = n < into.len();
+        Ok(n)
+    }
+
+    /// For how many milliseconds it has lasted since the first call.
+    fn lasted(&mut self) -> u64
+        ensures is_between { self.new.is_between ≡ self.old.is_between }
+        ensures does_not_rest { self.new.rests ≡ self.old.rests }
+        ensures ended { self.new.ended ≡ self.old.ended }
+        ensures faults { self.new.faults ≡ self.old.faults }
+    {
+        let now = now_ms();
+        if self.since == 0 {
+            self.since = now;
+        }
+        now.saturating_sub(self.since)
+    }
+
+    /// Whether its peer has sent for too long without a moment between two requests, so that others have their turn.
+    fn has_had_its_time(&mut self) -> bool
+        ensures is_between { self.new.is_between ≡ self.old.is_between }
+        ensures does_not_rest { self.new.rests ≡ self.old.rests }
+        ensures ended { self.new.ended ≡ self.old.ended }
+        ensures faults { self.new.faults ≡ self.old.faults }
+    {
+        let ms = self.lasted();
+        if !self.is_counted && self.door.is_long(ms) {
+            self.is_counted = true;
+            self.door.begin_hold(self.worker);
+        }
+        self.door.is_too_long(ms)
+    }
+
+    /// Whether others have their turn before it is looked at once more between two requests.
+    fn has_had_its_turn(&mut self) -> bool
+        ensures is_between { self.new.is_between ≡ self.old.is_between }
+        ensures does_not_rest { self.new.rests ≡ self.old.rests }
+        ensures ended { self.new.ended ≡ self.old.ended }
+        ensures faults { self.new.faults ≡ self.old.faults }
+    {
+        let looks = self.looks;
+        self.looks = looks.saturating_add(1);
+        looks >= LOOKS_AT_ONCE || looks > 0 && self.lasted() >= MS_AT_ONCE
     }
 
     /// What comes next; `None` where the stretch ends between two requests.
@@ -96,15 +179,11 @@ impl TcpSource {
         ensures faults { self.new.faults ≡ self.old.faults }
     {
         if !self.is_between {
-            let n = read_in_time(&self.door, &self.stream, &mut self.pace, into)?;
-            self.pace.note(n);
-            self.is_drained = n < into.len();
-            return Ok(Some(n));
+            return Ok(Some(self.rest_of_request(into)?));
         }
-        if self.is_awaited() || self.looks >= LOOKS_AT_ONCE {
+        if self.is_awaited() || self.has_had_its_turn() {
             return Ok(None);
         }
-        self.looks = self.looks.saturating_add(1);
         let found = read_now(&self.stream, into)?;
         self.is_drained = found.is_none_or(|n| n < into.len());
         Ok(found)

@@ -10,8 +10,8 @@ use std::io;
 use std::net::{Net, TcpListener, TcpStream};
 use std::sync::Wait;
 use std::test::Fail;
-use std::thread::{Threads, join};
-use std::time::Clock;
+use std::thread::{Threads, join, sleep};
+use std::time::{Clock, Duration};
 
 const SAVE: &[u8] =
     b"POST /v1.0/state/statestore HTTP/1.1\r\nHost: a\r\nContent-Length: 23\r\n\r\n[{\"key\":\"k\",\"value\":1}]";
@@ -62,17 +62,34 @@ fn fifty_each<R: Net<Listener = TcpListener, Stream = TcpStream> + Clock>(
     Ok(answered)
 }
 
-/// The same, and then a shutdown.
-fn load(rt: &HostRuntime, _beside: &TcpDoor, port: u16) -> u32 {
+/// How many of four saves are answered of which the second half comes 300 milliseconds behind the first.
+fn in_halves<R: Net<Listener = TcpListener, Stream = TcpStream> + Clock>(
+    rt: &R,
+    alloc: Global,
+    port: u16,
+) -> io::Result<u32> {
+    let mut clients = crowd(rt, alloc, port, 4)?;
+    let (first, second) = SAVE.split_at(40);
+    all_send(&mut clients, first)?;
+    sleep(rt, Duration::from_millis(300));
+    all_send(&mut clients, second)?;
+    all_read(&mut clients, SAVED)
+}
+
+/// Both, and then a shutdown.
+fn load(rt: &HostRuntime, _beside: &TcpDoor, port: u16) -> (u32, u32) {
     let answered = fifty_each(rt, rt.alloc(), port);
+    let halves = in_halves(rt, rt.alloc(), port);
     match shut_down(rt, rt.alloc(), port) {
-        Ok(true) => answered.unwrap_or(0),
-        Ok(false) | Err(_) => 0,
+        Ok(true) => (answered.unwrap_or(0), halves.unwrap_or(0)),
+        Ok(false) | Err(_) => (0, 0),
     }
 }
 
 #[test]
-fn four_workers_answer_two_hundred_connections(rt: HostRuntime) -> Result<(), Fail> {
+fn four_workers_answer_two_hundred_connections_and_requests_in_halves(
+    rt: HostRuntime,
+) -> Result<(), Fail> {
     let port = free_port(&rt)?;
     let beside = TcpDoor::open(&rt, 0)?;
     let (is_done, answered) = join(
@@ -81,7 +98,7 @@ fn four_workers_answer_two_hundred_connections(rt: HostRuntime) -> Result<(), Fa
         || load(&rt, &beside, port),
     );
     assert!(rt; is_done);
-    assert_eq!(rt; answered, 10_000);
+    assert_eq!(rt; answered, (10_000, 4));
     Ok(())
 }
 

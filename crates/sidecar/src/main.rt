@@ -1,7 +1,8 @@
 //! The program: makes the real devices, runs the command that its words ask for, and ends with its status.
 #![tactic(auto)]
 
-use net_edge::{HostClock, HostFiles, HostOutside, NoLink, StdSink, StdSource};
+use host_devices::{HostClock, HostFiles, NoLink, StdSink, StdSource};
+use net_edge::HostOutside;
 use side_base::{NoMemory, Text};
 use side_world::Sink;
 use sidecar_cli::{Device, Status, World, sidecar_main};

@@ -6,7 +6,7 @@ use std::marker::Model;
 
 /// How often a device has failed. The count stops at 2^64 - 1. Contracts see it as that number.
 #[derive(Debug, Drop)]
-pub(crate) struct FaultCount {
+pub struct FaultCount {
     count: u64,
 }
 
@@ -20,21 +20,21 @@ impl Model for FaultCount {
 
 impl FaultCount {
     /// None so far.
-    pub(crate) fn none() -> Self
+    pub fn none() -> Self
         ensures { result ≡ 0 }
     {
         FaultCount { count: 0 }
     }
 
     /// Whether there was none.
-    pub(crate) fn is_none(&self) -> bool
+    pub fn is_none(&self) -> bool
         ensures { result ≡ (self.now == 0) }
     {
         self.count == 0
     }
 
     /// Counts one.
-    pub(crate) fn fail(&mut self) -> Failed
+    pub fn fail(&mut self) -> Failed
         ensures rose { Rose self.old self.new }
         ensures no_fewer { self.old ≤ self.new }
     {
@@ -43,7 +43,7 @@ impl FaultCount {
     }
 
     /// Counts one where what came back has failed.
-    pub(crate) fn count_back(&mut self, back: &FaultCount)
+    pub fn count_back(&mut self, back: &FaultCount)
         ensures rose { RoseWith back.now self.old self.new }
         ensures no_fewer { self.old ≤ self.new }
     {
@@ -53,7 +53,7 @@ impl FaultCount {
     }
 
     /// What a call of the host answered, whose error is counted.
-    pub(crate) fn counted<T, E: Drop>(&mut self, outcome: Result<T, E>) -> Result<T, Failed>
+    pub fn counted<T, E: Drop>(&mut self, outcome: Result<T, E>) -> Result<T, Failed>
         ensures same { IfOk result (λ x. outcome ≡ Ok x) }
         ensures error { OnErr result (IsErr outcome) }
         ensures no_fault { OnOk result (self.new ≡ self.old) }

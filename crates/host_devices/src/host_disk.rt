@@ -1,7 +1,7 @@
 ghost use Rattle.std.specs.Prelude.{◌≡◌, ◌≤◌, ◌+◌, None, IfOk, OnOk, OnErr, IsErr, true, length, max};
 ghost use Rattle.std.proofs.Common.{rules};
 ghost use Rattle.side_world.specs.Faults.{Rose};
-ghost use Rattle.net_edge.specs.HostDisk.{is_lost};
+ghost use Rattle.host_devices.specs.HostDisk.{is_lost};
 
 use crate::fault_count::FaultCount;
 use side_world::{Disk, Failed};
@@ -48,7 +48,7 @@ impl HostDisk {
     }
 
     /// How often it has failed.
-    pub(crate) fn faults(&self) -> &FaultCount
+    pub fn faults(&self) -> &FaultCount
         ensures { result.now ≡ ⟦<HostDisk as Disk>⟧.faults self.now }
     {
         &self.faults

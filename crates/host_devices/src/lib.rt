@@ -1,0 +1,22 @@
+//! The devices of the host: thin forms over std of what the other crates see of its files, its clock, its standard input and output,
+//! and of the programs that it reaches by HTTP. They tell no content.
+#![tactic(auto)]
+
+mod fault_count;
+mod host_clock;
+mod host_disk;
+mod host_files;
+mod no_link;
+mod std_sink;
+mod std_source;
+mod tcp_link;
+mod timed_stream;
+
+pub use fault_count::FaultCount;
+pub use host_clock::HostClock;
+pub use host_disk::HostDisk;
+pub use host_files::HostFiles;
+pub use no_link::NoLink;
+pub use std_sink::StdSink;
+pub use std_source::StdSource;
+pub use tcp_link::TcpLink;
