@@ -81,12 +81,16 @@ enum Admission {
 }
 
 impl Door {
+    ghost use Rattle.std.specs.Prelude.{◌≡◌, IfOk};
+
     /// A door at this port of 127.0.0.1.
     pub(crate) fn open<R: Net<Listener = TcpListener, Stream = TcpStream> + AllocGlobal>(
         rt: &R,
         port: u16,
         limits: DoorLimits,
-    ) -> io::Result<Self> {
+    ) -> io::Result<Self>
+        ensures { IfOk result (λ door. door.limits ≡ limits) }
+    {
         let listener = TcpListener::bind(rt, SocketAddrV4::new(Ipv4Addr::LOCALHOST, port))?;
         listener.set_nonblocking(true)?;
         libc::net::listen(listener.as_raw_fd(), BACKLOG);

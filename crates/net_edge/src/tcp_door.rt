@@ -25,7 +25,13 @@ impl TcpDoor {
     pub fn open<R: Net<Listener = TcpListener, Stream = TcpStream> + AllocGlobal>(
         rt: &R,
         port: u16,
-    ) -> io::Result<Self> {
+    ) -> io::Result<Self>
+        ensures idle { IfOk result (λ it. it.door.value.limits.idle_ms ≡ 60000) }
+        ensures crowded { IfOk result (λ it. it.door.value.limits.crowded_ms ≡ 1000) }
+        ensures patience { IfOk result (λ it. it.door.value.limits.patience_ms ≡ 30000) }
+        ensures pressed { IfOk result (λ it. it.door.value.limits.pressed_ms ≡ 100) }
+        ensures held { IfOk result (λ it. it.door.value.limits.held_ms ≡ 1000) }
+    {
         TcpDoor::open_within(rt, port, DoorLimits::standard())
     }
 
@@ -34,7 +40,9 @@ impl TcpDoor {
         rt: &R,
         port: u16,
         limits: DoorLimits,
-    ) -> io::Result<Self> {
+    ) -> io::Result<Self>
+        ensures { IfOk result (λ it. it.door.value.limits ≡ limits) }
+    {
         Ok(TcpDoor {
             door: Arc::new(rt.alloc(), Door::open(rt, port, limits)?)?,
         })
