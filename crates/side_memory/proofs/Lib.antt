@@ -1,5 +1,4 @@
 pub mod Backs
-pub mod Disks
 pub mod Lent
 pub mod Places
 pub mod Returned

@@ -4,7 +4,7 @@ use Rattle.std.specs.Prelude.{if◌then◌else◌, slice_index_or, option_map, b
 use Rattle.std.proofs.lemmas.Bool.{false_from_ne_true}
 use Rattle.std.proofs.lemmas.Slice.Eq.{bytes_eq-Decides}
 use Rattle.side_world.specs.Outside.{Disks, ChangesAt}
-use Rattle.side_memory.specs.MemoryDisk.{bytes_of}
+use Rattle.disk_memory.specs.MemoryDisk.{bytes_of}
 use Rattle.side_memory.specs.MemoryOutside.{part_at, held_at, IsPlaceOf, SameElsewhere}
 use Rattle.side_memory.specs.declared.disk_places.DiskPlace.{DiskPlace}
 

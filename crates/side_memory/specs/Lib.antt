@@ -1,11 +1,8 @@
-pub mod DiskNotes
 pub mod MemoryAcceptor
 pub mod MemoryClock
-pub mod MemoryDisk
 pub mod MemoryFiles
 pub mod MemoryLink
 pub mod MemoryOutside
 pub mod MemorySink
 pub mod MemorySource
-pub mod Plan
 pub mod Scripts

@@ -6,7 +6,7 @@ use Rattle.side_world.specs.declared.acceptor.Accepted.TheVariants as accepted
 use Rattle.side_memory.specs.declared.memory_acceptor.AcceptorAnswer.{AcceptorAnswer}
 use Rattle.side_memory.specs.declared.memory_acceptor.AcceptorAnswer.TheVariants as answer
 use Rattle.side_memory.specs.declared.memory_acceptor.Visit.{Visit}
-use Rattle.side_memory.specs.Plan.{Plan, begun}
+use Rattle.disk_memory.specs.Plan.{Plan, begun}
 use Rattle.side_memory.specs.MemorySource.{SourceState}
 use Rattle.side_memory.specs.MemorySink.{SinkState}
 use Rattle.side_memory.specs.declared.memory_acceptor.AcceptorNote.{AcceptorNote}

@@ -2,7 +2,7 @@
 use Rattle.std.specs.Prelude.{◌≡◌, ◌⊎◌, ◌&&◌, ℕ, Bool, true, false, if◌then◌else◌, List, [], ◌∷◌, bytes_eq, Option, Some, None}
 use Rattle.side_world.specs.declared.files.FilesCall.{FilesCall}
 use Rattle.side_world.specs.Files.{Folders, Held}
-use Rattle.side_memory.specs.Plan.{Plan, plan_in, FailsNext}
+use Rattle.disk_memory.specs.Plan.{Plan, plan_in, FailsNext}
 use Rattle.side_memory.specs.declared.memory_files.MemoryFile.{MemoryFile}
 use Rattle.side_memory.specs.declared.memory_files.MemoryFiles.{MemoryFiles}
 

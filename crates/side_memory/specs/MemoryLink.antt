@@ -5,7 +5,7 @@ use Rattle.side_world.specs.declared.link.LinkCall.{LinkCall}
 use Rattle.side_world.specs.declared.link.LinkErr.{LinkErr}
 use Rattle.side_world.specs.declared.link.LinkErr.TheVariants.{Failed, Expired, NoMemory}
 use Rattle.side_world.specs.Link.{IsReply}
-use Rattle.side_memory.specs.Plan.{Plan}
+use Rattle.disk_memory.specs.Plan.{Plan}
 
 pub record LinkState : Type 0 where
   -- the answers that are left

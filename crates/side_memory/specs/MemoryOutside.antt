@@ -3,11 +3,11 @@ use Rattle.std.specs.Prelude.{◌≡◌, ◌≢◌, ◌⊎◌, ◌<◌, ℕ, zer
 use Rattle.side_world.specs.declared.outside.WorkerParts.{WorkerParts}
 use Rattle.side_world.specs.declared.outside.OutsideCall.{OutsideCall}
 use Rattle.side_world.specs.Outside.{Disks, Backs, CameBack}
-use Rattle.side_memory.specs.Plan.{Plan, plan_in, FailsNext}
+use Rattle.disk_memory.specs.Plan.{Plan, plan_in, FailsNext}
 use Rattle.side_memory.specs.MemoryAcceptor.{AcceptorState, told_of}
 use Rattle.side_memory.specs.MemoryLink.{LinkState}
 use Rattle.side_memory.specs.MemoryClock.{ClockState}
-use Rattle.side_memory.specs.MemoryDisk.{bytes_of}
+use Rattle.disk_memory.specs.MemoryDisk.{bytes_of}
 use Rattle.side_memory.specs.declared.disk_places.DiskPlace.{DiskPlace}
 use Rattle.side_memory.specs.Scripts.{IsAt, IsBegun}
 use Rattle.side_memory.specs.declared.worker_script.WorkerScript.{WorkerScript}

@@ -1,6 +1,6 @@
 -- What contracts see of a sink in memory.
 use Rattle.std.specs.Prelude.{ℕ, List}
-use Rattle.side_memory.specs.Plan.{Plan}
+use Rattle.disk_memory.specs.Plan.{Plan}
 
 pub record SinkState : Type 0 where
   -- all bytes that were written

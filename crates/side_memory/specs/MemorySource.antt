@@ -1,6 +1,6 @@
 -- What contracts see of a source in memory.
 use Rattle.std.specs.Prelude.{ℕ, Bool, List}
-use Rattle.side_memory.specs.Plan.{Plan}
+use Rattle.disk_memory.specs.Plan.{Plan}
 
 pub record SourceState : Type 0 where
   -- all bytes that reads have given

@@ -1,7 +1,7 @@
 -- What is prepared for the workers of an outside in memory.
 use Rattle.std.specs.Prelude.{◌≡◌, ◌<◌, ℕ, List, [], length, slice_index_or, Option, Some, None}
 use Rattle.side_world.specs.declared.outside.WorkerParts.{WorkerParts}
-use Rattle.side_memory.specs.Plan.{begun}
+use Rattle.disk_memory.specs.Plan.{begun}
 use Rattle.side_memory.specs.MemoryAcceptor.{AcceptorState}
 use Rattle.side_memory.specs.MemoryLink.{LinkState}
 use Rattle.side_memory.specs.MemoryClock.{ClockState}

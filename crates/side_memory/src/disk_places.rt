@@ -1,10 +1,10 @@
 ghost use Rattle.std.specs.Prelude.{◌≡◌, None, Some, IfOk, OnOk, OnErr, option_map};
 ghost use Rattle.std.specs.Bool.{OnTrue, OnFalse};
 ghost use Rattle.side_world.specs.Outside.{bytes_or_none};
-ghost use Rattle.side_memory.specs.MemoryDisk.{bytes_of, IsOpened, IsToFail};
+ghost use Rattle.disk_memory.specs.MemoryDisk.{bytes_of, IsOpened, IsToFail};
 ghost use Rattle.side_memory.specs.MemoryOutside.{held_at, failing_at, IsPlaceOf, SameElsewhere};
 
-use crate::memory_disk::MemoryDisk;
+use disk_memory::MemoryDisk;
 use side_base::{Blob, NoMemory, Places};
 use std::alloc::Global;
 use std::mem;

@@ -1,12 +1,12 @@
 ghost use Rattle.std.specs.Prelude.{◌≡◌, [], Some, option_map};
 ghost use Rattle.side_world.specs.Answer.{answer_of};
 ghost use Rattle.side_memory.specs.MemoryAcceptor.{told_of};
-ghost use Rattle.side_memory.specs.Plan.{begun};
+ghost use Rattle.disk_memory.specs.Plan.{begun};
 
 use crate::memory_sink::MemorySink;
 use crate::memory_source::MemorySource;
 use crate::notes::Notes;
-use crate::schedule::{Schedule, Sizes};
+use disk_memory::{Schedule, Sizes};
 use side_base::{Blob, Places, Sequence};
 use side_world::{Accepted, Acceptor, Failed, Sink, Source};
 use std::alloc::Global;
@@ -64,7 +64,7 @@ pub struct MemoryAcceptor {
 
 impl Model for MemoryAcceptor {
     ghost use Rattle.side_memory.specs.MemoryAcceptor.{AcceptorState};
-    ghost use Rattle.side_memory.specs.Plan.{plan_in};
+    ghost use Rattle.disk_memory.specs.Plan.{plan_in};
 
     ghost Value = { AcceptorState };
 
@@ -103,7 +103,7 @@ impl MemoryAcceptor {
     ghost use Rattle.std.specs.Prelude.{◌≡◌, ◌≤◌, ◌↔◌};
     ghost use Rattle.side_world.specs.Answer.{CountsFault};
     ghost use Rattle.side_memory.specs.MemoryAcceptor.{StartsWith, IsFailed};
-    ghost use Rattle.side_memory.specs.Plan.{counted, FailsNext};
+    ghost use Rattle.disk_memory.specs.Plan.{counted, FailsNext};
 
     // Takes the next answer off the list, but where the call is to fail.
     fn answer(&mut self) -> Accepted<MemorySource, MemorySink>
@@ -146,7 +146,7 @@ impl Acceptor for MemoryAcceptor {
     ghost use Rattle.side_world.specs.Told.{Tells};
     ghost use Rattle.side_world.specs.Answer.{answer_of, IfConn, CountsFault, IsNew, ComesBack, Returns};
     ghost use Rattle.side_memory.specs.MemoryAcceptor.{told_of, StartsWith, IsFailed};
-    ghost use Rattle.side_memory.specs.Plan.{counted, FailsNext};
+    ghost use Rattle.disk_memory.specs.Plan.{counted, FailsNext};
 
     ghost told = { λ a. option_map (map told_of) a.notes };
 

@@ -2,7 +2,7 @@ ghost use Rattle.std.specs.Prelude.{option_map};
 
 use crate::file_search::{copied, find, is_there, listing, read_note};
 use crate::notes::Notes;
-use crate::schedule::{Schedule, Sizes};
+use disk_memory::{Schedule, Sizes};
 use side_base::{Blob, Names, NoMemory, Places, Text};
 use side_world::{Failed, Files, FilesCall, FilesErr};
 use std::alloc::Global;
@@ -29,7 +29,7 @@ pub struct MemoryFiles {
 impl MemoryFiles {
     ghost use Rattle.std.specs.Prelude.{◌≡◌, [], ◌∷◌, ◌++◌, ℕ, List, Some, None, OnOk, OnErr};
     ghost use Rattle.side_memory.specs.MemoryFiles.{files_of, with_file, folders_of, calls_of, faults_of, plan_of};
-    ghost use Rattle.side_memory.specs.Plan.{begun};
+    ghost use Rattle.disk_memory.specs.Plan.{begun};
 
     /// No folders; `failing` are the calls that fail, counted from 0 over all calls.
     pub fn new(alloc: Global, failing: Places) -> Self
@@ -92,7 +92,7 @@ impl MemoryFiles {
     ghost use Rattle.side_world.specs.Files.{IsListing, ListsAll, HasBytes, HasLength, CountsFault};
     ghost use Rattle.side_world.specs.declared.files.FilesErr.TheVariants as refused;
     ghost use Rattle.side_memory.specs.MemoryFiles.{told_of, calls_of, faults_of, plan_of, ListFails, ReadFails};
-    ghost use Rattle.side_memory.specs.Plan.{counted};
+    ghost use Rattle.disk_memory.specs.Plan.{counted};
 
     // Lists a folder, and counts a fault where the call is to fail or the folder isn't there.
     fn listed(&mut self, folder: &[u8]) -> Result<Names, FilesErr>
@@ -156,7 +156,7 @@ impl Files for MemoryFiles {
     ghost use Rattle.side_world.specs.declared.files.FilesErr.TheVariants as refused;
     ghost use Rattle.side_world.specs.declared.files.FilesCall.TheVariants as call;
     ghost use Rattle.side_memory.specs.MemoryFiles.{told_of, calls_of, faults_of, plan_of, ListFails, ReadFails};
-    ghost use Rattle.side_memory.specs.Plan.{counted};
+    ghost use Rattle.disk_memory.specs.Plan.{counted};
 
     ghost folders = { λ f. Some (told_of f) };
 

@@ -1,10 +1,10 @@
 ghost use Rattle.std.specs.Prelude.{◌≡◌, ◌≤◌, [], Some, IfOk, IsTrue, ◌↔◌, option_map};
 ghost use Rattle.side_world.specs.Link.{IsReply, CountsFault, CountsExpiry};
-ghost use Rattle.side_memory.specs.Plan.{begun};
+ghost use Rattle.disk_memory.specs.Plan.{begun};
 
 use crate::copying::{copy_request, copy_response};
 use crate::notes::Notes;
-use crate::schedule::{Schedule, Sizes};
+use disk_memory::{Schedule, Sizes};
 use side_base::{LinkRequest, NoMemory, Places, Response, Sequence};
 use side_world::{Failed, Link, LinkCall, LinkErr};
 use std::alloc::Global;
@@ -28,7 +28,7 @@ pub struct MemoryLink {
 
 impl Model for MemoryLink {
     ghost use Rattle.side_memory.specs.MemoryLink.{LinkState};
-    ghost use Rattle.side_memory.specs.Plan.{plan_in};
+    ghost use Rattle.disk_memory.specs.Plan.{plan_in};
 
     ghost Value = { LinkState };
 
@@ -61,7 +61,7 @@ impl MemoryLink {
     ghost use Rattle.std.specs.Prelude.{◌≡◌, ◌≤◌, IfOk, IsErrOf};
     ghost use Rattle.side_world.specs.declared.link.LinkErr.TheVariants as refused;
     ghost use Rattle.side_memory.specs.MemoryLink.{StartsWith};
-    ghost use Rattle.side_memory.specs.Plan.{counted, FailsNext};
+    ghost use Rattle.disk_memory.specs.Plan.{counted, FailsNext};
 
     // Takes the next answer off the list, and counts what it is; where the call is to fail, the list stays.
     fn answer(&mut self) -> Result<Response, LinkErr>
@@ -100,7 +100,7 @@ impl Link for MemoryLink {
     ghost use Rattle.side_world.specs.Link.{IsReply, CountsFault, CountsExpiry};
     ghost use Rattle.side_world.specs.declared.link.LinkErr.TheVariants as refused;
     ghost use Rattle.side_memory.specs.MemoryLink.{StartsWith};
-    ghost use Rattle.side_memory.specs.Plan.{counted, FailsNext};
+    ghost use Rattle.disk_memory.specs.Plan.{counted, FailsNext};
 
     ghost calls = { λ l. l.calls };
 

@@ -4,12 +4,11 @@ ghost use Rattle.side_memory.specs.MemoryOutside.{first_number};
 use crate::disk_places::{DiskPlace, give, place_of, put, take};
 use crate::memory_acceptor::MemoryAcceptor;
 use crate::memory_clock::MemoryClock;
-use crate::memory_disk::MemoryDisk;
 use crate::memory_link::MemoryLink;
 use crate::notes::Notes;
-use crate::schedule::{Schedule, Sizes};
 use crate::worker_backs::{back_at, keep_back};
 use crate::worker_script::{MemoryParts, WorkerScript, take_script};
+use disk_memory::{MemoryDisk, Schedule, Sizes};
 use side_base::{Blob, NoMemory, Places, Sequence};
 use side_world::{Acceptor, Disk, Failed, Link, Outside, OutsideCall};
 use std::alloc::Global;
@@ -36,9 +35,9 @@ pub struct MemoryOutside {
 impl MemoryOutside {
     ghost use Rattle.std.specs.Prelude.{◌≡◌, ◌≤◌, [], ◌∷◌, ◌++◌, ℕ, None, Some, OnOk, OnErr, option_map};
     ghost use Rattle.side_world.specs.Outside.{ChangesAt};
-    ghost use Rattle.side_memory.specs.MemoryDisk.{bytes_of};
+    ghost use Rattle.disk_memory.specs.MemoryDisk.{bytes_of};
     ghost use Rattle.side_memory.specs.MemoryOutside.{disks_of, held_of, failing_of, backs_of, back_of, scripts_of, parts_told, calls_of, faults_of, plan_of, numbers_of, IsUnused};
-    ghost use Rattle.side_memory.specs.Plan.{begun};
+    ghost use Rattle.disk_memory.specs.Plan.{begun};
 
     /// An outside without disks and workers, which answers these numbers; `failing` are the calls of `take_disk` and `worker` that
     /// fail, counted from 0 over both.
@@ -116,9 +115,9 @@ impl MemoryOutside {
     ghost use Rattle.std.specs.Prelude.{◌≡◌, ◌≤◌, ◌↔◌, set, None, IfOk, OnOk, OnErr, IsErr};
     ghost use Rattle.side_world.specs.Faults.{Rose};
     ghost use Rattle.side_world.specs.Outside.{IsTaken, IsNewDisk, AreNew};
-    ghost use Rattle.side_memory.specs.MemoryDisk.{IsToFail};
+    ghost use Rattle.disk_memory.specs.MemoryDisk.{IsToFail};
     ghost use Rattle.side_memory.specs.MemoryOutside.{disks_of, failing_of, backs_of, scripts_of, BeginsAs, calls_of, given_of, faults_of, plan_of, numbers_of, WorkerFails};
-    ghost use Rattle.side_memory.specs.Plan.{counted, FailsNext};
+    ghost use Rattle.disk_memory.specs.Plan.{counted, FailsNext};
 
     // Takes a disk, and counts a fault where the call is to fail, or there is no memory.
     fn open_disk(&mut self, path: &[u8]) -> Result<MemoryDisk, Failed>
@@ -189,9 +188,9 @@ impl Outside for MemoryOutside {
     ghost use Rattle.side_world.specs.Told.{Tells};
     ghost use Rattle.side_world.specs.Outside.{IsNewDisk, IsTaken, IsGiven, AreNew, IsBack};
     ghost use Rattle.side_world.specs.declared.outside.OutsideCall.TheVariants as call;
-    ghost use Rattle.side_memory.specs.MemoryDisk.{IsToFail};
+    ghost use Rattle.disk_memory.specs.MemoryDisk.{faults_of as disk_faults, IsToFail};
     ghost use Rattle.side_memory.specs.MemoryOutside.{disks_of, failing_of, backs_of, calls_of, given_of, faults_of, scripts_of, BeginsAs, plan_of, numbers_of, first_number, WorkerFails};
-    ghost use Rattle.side_memory.specs.Plan.{counted, FailsNext};
+    ghost use Rattle.disk_memory.specs.Plan.{counted, FailsNext};
 
     ghost disks = { disks_of };
 
@@ -234,7 +233,7 @@ impl Outside for MemoryOutside {
         ensures calls { calls_of self.new ≡ calls_of self.old }
         ensures backs { backs_of self.new ≡ backs_of self.old }
         ensures numbers { given_of self.new ≡ given_of self.old }
-        ensures faults { RoseWith disk.schedule.faults (faults_of self.old) (faults_of self.new) }
+        ensures faults { RoseWith (disk_faults disk) (faults_of self.old) (faults_of self.new) }
         ensures no_fewer { faults_of self.old ≤ faults_of self.new }
         ensures scripts { scripts_of self.new ≡ scripts_of self.old }
         ensures left { numbers_of self.new ≡ numbers_of self.old }

@@ -1,7 +1,7 @@
 ghost use Rattle.std.specs.Prelude.{◌≡◌, [], Some, IfOk};
-ghost use Rattle.side_memory.specs.Plan.{begun};
+ghost use Rattle.disk_memory.specs.Plan.{begun};
 
-use crate::schedule::{Schedule, Sizes};
+use disk_memory::{Schedule, Sizes};
 use side_base::{Blob, NoMemory, Places};
 use side_world::{Failed, Sink};
 use std::alloc::Global;
@@ -18,7 +18,7 @@ pub struct MemorySink {
 
 impl Model for MemorySink {
     ghost use Rattle.side_memory.specs.MemorySink.{SinkState};
-    ghost use Rattle.side_memory.specs.Plan.{plan_in};
+    ghost use Rattle.disk_memory.specs.Plan.{plan_in};
 
     ghost Value = { SinkState };
 
@@ -65,7 +65,7 @@ impl Sink for MemorySink {
     ghost use Rattle.std.specs.Prelude.{◌≡◌, ◌<◌, ◌≤◌, Some, length, take, IfOk, OnOk, OnErr, IsErr};
     ghost use Rattle.side_world.specs.Faults.{Rose};
     ghost use Rattle.side_world.specs.Told.{Told};
-    ghost use Rattle.side_memory.specs.Plan.{counted, FailsNext};
+    ghost use Rattle.disk_memory.specs.Plan.{counted, FailsNext};
 
     ghost contents = { λ s. Some s.contents };
 

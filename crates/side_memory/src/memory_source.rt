@@ -1,7 +1,7 @@
 ghost use Rattle.std.specs.Prelude.{◌≡◌, [], false, Some};
-ghost use Rattle.side_memory.specs.Plan.{begun};
+ghost use Rattle.disk_memory.specs.Plan.{begun};
 
-use crate::schedule::{Schedule, Sizes};
+use disk_memory::{Schedule, Sizes};
 use side_base::{Blob, Places};
 use side_world::{BytesSource, Failed, Source};
 use std::marker::Model;
@@ -17,7 +17,7 @@ pub struct MemorySource {
 
 impl Model for MemorySource {
     ghost use Rattle.side_memory.specs.MemorySource.{SourceState};
-    ghost use Rattle.side_memory.specs.Plan.{plan_in};
+    ghost use Rattle.disk_memory.specs.Plan.{plan_in};
 
     ghost Value = { SourceState };
 
@@ -40,7 +40,7 @@ impl Source for MemorySource {
     ghost use Rattle.std.specs.Prelude.{◌≡◌, ◌<◌, ◌≤◌, ◌↔◌, ◌||◌, ◌==◌, Some, length, take, IfOk, OnOk, OnErr, IsErr};
     ghost use Rattle.side_world.specs.Faults.{Rose};
     ghost use Rattle.side_world.specs.Told.{Told, Took, EndsWhereTold};
-    ghost use Rattle.side_memory.specs.Plan.{counted, FailsNext};
+    ghost use Rattle.disk_memory.specs.Plan.{counted, FailsNext};
 
     ghost left = { λ s. Some s.left };
 

@@ -1,6 +1,6 @@
 ghost use Rattle.std.specs.Prelude.{◌≡◌, [], Some, None, IfSome, IfNone, OnSome, set};
 ghost use Rattle.side_memory.specs.MemoryOutside.{IsMissing};
-ghost use Rattle.side_memory.specs.Plan.{begun};
+ghost use Rattle.disk_memory.specs.Plan.{begun};
 ghost use Rattle.side_memory.specs.Scripts.{IsAt};
 
 use crate::memory_acceptor::{AcceptorAnswers, MemoryAcceptor};

@@ -1,7 +1,7 @@
 use Rattle.std.proofs.Common.{rules, None, [], ap, subst, sym, ◌∙◌, Option, List, ℕ}
 use Rattle.side_world.specs.Outside.{bytes_or_none}
 use Rattle.std.specs.Prelude.{option_map}
-use Rattle.side_memory.specs.MemoryDisk.{IsOpened, IsToFail, bytes_of}
+use Rattle.disk_memory.specs.MemoryDisk.{IsOpened, IsToFail, bytes_of}
 use Rattle.side_memory.specs.declared.disk_places.DiskPlace.{DiskPlace}
 use Rattle.side_memory.proofs.Places.{held_in, failing_in, lent_changed, lent_added}
 use Rattle.side_memory.proofs.disk_places.take.Goals as goal

@@ -1,6 +1,6 @@
 use Rattle.std.proofs.Common.{sym, ⊎_elim, true≢false}
 use Rattle.side_memory.specs.MemoryOutside.{scripts_of, plan_of, IsMissing}
-use Rattle.side_memory.specs.Plan.{FailsNext}
+use Rattle.disk_memory.specs.Plan.{FailsNext}
 use Rattle.side_memory.proofs.memory_outside.MemoryOutside.begin_worker.Goals as goal
 
 pub returns-in-Some-clause-listed : goal.returns-in-Some-clause-listed

@@ -1,6 +1,6 @@
 use Rattle.std.proofs.Common.{List, Some, None, ap, sym, subst, ◌∙◌}
 use Rattle.std.specs.Prelude.{option_map}
-use Rattle.side_memory.specs.MemoryDisk.{bytes_of}
+use Rattle.disk_memory.specs.MemoryDisk.{bytes_of}
 use Rattle.side_memory.specs.MemoryOutside.{IsPlaceOf}
 use Rattle.side_memory.specs.declared.disk_places.DiskPlace.{DiskPlace}
 use Rattle.side_memory.proofs.Lent.{lent_option}

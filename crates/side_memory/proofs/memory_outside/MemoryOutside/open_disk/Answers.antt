@@ -1,7 +1,7 @@
 use Rattle.std.proofs.Common.{◌≡◌, ℕ, List, length, Option, Some, None, ap, sym, ◌∙◌}
 use Rattle.std.specs.Prelude.{unwrap_or}
 use Rattle.side_world.specs.Outside.{bytes_or_none}
-use Rattle.side_memory.specs.MemoryDisk.{bytes_of}
+use Rattle.disk_memory.specs.MemoryDisk.{bytes_of}
 use Rattle.side_memory.proofs.Places.{changes_at}
 use Rattle.side_memory.proofs.memory_outside.MemoryOutside.open_disk.Goals as goal
 

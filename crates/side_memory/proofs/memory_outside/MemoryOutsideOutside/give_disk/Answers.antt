@@ -1,5 +1,5 @@
 use Rattle.std.proofs.Common.{◌≡◌, ℕ, List, Some, refl}
-use Rattle.side_memory.specs.MemoryDisk.{bytes_of}
+use Rattle.disk_memory.specs.MemoryDisk.{bytes_of}
 use Rattle.side_memory.proofs.Places.{changes_at}
 use Rattle.side_memory.proofs.memory_outside.MemoryOutsideOutside.give_disk.Goals as goal
 

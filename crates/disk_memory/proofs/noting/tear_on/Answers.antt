@@ -1,8 +1,8 @@
 use Rattle.std.proofs.Common.{subst, sym, ◌∙◌, length, ap, arith, ◌≤◌}
 use Rattle.side_world.specs.Disk.{Torn}
-use Rattle.side_memory.proofs.Disks.{part_is_torn, nothing_is_torn}
-use Rattle.side_memory.proofs.noting.tear_on.Goals.{then-at-len+in_ok-torn+in_ok-overwrite, else-at-len}
-use Rattle.side_memory.proofs.noting.tear_on.Goals as goal
+use Rattle.disk_memory.proofs.Disks.{part_is_torn, nothing_is_torn}
+use Rattle.disk_memory.proofs.noting.tear_on.Goals.{then-at-len+in_ok-torn+in_ok-overwrite, else-at-len}
+use Rattle.disk_memory.proofs.noting.tear_on.Goals as goal
 
 pub returns : goal.returns
 returns c = elim c.if-at-len.branch [

@@ -1,5 +1,5 @@
 use Rattle.std.proofs.Common.{◌≡◌, ◌<◌, ℕ, get_or}
-use Rattle.side_memory.proofs.schedule.is_listed.Given as goal
+use Rattle.disk_memory.proofs.schedule.is_listed.Given as goal
 
 -- no place so far is the call
 abbrev pub invariant-loop-i : goal.invariant-loop-i

@@ -1,7 +1,7 @@
 use Rattle.std.proofs.Common.{sym, ◌∙◌}
 use Rattle.std.specs.Result.{is_ok}
-use Rattle.side_memory.proofs.Disks.{held_either, fit_either}
-use Rattle.side_memory.proofs.memory_disk.MemoryDisk.note.Goals as goal
+use Rattle.disk_memory.proofs.Disks.{held_either, fit_either}
+use Rattle.disk_memory.proofs.memory_disk.MemoryDisk.note.Goals as goal
 
 pub invariant_of-self : goal.invariant_of-self
 invariant_of-self c =

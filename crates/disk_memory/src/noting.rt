@@ -1,6 +1,6 @@
 ghost use Rattle.std.specs.Prelude.{◌≡◌, ◌≤◌, ◌++◌, [], ◌∷◌, length, OnOk, OnErr};
 ghost use Rattle.side_world.specs.Disk.{overwritten, Torn};
-ghost use Rattle.side_memory.specs.declared.note.Note.TheVariants.{Written};
+ghost use Rattle.disk_memory.specs.declared.note.Note.TheVariants.{Written};
 
 use crate::note::Note;
 use crate::overwriting::{Tear, overwrite, torn_piece};

@@ -1,5 +1,5 @@
 ghost use Rattle.std.specs.Prelude.{◌≡◌, reverse};
-ghost use Rattle.side_memory.specs.DiskNotes.{held, Fit};
+ghost use Rattle.disk_memory.specs.DiskNotes.{held, Fit};
 
 use crate::note::Note;
 use crate::noting::{tear_on, write};
@@ -27,9 +27,9 @@ pub struct MemoryDisk {
 
 impl MemoryDisk {
     ghost use Rattle.std.specs.Prelude.{◌≡◌, ◌≤◌, length, reverse, take, IfOk};
-    ghost use Rattle.side_memory.specs.DiskNotes.{MayLeave};
-    ghost use Rattle.side_memory.specs.MemoryDisk.{opening_of, notes_of, bytes_of, faults_of, plan_of, HasNotedNothing, IsOpened};
-    ghost use Rattle.side_memory.specs.Plan.{begun};
+    ghost use Rattle.disk_memory.specs.DiskNotes.{MayLeave};
+    ghost use Rattle.disk_memory.specs.MemoryDisk.{opening_of, notes_of, bytes_of, faults_of, plan_of, HasNotedNothing, IsOpened};
+    ghost use Rattle.disk_memory.specs.Plan.{begun};
 
     /// A disk of `bytes`, all of them on it; `failing` are the calls that fail, counted from 0 over all calls.
     pub fn new(alloc: Global, bytes: &[u8], failing: Places) -> Result<Self, AllocError>
@@ -46,7 +46,7 @@ impl MemoryDisk {
     }
 
     /// The calls that fail from now on, counted from 0.
-    pub(crate) fn fail_at(&mut self, failing: Places)
+    pub fn fail_at(&mut self, failing: Places)
         ensures notes { HasNotedNothing self.old self.new }
         ensures bytes { bytes_of self.new ≡ bytes_of self.old }
         ensures faults { faults_of self.new ≡ faults_of self.old }
@@ -109,9 +109,9 @@ impl MemoryDisk {
 impl MemoryDisk {
     ghost use Rattle.std.specs.Prelude.{◌≡◌, ◌≤◌, ◌⊎◌, length, OnOk, OnErr};
     ghost use Rattle.side_world.specs.Faults.{Rose};
-    ghost use Rattle.side_memory.specs.DiskNotes.{ChangesNoByte};
-    ghost use Rattle.side_memory.specs.MemoryDisk.{bytes_of, faults_of, plan_of, HasNoted, HasNotedNothing};
-    ghost use Rattle.side_memory.specs.declared.note.Note.TheVariants.{Written, Lost};
+    ghost use Rattle.disk_memory.specs.DiskNotes.{ChangesNoByte};
+    ghost use Rattle.disk_memory.specs.MemoryDisk.{bytes_of, faults_of, plan_of, HasNoted, HasNotedNothing};
+    ghost use Rattle.disk_memory.specs.declared.note.Note.TheVariants.{Written, Lost};
 
     // Writes, and notes it; a fault where there is no memory for the note.
     fn write(&mut self, at: usize, piece: &[u8]) -> Result<(), Failed>
@@ -162,11 +162,11 @@ impl Disk for MemoryDisk {
     ghost use Rattle.std.specs.Prelude.{◌≡◌, ◌≤◌, ◌+◌, ◌↔◌, max, length, take, drop, Some, None, List, ℕ, IfOk, OnOk, OnErr, IsErr};
     ghost use Rattle.std.proofs.Common.{inl, ◌∙◌};
     ghost use Rattle.side_world.specs.Faults.{Rose};
-    ghost use Rattle.side_world.specs.Disk.{overwritten, Torn, Becomes, ComesOf, NoNew, LeavesOnly, GoesOn};
-    ghost use Rattle.side_memory.specs.DiskNotes.{MayLeave, MayHaveLeft, same_length, same_bytes, counts_now, only_now};
-    ghost use Rattle.side_memory.specs.MemoryDisk.{opening_of, notes_of, bytes_of, faults_of, plan_of, FailsNow, HasNoted, HasNotedNothing, HasLost};
-    ghost use Rattle.side_memory.specs.Plan.{counted};
-    ghost use Rattle.side_memory.specs.declared.note.Note.TheVariants.{Written, Synced};
+    ghost use Rattle.side_world.specs.Disk.{overwritten, Torn, Becomes, ComesOf, NoNew, LeavesOnly};
+    ghost use Rattle.disk_memory.specs.DiskNotes.{MayLeave, MayHaveLeft, same_length, same_bytes, counts_now, only_now};
+    ghost use Rattle.disk_memory.specs.MemoryDisk.{opening_of, notes_of, bytes_of, faults_of, plan_of, FailsNow, HasNoted, HasNotedNothing, HasLost, HasGoneOn};
+    ghost use Rattle.disk_memory.specs.Plan.{counted};
+    ghost use Rattle.disk_memory.specs.declared.note.Note.TheVariants.{Written, Synced};
 
     ghost contents = { λ d. Some (bytes_of d) };
 
@@ -186,7 +186,7 @@ impl Disk for MemoryDisk {
         ensures contents { Some (bytes_of self.new) ≡ Some (bytes_of self.old) }
         ensures size { length (bytes_of self.new) ≡ length (bytes_of self.old) }
         ensures crash { NoNew (MayLeave (opening_of self.old) (notes_of self.old)) (MayLeave (opening_of self.new) (notes_of self.new)) }
-        ensures time { GoesOn (length (notes_of self.old)) (length (notes_of self.new)) (MayHaveLeft (opening_of self.old) (notes_of self.old)) (MayHaveLeft (opening_of self.new) (notes_of self.new)) (MayLeave (opening_of self.new) (notes_of self.new)) }
+        ensures time { HasGoneOn self.old self.new }
         ensures no_fault { OnOk result (faults_of self.new ≡ faults_of self.old) }
         ensures failed { OnErr result (Rose (faults_of self.old) (faults_of self.new)) }
         ensures no_fewer { faults_of self.old ≤ faults_of self.new }
@@ -206,7 +206,7 @@ impl Disk for MemoryDisk {
         ensures contents { Some (bytes_of self.new) ≡ Some (bytes_of self.old) }
         ensures size { length (bytes_of self.new) ≡ length (bytes_of self.old) }
         ensures crash { NoNew (MayLeave (opening_of self.old) (notes_of self.old)) (MayLeave (opening_of self.new) (notes_of self.new)) }
-        ensures time { GoesOn (length (notes_of self.old)) (length (notes_of self.new)) (MayHaveLeft (opening_of self.old) (notes_of self.old)) (MayHaveLeft (opening_of self.new) (notes_of self.new)) (MayLeave (opening_of self.new) (notes_of self.new)) }
+        ensures time { HasGoneOn self.old self.new }
         ensures no_fault { OnOk result (faults_of self.new ≡ faults_of self.old) }
         ensures failed { OnErr result (Rose (faults_of self.old) (faults_of self.new)) }
         ensures no_fewer { faults_of self.old ≤ faults_of self.new }
@@ -231,7 +231,7 @@ impl Disk for MemoryDisk {
         ensures no_shorter { length (bytes_of self.old) ≤ length (bytes_of self.new) }
         ensures no_longer { length (bytes_of self.new) ≤ max (length (bytes_of self.old)) (at + length piece.now) }
         ensures crash { ComesOf (Torn at (length piece.now)) (MayLeave (opening_of self.old) (notes_of self.old)) (MayLeave (opening_of self.new) (notes_of self.new)) }
-        ensures time { GoesOn (length (notes_of self.old)) (length (notes_of self.new)) (MayHaveLeft (opening_of self.old) (notes_of self.old)) (MayHaveLeft (opening_of self.new) (notes_of self.new)) (MayLeave (opening_of self.new) (notes_of self.new)) }
+        ensures time { HasGoneOn self.old self.new }
         ensures no_fault { OnOk result (faults_of self.new ≡ faults_of self.old) }
         ensures failed { OnErr result (Rose (faults_of self.old) (faults_of self.new)) }
         ensures no_fewer { faults_of self.old ≤ faults_of self.new }
@@ -255,7 +255,7 @@ impl Disk for MemoryDisk {
         ensures contents { Some (bytes_of self.new) ≡ Some (bytes_of self.old) }
         ensures size { length (bytes_of self.new) ≡ length (bytes_of self.old) }
         ensures crash { NoNew (MayLeave (opening_of self.old) (notes_of self.old)) (MayLeave (opening_of self.new) (notes_of self.new)) }
-        ensures time { GoesOn (length (notes_of self.old)) (length (notes_of self.new)) (MayHaveLeft (opening_of self.old) (notes_of self.old)) (MayHaveLeft (opening_of self.new) (notes_of self.new)) (MayLeave (opening_of self.new) (notes_of self.new)) }
+        ensures time { HasGoneOn self.old self.new }
         ensures no_fault { OnOk result (faults_of self.new ≡ faults_of self.old) }
         ensures failed { OnErr result (Rose (faults_of self.old) (faults_of self.new)) }
         ensures no_fewer { faults_of self.old ≤ faults_of self.new }

@@ -3,8 +3,8 @@ use Rattle.std.specs.Prelude.{◌≡◌, ◌⊎◌, ◌≤◌, ℕ, List, [], �
 use Rattle.std.proofs.Common.{inl, inr, ap, sym}
 use Rattle.std.proofs.Math.Nat.{not-suc-le_self}
 use Rattle.side_world.specs.Disk.{overwritten, Torn}
-use Rattle.side_memory.specs.declared.note.Note.{Note}
-use Rattle.side_memory.specs.declared.note.Note.TheVariants.{Written, Lost, Synced}
+use Rattle.disk_memory.specs.declared.note.Note.{Note}
+use Rattle.disk_memory.specs.declared.note.Note.TheVariants.{Written, Lost, Synced}
 
 -- what a read gives after these
 abbrev pub held : List ℕ → List Note → List ℕ

@@ -5,11 +5,11 @@ use Rattle.std.proofs.lemmas.Slice.{drop-append-drop}
 use Rattle.std.specs.Prelude.{reverse, get_or, if◌then◌else◌, Bool, true, false, ◌<◌}
 use Rattle.std.proofs.Common.{Result, Ok, Err, OnOk, OnErr}
 use Rattle.side_world.specs.Disk.{overwritten, Torn}
-use Rattle.side_memory.specs.MemoryDisk.{opening_of, notes_of, bytes_of, HasNoted, HasNotedNothing}
-use Rattle.side_memory.specs.declared.memory_disk.MemoryDisk.{MemoryDisk}
-use Rattle.side_memory.specs.DiskNotes.{held, AllTorn, MayLeave, Fit, ChangesNoByte}
-use Rattle.side_memory.specs.declared.note.Note.{Note}
-use Rattle.side_memory.specs.declared.note.Note.TheVariants.{Written, Lost, Synced}
+use Rattle.disk_memory.specs.MemoryDisk.{opening_of, notes_of, bytes_of, HasNoted, HasNotedNothing}
+use Rattle.disk_memory.specs.declared.memory_disk.MemoryDisk.{MemoryDisk}
+use Rattle.disk_memory.specs.DiskNotes.{held, AllTorn, MayLeave, Fit, ChangesNoByte}
+use Rattle.disk_memory.specs.declared.note.Note.{Note}
+use Rattle.disk_memory.specs.declared.note.Note.TheVariants.{Written, Lost, Synced}
 
 -- how long contents are after a write
 pub length-overwritten : (at : ℕ) (piece contents : List ℕ) → at ≤ length contents → length (overwritten at piece contents) ≡ max (length contents) (at + length piece)

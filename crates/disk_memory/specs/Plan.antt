@@ -1,6 +1,6 @@
--- What contracts see of which calls of a device in memory are to fail.
-use Rattle.std.specs.Prelude.{ℕ, ◌+◌, ◌-◌, ◌^◌, min, List, Contains}
-use Rattle.side_memory.specs.declared.schedule.Schedule.{Schedule}
+-- What contracts see of which calls of a device in memory are to fail, and how many bytes the others move.
+use Rattle.std.specs.Prelude.{ℕ, ◌+◌, ◌-◌, ◌^◌, min, max, List, [], ◌∷◌, Contains}
+use Rattle.disk_memory.specs.declared.schedule.Schedule.{Schedule}
 
 pub record Plan : Type 0 where
   -- the calls that are to fail, counted from 0
@@ -22,3 +22,8 @@ counted plan = record { failing = plan.failing; made = min (plan.made + 1) (2 ^ 
 
 abbrev pub plan_in : Schedule → Plan
 plan_in schedule = record { failing = schedule.failing; made = schedule.calls }
+
+-- how many of the possible bytes a call moves that does not fail: at most the first of these sizes, where 0 counts as 1, and all behind their end
+abbrev pub moved : List ℕ → ℕ → ℕ
+moved [] possible = possible
+moved (size ∷ sizes) possible = min (max size 1) possible

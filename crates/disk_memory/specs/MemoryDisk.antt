@@ -1,9 +1,11 @@
 -- What contracts say of a disk in memory.
-use Rattle.std.specs.Prelude.{◌≡◌, ◌⊎◌, ℕ, List, [], ◌∷◌, reverse}
-use Rattle.side_memory.specs.Plan.{Plan, begun, plan_in, FailsNext}
-use Rattle.side_memory.specs.declared.memory_disk.MemoryDisk.{MemoryDisk}
-use Rattle.side_memory.specs.declared.note.Note.{Note}
-use Rattle.side_memory.specs.declared.note.Note.TheVariants.{Lost}
+use Rattle.std.specs.Prelude.{◌≡◌, ◌⊎◌, ℕ, List, [], ◌∷◌, length, reverse}
+use Rattle.side_world.specs.Disk.{GoesOn}
+use Rattle.disk_memory.specs.DiskNotes.{MayLeave, MayHaveLeft}
+use Rattle.disk_memory.specs.Plan.{Plan, begun, plan_in, FailsNext}
+use Rattle.disk_memory.specs.declared.memory_disk.MemoryDisk.{MemoryDisk}
+use Rattle.disk_memory.specs.declared.note.Note.{Note}
+use Rattle.disk_memory.specs.declared.note.Note.TheVariants.{Lost}
 
 -- the bytes that it was made with
 abbrev pub opening_of : MemoryDisk → List ℕ
@@ -33,6 +35,11 @@ pub record HasNotedNothing (old new : MemoryDisk) : Type 0 where
 -- a write that failed is noted as lost, or, where there is no memory for the note, not at all
 abbrev pub HasLost : ℕ → List ℕ → MemoryDisk → MemoryDisk → Type 0
 HasLost at piece old new = HasNoted (Lost at piece) old new ⊎ HasNotedNothing old new
+
+-- time has gone on: what a crash since a moment may have left it might have left before, or it may leave it now
+abbrev pub HasGoneOn : MemoryDisk → MemoryDisk → Type 0
+HasGoneOn old new =
+    GoesOn (length (notes_of old)) (length (notes_of new)) (MayHaveLeft (opening_of old) (notes_of old)) (MayHaveLeft (opening_of new) (notes_of new)) (MayLeave (opening_of new) (notes_of new))
 
 -- which calls are to fail
 abbrev pub plan_of : MemoryDisk → Plan

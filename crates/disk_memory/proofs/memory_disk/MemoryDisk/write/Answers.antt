@@ -1,10 +1,10 @@
 use Rattle.std.proofs.Common.{ap, sym, subst, ◌∙◌, length, ◌≤◌}
 use Rattle.std.specs.Prelude.{reverse}
 use Rattle.side_world.specs.Disk.{overwritten}
-use Rattle.side_memory.specs.DiskNotes.{held, Fit}
-use Rattle.side_memory.specs.declared.note.Note.TheVariants.{Written}
-use Rattle.side_memory.proofs.Disks.{latest_first, fit_more, same_place}
-use Rattle.side_memory.proofs.memory_disk.MemoryDisk.write.Goals as goal
+use Rattle.disk_memory.specs.DiskNotes.{held, Fit}
+use Rattle.disk_memory.specs.declared.note.Note.TheVariants.{Written}
+use Rattle.disk_memory.proofs.Disks.{latest_first, fit_more, same_place}
+use Rattle.disk_memory.proofs.memory_disk.MemoryDisk.write.Goals as goal
 
 pub invariant_of-self : goal.invariant_of-self
 invariant_of-self c =

@@ -1,6 +1,6 @@
-ghost use Rattle.std.specs.Prelude.{◌≡◌, ◌<◌, ◌≤◌, ◌↔◌, IsTrue, IsErr, IfOk, OnOk, OnErr, Contains};
+ghost use Rattle.std.specs.Prelude.{◌≡◌, ◌<◌, ◌≤◌, ◌↔◌, drop, IsTrue, IsErr, IfOk, OnOk, OnErr, Contains};
 ghost use Rattle.side_world.specs.Faults.{Rose, RoseWith};
-ghost use Rattle.side_memory.specs.Plan.{begun, counted, plan_in, FailsNext};
+ghost use Rattle.disk_memory.specs.Plan.{begun, counted, plan_in, moved, FailsNext};
 
 use side_base::{Places, Sequence};
 use side_world::Failed;
@@ -12,16 +12,21 @@ pub type Sizes = Sequence<usize>;
 
 /// Which calls of a device in memory fail, and how many bytes the others move.
 #[derive(Debug, Drop)]
-pub(crate) struct Schedule {
-    pub(crate) sizes: Sizes,
-    pub(crate) failing: Places,
-    pub(crate) calls: u64,
-    pub(crate) faults: u64,
+pub struct Schedule {
+    /// How many bytes the next calls that do not fail move.
+    pub sizes: Sizes,
+    /// The calls that fail, counted from 0.
+    pub failing: Places,
+    /// How many calls were made; the count stops at 2^64 - 1.
+    pub calls: u64,
+    /// How many faults there were; the count stops at 2^64 - 1.
+    pub faults: u64,
 }
 
 impl Schedule {
     /// No call was made yet; `failing` are the calls that fail, counted from 0.
-    pub(crate) fn new(sizes: Sizes, failing: Places) -> Self
+    pub fn new(sizes: Sizes, failing: Places) -> Self
+        ensures sizes { result.sizes ≡ sizes }
         ensures faults { result.faults ≡ 0 }
         ensures plan { plan_in result ≡ begun failing }
     {
@@ -34,12 +39,15 @@ impl Schedule {
     }
 
     /// Counts a call, and answers how many of the `possible` bytes it moves.
-    pub(crate) fn next(&mut self, possible: usize) -> Result<usize, Failed>
+    pub fn next(&mut self, possible: usize) -> Result<usize, Failed>
         requires { 0 < possible }
         ensures listed { IsErr result ↔ FailsNext (plan_in self.old) }
         ensures counted { plan_in self.new ≡ counted (plan_in self.old) }
         ensures some { IfOk result (λ n. 0 < n) }
         ensures within { IfOk result (λ n. n ≤ possible) }
+        ensures moved { IfOk result (λ n. n ≡ moved self.old.sizes possible) }
+        ensures rest { OnOk result (self.new.sizes ≡ drop 1 self.old.sizes) }
+        ensures none_used { OnErr result (self.new.sizes ≡ self.old.sizes) }
         ensures ok { OnOk result (self.new.faults ≡ self.old.faults) }
         ensures failed { OnErr result (Rose self.old.faults self.new.faults) }
         ensures no_fewer { self.old.faults ≤ self.new.faults }
@@ -52,7 +60,8 @@ impl Schedule {
     }
 
     /// Counts a call, which fails where it is listed.
-    pub(crate) fn call(&mut self) -> Result<(), Failed>
+    pub fn call(&mut self) -> Result<(), Failed>
+        ensures sizes { self.new.sizes ≡ self.old.sizes }
         ensures listed { IsErr result ↔ FailsNext (plan_in self.old) }
         ensures counted { plan_in self.new ≡ counted (plan_in self.old) }
         ensures ok { OnOk result (self.new.faults ≡ self.old.faults) }
@@ -69,8 +78,9 @@ impl Schedule {
     }
 
     /// Counts a fault where what came back has some.
-    pub(crate) fn count_back(&mut self, faults: u64)
+    pub fn count_back(&mut self, faults: u64)
         ensures rose { RoseWith faults self.old.faults self.new.faults }
+        ensures sizes { self.new.sizes ≡ self.old.sizes }
         ensures plan { plan_in self.new ≡ plan_in self.old }
         ensures no_fewer { self.old.faults ≤ self.new.faults }
     {
@@ -80,8 +90,9 @@ impl Schedule {
     }
 
     /// Counts a fault of the device itself.
-    pub(crate) fn fail(&mut self)
+    pub fn fail(&mut self)
         ensures failed { Rose self.old.faults self.new.faults }
+        ensures sizes { self.new.sizes ≡ self.old.sizes }
         ensures plan { plan_in self.new ≡ plan_in self.old }
         ensures no_fewer { self.old.faults ≤ self.new.faults }
     {

@@ -1,10 +1,10 @@
 use Rattle.std.proofs.Common.{subst, sym, ap, ◌∙◌, length, take, ◌≤◌, ◌∷◌, rules}
 use Rattle.std.specs.Prelude.{reverse}
 use Rattle.side_world.specs.Disk.{Torn, overwritten}
-use Rattle.side_memory.specs.DiskNotes.{Fit}
-use Rattle.side_memory.proofs.Disks.{up_to_next, fits_here, synced_on, written_on, lost_on}
-use Rattle.side_memory.proofs.memory_disk.MemoryDisk.image.Goals.{in-Synced+in_ok-image-in-Synced, in-Written+in_ok-rest-in-Written+in_ok-overwrite-in-Written, in-Lost+in_ok-rest-in-Lost}
-use Rattle.side_memory.proofs.memory_disk.MemoryDisk.image.Goals as goal
+use Rattle.disk_memory.specs.DiskNotes.{Fit}
+use Rattle.disk_memory.proofs.Disks.{up_to_next, fits_here, synced_on, written_on, lost_on}
+use Rattle.disk_memory.proofs.memory_disk.MemoryDisk.image.Goals.{in-Synced+in_ok-image-in-Synced, in-Written+in_ok-rest-in-Written+in_ok-overwrite-in-Written, in-Lost+in_ok-rest-in-Lost}
+use Rattle.disk_memory.proofs.memory_disk.MemoryDisk.image.Goals as goal
 
 pub overwrite-requires : goal.overwrite-requires
 overwrite-requires c =

@@ -1,5 +1,5 @@
-use Rattle.side_memory.proofs.Disks.{write_leaves_either}
-use Rattle.side_memory.proofs.memory_disk.MemoryDiskDisk.write_at.Goals as goal
+use Rattle.disk_memory.proofs.Disks.{write_leaves_either}
+use Rattle.disk_memory.proofs.memory_disk.MemoryDiskDisk.write_at.Goals as goal
 
 pub returns-in-Ok-clause-crash : goal.returns-in-Ok-clause-crash
 returns-in-Ok-clause-crash c after left =

@@ -1,0 +1,3 @@
+pub mod DiskNotes
+pub mod MemoryDisk
+pub mod Plan
