@@ -11,16 +11,24 @@ pub struct Lines {
 }
 
 impl Lines {
+    ghost use Rattle.std.specs.Prelude.{◌≡◌, ◌++◌, ◌↔◌, true, false, [], IsTrue, IfOk, IfErr};
+
     /// No line yet.
-    pub fn new(alloc: Global) -> Lines {
+    pub fn new(alloc: Global) -> Lines
+        ensures text { result.text ≡ [] }
+        ensures whole { result.lacks ≡ false }
+    {
         Lines {
             text: Text::new(alloc),
             lacks: false,
         }
     }
 
-    /// Adds words.
-    pub fn add(&mut self, words: &str) {
+    /// Adds words, unless memory lacks for them, which is remembered.
+    pub fn add(&mut self, words: &str)
+        ensures added { self.new.lacks ≡ false → self.new.text ≡ self.old.text ++ words.now }
+        ensures lacks { self.old.lacks ≡ true → self.new.lacks ≡ true }
+    {
         if self.text.push(words).is_err() {
             self.lacks = true;
         }
@@ -61,17 +69,24 @@ impl Lines {
     }
 
     /// Whether nothing was added.
-    pub fn is_empty(&self) -> bool {
+    pub fn is_empty(&self) -> bool
+        ensures { IsTrue result ↔ (self.now.text ≡ []) }
+    {
         self.text.is_empty()
     }
 
     /// The text so far.
-    pub fn as_str(&self) -> &str {
+    pub fn as_str(&self) -> &str
+        ensures { result.now ≡ self.now.text }
+    {
         self.text.as_str()
     }
 
     /// The text, unless memory lacked for a part of it.
-    pub fn done(self) -> Result<Text, NoMemory> {
+    pub fn done(self) -> Result<Text, NoMemory>
+        ensures whole { IfOk result (λ text. (self.lacks ≡ false) × (text ≡ self.text)) }
+        ensures lacks { IfErr result (λ _. self.lacks ≡ true) }
+    {
         if self.lacks {
             Err(NoMemory)
         } else {
@@ -80,7 +95,9 @@ impl Lines {
     }
 
     /// The text, with the parts for which memory was there.
-    pub fn into_text(self) -> Text {
+    pub fn into_text(self) -> Text
+        ensures { result ≡ self.text }
+    {
         self.text
     }
 }

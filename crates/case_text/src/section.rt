@@ -1,4 +1,7 @@
 // The sections of a case, and what they say.
+ghost use Rattle.std.specs.Prelude.{◌≡◌, option_map};
+ghost use Rattle.case_text.specs.Section.{name_of, number_at, IsTextOf};
+
 use crate::SECTION;
 use crate::escape::unescaped;
 use crate::piece::{Piece, pieces, without_blank_end};
@@ -43,7 +46,9 @@ pub fn sections<'a>(alloc: Global, case: &Piece<'a>) -> Result<Vec<Section<'a>>,
 }
 
 /// The name in the first section of this word.
-pub fn name_in<'a>(sections: &[Section<'a>], word: &str) -> Option<&'a str> {
+pub fn name_in<'a>(sections: &[Section<'a>], word: &str) -> Option<&'a str>
+    ensures { option_map (λ name. name.now) result ≡ name_of word.now sections.now }
+{
     match sections.iter().find(|section| section.word == word) {
         Some(section) => Some(section.name),
         None => None,
@@ -51,14 +56,18 @@ pub fn name_in<'a>(sections: &[Section<'a>], word: &str) -> Option<&'a str> {
 }
 
 /// The number that a text begins with; 0 where it begins with none or with one past `u32::MAX`.
-pub fn number_in(text: &str) -> u32 {
+pub fn number_in(text: &str) -> u32
+    ensures { result ≡ number_at text.now }
+{
     let (digits, _) = split_digits(text.as_bytes());
     u32::try_from(number_of(digits)).unwrap_or(0)
 }
 
 /// The text of a section without the empty lines at its end, its escapes undone. Where a backslash begins none it is `no escape`, and where
 /// memory lacks as well: such a case differs.
-pub fn text_of(alloc: Global, section: &Section<'_>) -> Blob {
+pub fn text_of(alloc: Global, section: &Section<'_>) -> Blob
+    ensures { IsTextOf section.now.text.now result }
+{
     match unescaped(alloc, without_blank_end(section.text)) {
         Ok(Some(text)) => text,
         _ => {

@@ -226,7 +226,7 @@ module _ (single : OneStream) {E : Type 0} (exchange : Request → List E → Re
 module _ {D : Type 0} {disking : Keeps D} {keeping : Ghosts (AnyKeeper D disking)} (kinds : Kinds (Store (AnyKeeper D disking) keeping)) where
   module _ (given : Words) (world world' : WorldAt) where
     -- what a session and the counts behind it met of exhausted cells
-    spent_then : {ended : Ended} {spent : Option ℕ} (count : ℕ) → spent ≡ Some count → HasSession disking keeping kinds world world' ended spent → IsSpent disking keeping kinds world world' count
+    spent_then : {ended : Ended} {spent : Option ℕ} (count : ℕ) → spent ≡ Some count → HasSession kinds world world' ended spent → IsSpent kinds world world' count
     spent_then {ended} {spent} count e s =
         let went = s.served.served.acted in
         let before : Standing (Store (AnyKeeper D disking) keeping) = record { seats = seats_of s.pass; clock = s.started.clock; calls = s.started.link; words = s.words } in
@@ -236,7 +236,7 @@ module _ {D : Type 0} {disking : Keeps D} {keeping : Ghosts (AnyKeeper D disking
         let met = met_of kinds (cells_of s.objects) s.over.clock s.over.link s.served.rest count _ (seats_of s.after) _ s.counted (seats_of s.last) s.told.counted lone sound (sym s.spent_is ∙ e) in
         record { ended = ended; spent = spent; session = s; seats = met.seats; lone = met.lone; sound = met.sound; full = full_of kinds (cells_of s.objects) met.seats count met.lone met.sound met.shows }
 
-    spent_in : {spent : Option ℕ} (count : ℕ) → HasSession disking keeping kinds world world' (ends.Spent count) spent → IsSpent disking keeping kinds world world' count
+    spent_in : {spent : Option ℕ} (count : ℕ) → HasSession kinds world world' (ends.Spent count) spent → IsSpent kinds world world' count
     spent_in {spent} count s =
         let end = s.served.served.session.ends in
         let went = s.served.served.acted in
@@ -253,7 +253,7 @@ module _ {D : Type 0} {disking : Keeps D} {keeping : Ghosts (AnyKeeper D disking
     sink_rose {started} {over} before behind rose = subst (λ n. Rose n world'.sink.faults) (ap (λ s. s.faults) before.sink) (subst (λ n. Rose started.sink.faults n) (sym (ap (λ s. s.faults) behind.sink)) rose)
 
     -- the status behind a session has its cause
-    why_served : (ended : Ended) (spent : Option ℕ) → HasSession disking keeping kinds world world' ended spent → IsWhy disking keeping kinds given world world' (status_after ended spent)
+    why_served : (ended : Ended) (spent : Option ℕ) → HasSession kinds world world' ended spent → IsWhy kinds given world world' (status_after ended spent)
     why_served ends.Done None s = done s
     why_served ends.Closed None s = closed s
     why_served ends.Asked None s = asked s
@@ -293,9 +293,9 @@ module _ {D : Type 0} {disking : Keeps D} {keeping : Ghosts (AnyKeeper D disking
 
       -- a start that is refused has its cause
       why_refused : (e : KeepersErr) (end : Status) → IsRefused disking resources.components e now.outside.disks world'.outside.disks now.outside.calls world'.outside.calls → Counts e now.outside.faults world'.outside.faults → play.SaysOfKeepers e end
-          → IsWhy disking keeping kinds given world world' end
+          → IsWhy kinds given world world' end
       why_refused (lack.NotAJournal component at) end (inl begun) counts says = absurd (subst TellsMore begun.cause tt)
-      why_refused (lack.NotAJournal component at) end (inr one) counts (inl same) = subst (IsWhy disking keeping kinds given world world') (sym same) (inr record {
+      why_refused (lack.NotAJournal component at) end (inr one) counts (inl same) = subst (IsWhy kinds given world world') (sym same) (inr record {
         resources = resources;
         configured = subst (λ files. IsConfigured given.resources given.app world.files files (Ok resources)) (sym (ap (λ w. w.files) rest)) read.configured;
         component = component;
@@ -304,21 +304,21 @@ module _ {D : Type 0} {disking : Keeps D} {keeping : Ghosts (AnyKeeper D disking
             (subst (λ calls. IsRefusedAtOne disking resources.components (lack.NotAJournal component at) now.outside.disks world'.outside.disks calls world'.outside.calls) read.calls one);
         tells = refl;
       })
-      why_refused (lack.NotAJournal component at) end (inr one) counts (inr same) = subst (IsWhy disking keeping kinds given world world') (sym same) tt
-      why_refused lack.OutsideFailed end refused counts same = subst (IsWhy disking keeping kinds given world world') (sym same) (outside_rose counts, still)
-      why_refused lack.DiskFailed end refused counts same = subst (IsWhy disking keeping kinds given world world') (sym same) (outside_rose counts, still)
-      why_refused lack.NoMemory end refused counts same = subst (IsWhy disking keeping kinds given world world') (sym same) tt
+      why_refused (lack.NotAJournal component at) end (inr one) counts (inr same) = subst (IsWhy kinds given world world') (sym same) tt
+      why_refused lack.OutsideFailed end refused counts same = subst (IsWhy kinds given world world') (sym same) (outside_rose counts, still)
+      why_refused lack.DiskFailed end refused counts same = subst (IsWhy kinds given world world') (sym same) (outside_rose counts, still)
+      why_refused lack.NoMemory end refused counts same = subst (IsWhy kinds given world world') (sym same) tt
 
-      why_down : (config : Config) (end : Status) → config.components ≡ resources.components → IsDown disking config now.outside world'.outside end → IsWhy disking keeping kinds given world world' end
+      why_down : (config : Config) (end : Status) → config.components ≡ resources.components → IsDown disking config now.outside world'.outside end → IsWhy kinds given world world' end
       why_down config end same (play.refused e refused counts numbers says) =
           why_refused e end (subst (λ cs. IsRefused disking cs e now.outside.disks world'.outside.disks now.outside.calls world'.outside.calls) same refused) counts says
-      why_down config end same (play.lacks keepers kept is) = subst (IsWhy disking keeping kinds given world world') (sym is) tt
+      why_down config end same (play.lacks keepers kept is) = subst (IsWhy kinds given world world') (sym is) tt
 
     -- a run that came as far as this has its cause
-    why_kept : (resources : Resources) (now : WorldAt) (words : Stream) (end : Status) → HasRead resources now → IsKept disking keeping kinds (record { app = given.app; components = resources.components; subs = []; policies = resources.policies }) words now world' end
-        → IsWhy disking keeping kinds given world world' end
+    why_kept : (resources : Resources) (now : WorldAt) (words : Stream) (end : Status) → HasRead resources now → IsKept kinds (record { app = given.app; components = resources.components; subs = []; policies = resources.policies }) words now world' end
+        → IsWhy kinds given world world' end
     why_kept resources now words end read (play.down down rest) = why_down resources now read rest (record { app = given.app; components = resources.components; subs = []; policies = resources.policies }) end refl down
-    why_kept resources now words end read (play.up objects pass started up rest session) = subst (IsWhy disking keeping kinds given world world') (sym session.ends) (why_served session.ended session.spent record {
+    why_kept resources now words end read (play.up objects pass started up rest session) = subst (IsWhy kinds given world world') (sym session.ends) (why_served session.ended session.spent record {
       config = record { app = given.app; components = resources.components; subs = []; policies = resources.policies };
       objects = objects;
       pass = pass;
@@ -380,7 +380,7 @@ module _ (given : Words) (files files' : FilesAt) where
   why_unread fault.Failed (Some folder) end named read same = subst (WhyUnread given files files') (sym same) (refl, read.1.1)
 
 module _ {D : Type 0} {disking : Keeps D} {keeping : Ghosts (AnyKeeper D disking)} (kinds : Kinds (Store (AnyKeeper D disking) keeping)) (given : Words) (world world' : WorldAt) where
-  unread_stdio : (end : Status) → IsUntouched world world' → WhyUnread given world.files world'.files end → IsWhy disking keeping kinds given world world' end
+  unread_stdio : (end : Status) → IsUntouched world world' → WhyUnread given world.files world'.files end → IsWhy kinds given world world' end
   unread_stdio (status.BadResources text) left why = inl why
   unread_stdio (status.OutsideFailed device) left why = subst (λ d. HasFault d world world') (sym why.0) (why.1, left)
   unread_stdio status.NoMemory left why = tt
@@ -390,7 +390,7 @@ module _ {D : Type 0} {disking : Keeps D} {keeping : Ghosts (AnyKeeper D disking
   unread_stdio status.Limit left why = absurd why
   unread_stdio (status.Spent count) left why = absurd why
 
-  why_begun : (numbers : Option (List ℕ)) (words : Stream) (end : Status) → IsBegun disking keeping kinds given words (record world { outside = record world.outside { numbers = numbers } }) world' end → IsWhy disking keeping kinds given world world' end
+  why_begun : (numbers : Option (List ℕ)) (words : Stream) (end : Status) → IsBegun kinds given words (record world { outside = record world.outside { numbers = numbers } }) world' end → IsWhy kinds given world world' end
   why_begun numbers words end (play.refused e read says rest) = unread_stdio end (record { source = ap (λ w. w.source) rest; sink = ap (λ w. w.sink) rest }) (why_unread given world.files world'.files e given.resources end refl read says)
   why_begun numbers words end (play.read resources now read rest kept) = why_kept kinds given world world' resources now words end (record {
     configured = read;
@@ -401,8 +401,8 @@ module _ {D : Type 0} {disking : Keeps D} {keeping : Ghosts (AnyKeeper D disking
   }) kept
 
   -- a run on standard input
-  pub why_played : (words_of : ℕ → Stream) (end : Status) → IsPlay disking keeping kinds words_of given world world' end → IsWhy disking keeping kinds given world world' end
-  why_played words_of end ran = why_begun ran.between.outside.numbers (words_of ran.seed) end (subst (λ w. IsBegun disking keeping kinds given (words_of ran.seed) w world' end) ran.only ran.begun)
+  pub why_played : (words_of : ℕ → Stream) (end : Status) → IsPlay kinds words_of given world world' end → IsWhy kinds given world world' end
+  why_played words_of end ran = why_begun ran.between.outside.numbers (words_of ran.seed) end (subst (λ w. IsBegun kinds given (words_of ran.seed) w world' end) ran.only ran.begun)
 
 module _ (given : Words) (world world' : WorldAt) where
   unread_check : (end : Status) → IsUntouched world world' → WhyUnread given world.files world'.files end → IsWhyOfCheck given world world' end
@@ -429,7 +429,7 @@ module _ (given : Words) (world world' : WorldAt) where
 
 module _ {D : Type 0} {disking : Keeps D} {keeping : Ghosts (AnyKeeper D disking)} (kinds : Kinds (Store (AnyKeeper D disking) keeping)) (given : Words) (world world' : WorldAt) where
   -- where all is well, a status is 0, or there was no memory
-  pub ends_well : OneStream → SomeStream → (end : Status) → IsWhy disking keeping kinds given world world' end → AllIsWell disking keeping kinds given world world' → EndsAsItShould disking keeping kinds world world' end
+  pub ends_well : OneStream → SomeStream → (end : Status) → IsWhy kinds given world world' end → AllIsWell kinds given world world' → EndsAsItShould kinds world world' end
   ends_well single exists status.Ok why well = inl (refl, why)
   ends_well single exists (status.BadInput Cut) why well = absurd (no_cut single _ _ _ _ _ _ why.served.served.session (well.bytes ends.ClosedByPeer None why))
   ends_well single exists (status.BadInput (Refused reason)) why well = absurd (no_refusal single _ _ _ _ _ _ reason why.served.served.session (well.bytes (ends.Refused reason) None why))
@@ -448,27 +448,27 @@ module _ {D : Type 0} {disking : Keeps D} {keeping : Ghosts (AnyKeeper D disking
     same_meaning : (other : Words) → Means words other → other ≡ given
     same_meaning other also = one_meaning words other given also means
 
-    command_given : (other : Words) (end : Status) → Means words other → IsCommand disking keeping kinds words_of other world world' end → IsCommand disking keeping kinds words_of given world world' end
-    command_given other end also command = subst (λ g. IsCommand disking keeping kinds words_of g world world' end) (same_meaning other also) command
+    command_given : (other : Words) (end : Status) → Means words other → IsCommand kinds words_of other world world' end → IsCommand kinds words_of given world world' end
+    command_given other end also command = subst (λ g. IsCommand kinds words_of g world world' end) (same_meaning other also) command
 
-    stdio_command : (end : Status) → given.mode ≡ mode.Stdio → IsCommand disking keeping kinds words_of given world world' end → IsWhy disking keeping kinds given world world' end
+    stdio_command : (end : Status) → given.mode ≡ mode.Stdio → IsCommand kinds words_of given world world' end → IsWhy kinds given world world' end
     stdio_command end is (run.played also ran) = why_played kinds given world world' words_of end ran
     stdio_command end is (run.checked also ran) = absurd (subst IsElse (sym also ∙ is) tt)
     stdio_command end is (run.served also ran) = absurd (subst IsElse (sym also ∙ is) tt)
 
     -- a run of words that mean one on standard input
-    pub stdio_run : (end : Status) → given.mode ≡ mode.Stdio → IsRun disking keeping kinds words_of words world world' end → IsWhy disking keeping kinds given world world' end
+    pub stdio_run : (end : Status) → given.mode ≡ mode.Stdio → IsRun kinds words_of words world world' end → IsWhy kinds given world world' end
     stdio_run end is (run.meant other also command) = stdio_command end is (command_given other end also command)
     stdio_run end is (run.meaningless nothing same left) = absurd (nothing given means)
-    stdio_run end is (run.lacks same left) = subst (IsWhy disking keeping kinds given world world') (sym same) tt
+    stdio_run end is (run.lacks same left) = subst (IsWhy kinds given world world') (sym same) tt
 
-    check_command : (end : Status) → given.mode ≡ mode.Check → IsCommand disking keeping kinds words_of given world world' end → IsWhyOfCheck given world world' end
+    check_command : (end : Status) → given.mode ≡ mode.Check → IsCommand kinds words_of given world world' end → IsWhyOfCheck given world world' end
     check_command end is (run.checked also ran) = why_checked given world world' end ran
     check_command end is (run.played also ran) = absurd (subst IsNoCheck (sym also ∙ is) tt)
     check_command end is (run.served also ran) = absurd (subst IsNoCheck (sym also ∙ is) tt)
 
     -- of words that mean a check
-    pub check_run : (end : Status) → given.mode ≡ mode.Check → IsRun disking keeping kinds words_of words world world' end → IsWhyOfCheck given world world' end
+    pub check_run : (end : Status) → given.mode ≡ mode.Check → IsRun kinds words_of words world world' end → IsWhyOfCheck given world world' end
     check_run end is (run.meant other also command) = check_command end is (command_given other end also command)
     check_run end is (run.meaningless nothing same left) = absurd (nothing given means)
     check_run end is (run.lacks same left) = subst (IsWhyOfCheck given world world') (sym same) tt

@@ -95,8 +95,8 @@ module _ {D : Type 0} {disking : Keeps D} {keeping : Ghosts (AnyKeeper D disking
 
   -- a session over a configuration is one over the same
   pub session_of : {kinds : Kinds (Store (AnyKeeper D disking) keeping)} {config config' : Config} {objects : Objects (AnyKeeper D disking) keeping} {pass : Pass (AnyKeeper D disking) keeping} {words : Stream} {world world' : WorldAt} {status : Status}
-      → config' ≡ config → IsSession disking keeping kinds config' objects pass words world world' status → IsSession disking keeping kinds config objects pass words world world' status
-  session_of {kinds} {objects = objects} {pass = pass} {words} {world} {world'} {status} same session = subst (λ c. IsSession disking keeping kinds c objects pass words world world' status) same session
+      → config' ≡ config → IsSession kinds config' objects pass words world world' status → IsSession kinds config objects pass words world world' status
+  session_of {kinds} {objects = objects} {pass = pass} {words} {world} {world'} {status} same session = subst (λ c. IsSession kinds c objects pass words world world' status) same session
 
   -- the keepers that are given back fit their components
   pub fit_closed : ((c : Loaded) (old new : AnyKeeper D disking) (answers : List (Option Changes)) → keeping.leads old answers new → Fits c old → Fits c new)
@@ -107,12 +107,12 @@ module _ {D : Type 0} {disking : Keeps D} {keeping : Ghosts (AnyKeeper D disking
 
 -- a pass that is alone stays so
 pub lone_served : {D : Type 0} {disking : Keeps D} {keeping : Ghosts (AnyKeeper D disking)} {kinds : Kinds (Store (AnyKeeper D disking) keeping)} {config : Config} {objects : Objects (AnyKeeper D disking) keeping} {pass after : Pass (AnyKeeper D disking) keeping} {words : Stream} {world world' : WorldAt} {ended : Ended}
-    → IsServed disking keeping kinds config objects pass after words world world' ended → IsLone (cells_of objects) (seats_of pass) → IsLone (cells_of objects) (seats_of after)
+    → IsServed kinds config objects pass after words world world' ended → IsLone (cells_of objects) (seats_of pass) → IsLone (cells_of objects) (seats_of after)
 lone_served {kinds = kinds} {objects = objects} {pass = pass} {after = after} {words = words} {world = world} {world' = world'} served lone = lone_stays kinds (cells_of objects) (record { seats = seats_of pass; clock = world.clock; calls = world.link; words = words }) _ (record { seats = seats_of after; clock = world'.clock; calls = world'.link; words = served.rest }) served.served.acted lone
 
 -- what holds of every seat goes on to hold
 pub sound_served : {D : Type 0} {disking : Keeps D} {keeping : Ghosts (AnyKeeper D disking)} {kinds : Kinds (Store (AnyKeeper D disking) keeping)} {config : Config} {objects : Objects (AnyKeeper D disking) keeping} {pass after : Pass (AnyKeeper D disking) keeping} {words : Stream} {world world' : WorldAt} {ended : Ended}
-    → IsServed disking keeping kinds config objects pass after words world world' ended → IsSoundPass kinds (cells_of objects) (seats_of pass) → IsSoundPass kinds (cells_of objects) (seats_of after)
+    → IsServed kinds config objects pass after words world world' ended → IsSoundPass kinds (cells_of objects) (seats_of pass) → IsSoundPass kinds (cells_of objects) (seats_of after)
 sound_served {kinds = kinds} {objects = objects} {pass = pass} {after = after} {words = words} {world = world} {world' = world'} served sound = sound_stays kinds (cells_of objects) (record { seats = seats_of pass; clock = world.clock; calls = world.link; words = words }) _ (record { seats = seats_of after; clock = world'.clock; calls = world'.link; words = served.rest }) served.served.acted sound
 
 -- numbers were given, and the outside is as before but for them
@@ -122,8 +122,8 @@ numbered world after disks calls backs faults = λ i. record world { outside = r
 
 -- a run with the same random words
 pub begun_by : {D : Type 0} {disking : Keeps D} {keeping : Ghosts (AnyKeeper D disking)} {kinds : Kinds (Store (AnyKeeper D disking) keeping)} {given : Words} {words words' : Stream} {world world' : WorldAt} {status : Status}
-    → words ≡ words' → IsBegun disking keeping kinds given words world world' status → IsBegun disking keeping kinds given words' world world' status
-begun_by {disking = disking} {keeping = keeping} {kinds = kinds} {given = given} {world = world} {world' = world'} {status = status} same begun = subst (λ w. IsBegun disking keeping kinds given w world world' status) same begun
+    → words ≡ words' → IsBegun kinds given words world world' status → IsBegun kinds given words' world world' status
+begun_by {disking = disking} {keeping = keeping} {kinds = kinds} {given = given} {world = world} {world' = world'} {status = status} same begun = subst (λ w. IsBegun kinds given w world world' status) same begun
 
 -- objects that were not started over their keepers
 pub down_without : {D X : Type 0} {disking : Keeps D} {config : Config} {keepers : List (AnyKeeper D disking)} {outside outside' : OutsideAt} (result : Result X Status)

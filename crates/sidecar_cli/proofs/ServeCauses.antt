@@ -147,14 +147,14 @@ module _ {O : Type 0} where
 
 module _ {D : Type 0} {disking : Keeps D} {keeping : Ghosts (AnyKeeper D disking)} (kinds : Kinds (Store (AnyKeeper D disking) keeping)) (given : Words) (world world' : WorldAt) where
   -- the acceptor of a worker failed
-  why_failed : (serving : HasServing disking keeping kinds world world' None) → failed_in serving.workers ≡ true → HasFailedAcceptor disking keeping kinds world world'
+  why_failed : (serving : HasServing kinds world world' None) → failed_in serving.workers ≡ true → HasFailedAcceptor kinds world world'
   why_failed serving is =
       let found = failed_one serving.workers is in
       let among = found.among in
       let whole = among.whole in
       let cells = cells_of serving.objects in
-      let from = hub_of disking keeping kinds (root_pass (length serving.workers) cells) serving.started in
-      let to = hub_of disking keeping kinds (seats_of serving.after) serving.over in
+      let from = hub_of kinds (root_pass (length serving.workers) cells) serving.started in
+      let to = hub_of kinds (seats_of serving.after) serving.over in
       let met = subst (λ (l : List (WorkerAt (Store (AnyKeeper D disking) keeping))). AreMet kinds cells l from to) whole serving.met.met in
       let w = worked_one (HasWorked serving.config kinds cells) 0 serving.words among.before found.worker among.behind (subst (AreWorkers (HasWorked serving.config kinds cells) 0 serving.words) whole serving.met.each) in
       let exit = w.2.exit exits.Failed found.holds in
@@ -174,14 +174,14 @@ module _ {D : Type 0} {disking : Keeps D} {keeping : Ghosts (AnyKeeper D disking
       }
 
   -- a worker was ended by an exhausted cell
-  why_spent_working : (spent : Option ℕ) (count : ℕ) (serving : HasServing disking keeping kinds world world' spent) → spent_in serving.workers ≡ Some count → IsSpentInServing disking keeping kinds world world' count
+  why_spent_working : (spent : Option ℕ) (count : ℕ) (serving : HasServing kinds world world' spent) → spent_in serving.workers ≡ Some count → IsSpentInServing kinds world world' count
   why_spent_working spent count serving is =
       let found = spent_one count serving.workers is in
       let among = found.among in
       let whole = among.whole in
       let cells = cells_of serving.objects in
-      let from = hub_of disking keeping kinds (root_pass (length serving.workers) cells) serving.started in
-      let to = hub_of disking keeping kinds (seats_of serving.after) serving.over in
+      let from = hub_of kinds (root_pass (length serving.workers) cells) serving.started in
+      let to = hub_of kinds (seats_of serving.after) serving.over in
       let met = subst (λ (l : List (WorkerAt (Store (AnyKeeper D disking) keeping))). AreMet kinds cells l from to) whole serving.met.met in
       let w = worked_one (HasWorked serving.config kinds cells) 0 serving.words among.before found.worker among.behind (subst (AreWorkers (HasWorked serving.config kinds cells) 0 serving.words) whole serving.met.each) in
       let exit = w.2.exit (exits.Spent count) found.holds in
@@ -199,7 +199,7 @@ module _ {D : Type 0} {disking : Keeps D} {keeping : Ghosts (AnyKeeper D disking
       }
 
   -- a cell was found exhausted as the ledgers were counted
-  why_spent_counting : (count : ℕ) → HasServing disking keeping kinds world world' (Some count) → IsSpentInServing disking keeping kinds world world' count
+  why_spent_counting : (count : ℕ) → HasServing kinds world world' (Some count) → IsSpentInServing kinds world world' count
   why_spent_counting count serving =
       let cells = cells_of serving.objects in
       let met = met_of kinds cells still None silent count _ (seats_of serving.after) _ serving.counted (seats_of serving.last) serving.told.counted serving.met.lone serving.sound (sym serving.spent_is) in
@@ -215,7 +215,7 @@ module _ {D : Type 0} {disking : Keeps D} {keeping : Ghosts (AnyKeeper D disking
       }
 
   -- the status behind workers that have run has its cause
-  why_workers : (read : Option ℕ) (failed : Bool) (spent : Option ℕ) (serving : HasServing disking keeping kinds world world' spent) → spent_in serving.workers ≡ read → failed_in serving.workers ≡ failed → IsWhyOfServing disking keeping kinds given world world' (status_after_serving (end_of read failed) spent)
+  why_workers : (read : Option ℕ) (failed : Bool) (spent : Option ℕ) (serving : HasServing kinds world world' spent) → spent_in serving.workers ≡ read → failed_in serving.workers ≡ failed → IsWhyOfServing kinds given world world' (status_after_serving (end_of read failed) spent)
   why_workers (Some count) failed spent serving reads fails = why_spent_working spent count serving reads
   why_workers None true (Some count) serving reads fails = why_spent_counting count serving
   why_workers None false (Some count) serving reads fails = why_spent_counting count serving
@@ -238,12 +238,12 @@ same_status : {one other : Status} → Some one ≡ Some other → one ≡ other
 same_status {one} is = ap (λ (o : Option Status). unwrap_or o one) is
 
 module _ {D : Type 0} {disking : Keeps D} {keeping : Ghosts (AnyKeeper D disking)} (kinds : Kinds (Store (AnyKeeper D disking) keeping)) (given : Words) (world world' : WorldAt) (left : IsUntouched world world') where
-  module _ (config : Config) (begins started : OutsideAt) (objects : Objects (AnyKeeper D disking) keeping) (pass : Pass (AnyKeeper D disking) keeping) (words : List Stream) (up : IsUp disking keeping kinds config begins started objects pass) (faults : begins.faults ≡ world.outside.faults) where
+  module _ (config : Config) (begins started : OutsideAt) (objects : Objects (AnyKeeper D disking) keeping) (pass : Pass (AnyKeeper D disking) keeping) (words : List Stream) (up : IsUp kinds config begins started objects pass) (faults : begins.faults ≡ world.outside.faults) where
     -- workers were opened and have run, and the ledgers were counted
-    why_went : (after : Pass (AnyKeeper D disking) keeping) (over : OutsideAt) (end : End) (spent : Option ℕ) → serve.IsPortServed disking keeping kinds config objects pass after given.port words started over end → refusal_of end ≡ None → play.IsFinished disking keeping kinds config objects after world.note world'.note over world'.outside spent
-        → IsServed config kinds (cells_of objects) given.port words started.calls over.calls (hub_of disking keeping kinds (seats_of pass) started) (hub_of disking keeping kinds (seats_of after) over) end → IsWhyOfServing disking keeping kinds given world world' (status_after_serving end spent)
+    why_went : (after : Pass (AnyKeeper D disking) keeping) (over : OutsideAt) (end : End) (spent : Option ℕ) → serve.IsPortServed kinds config objects pass after given.port words started over end → refusal_of end ≡ None → play.IsFinished kinds config objects after world.note world'.note over world'.outside spent
+        → IsServed config kinds (cells_of objects) given.port words started.calls over.calls (hub_of kinds (seats_of pass) started) (hub_of kinds (seats_of after) over) end → IsWhyOfServing kinds given world world' (status_after_serving end spent)
     why_went after over end spent served opens finished (serves.went workers wide met ran stopped told ends) =
-        subst (λ (e : End). IsWhyOfServing disking keeping kinds given world world' (status_after_serving e spent)) (sym ends) (why_workers kinds given world world' (spent_in workers) (failed_in workers) spent (record {
+        subst (λ (e : End). IsWhyOfServing kinds given world world' (status_after_serving e spent)) (sym ends) (why_workers kinds given world world' (spent_in workers) (failed_in workers) spent (record {
           config = config;
           keepers = up.keepers;
           objects = objects;
@@ -258,7 +258,7 @@ module _ {D : Type 0} {disking : Keeps D} {keeping : Ghosts (AnyKeeper D disking
           wide = wide;
           met = met;
           ended = ran;
-          sound = served_sound kinds (cells_of objects) config given.port words started.calls over.calls (hub_of disking keeping kinds (seats_of pass) started) (hub_of disking keeping kinds (seats_of after) over) end (root_started up.started) up.sound served.served;
+          sound = served_sound kinds (cells_of objects) config given.port words started.calls over.calls (hub_of kinds (seats_of pass) started) (hub_of kinds (seats_of after) over) end (root_started up.started) up.sound served.served;
           counted = finished.counted;
           told = finished.told;
           spent_is = finished.spent_is;
@@ -267,36 +267,36 @@ module _ {D : Type 0} {disking : Keeps D} {keeping : Ghosts (AnyKeeper D disking
     why_went after over end spent served opens finished (serves.unopened workers asked between few low met waits told failed (inr is)) = absurd (none_is_none (sym (subst (λ (e : End). refusal_of e ≡ None) is opens)))
 
     -- a worker was not opened
-    why_unopened : (after : Pass (AnyKeeper D disking) keeping) (over : OutsideAt) (end : End) (answer : Status) → refusal_of end ≡ Some answer → play.IsClosed disking keeping kinds config objects after over world'.outside
-        → IsServed config kinds (cells_of objects) given.port words started.calls over.calls (hub_of disking keeping kinds (seats_of pass) started) (hub_of disking keeping kinds (seats_of after) over) end → IsWhyOfServing disking keeping kinds given world world' answer
+    why_unopened : (after : Pass (AnyKeeper D disking) keeping) (over : OutsideAt) (end : End) (answer : Status) → refusal_of end ≡ Some answer → play.IsClosed kinds config objects after over world'.outside
+        → IsServed config kinds (cells_of objects) given.port words started.calls over.calls (hub_of kinds (seats_of pass) started) (hub_of kinds (seats_of after) over) end → IsWhyOfServing kinds given world world' answer
     why_unopened after over end answer is closed (serves.went workers wide met ran stopped told ends) = absurd (none_is_none (sym (ran_on (spent_in workers) (failed_in workers)) ∙ subst (λ (e : End). refusal_of e ≡ Some answer) ends is))
     why_unopened after over end answer is closed (serves.unopened workers asked between few low met waits told failed (inl fails)) =
-        subst (IsWhyOfServing disking keeping kinds given world world') (same_status (subst (λ (e : End). refusal_of e ≡ Some answer) fails is))
+        subst (IsWhyOfServing kinds given world world') (same_status (subst (λ (e : End). refusal_of e ≡ Some answer) fails is))
         (rose_then _ world.outside.faults over.faults world'.outside.faults (subst (λ (n : ℕ). Rose n over.faults) (up.kept.no_fault ∙ faults) (failed fails)) closed.faults, left)
     why_unopened after over end answer is closed (serves.unopened workers asked between few low met waits told failed (inr lacks)) =
-        subst (IsWhyOfServing disking keeping kinds given world world') (same_status (subst (λ (e : End). refusal_of e ≡ Some answer) lacks is)) tt
+        subst (IsWhyOfServing kinds given world world') (same_status (subst (λ (e : End). refusal_of e ≡ Some answer) lacks is)) tt
 
-    why_serving : (end : Status) → IsServing disking keeping kinds config objects pass given.port words world.note world'.note started world'.outside end → IsWhyOfServing disking keeping kinds given world world' end
-    why_serving end (serve.went after over e spent served opens finished ends) = subst (IsWhyOfServing disking keeping kinds given world world') (sym ends) (why_went after over e spent served opens finished served.served)
+    why_serving : (end : Status) → IsServing kinds config objects pass given.port words world.note world'.note started world'.outside end → IsWhyOfServing kinds given world world' end
+    why_serving end (serve.went after over e spent served opens finished ends) = subst (IsWhyOfServing kinds given world world') (sym ends) (why_went after over e spent served opens finished served.served)
     why_serving end (serve.unopened after over e served refused closed quiet) = why_unopened after over e end refused closed served.served
 
   module _ (resources : Resources) (numbers : Option (List ℕ)) (read : IsConfigured given.resources given.app world.files world'.files (Ok resources)) where
     -- a start that is refused has its cause
-    why_refused : (e : KeepersErr) (end : Status) → IsRefused disking resources.components e world.outside.disks world'.outside.disks world.outside.calls world'.outside.calls → Counts e world.outside.faults world'.outside.faults → SaysOfKeepers e end → IsWhyOfServing disking keeping kinds given world world' end
+    why_refused : (e : KeepersErr) (end : Status) → IsRefused disking resources.components e world.outside.disks world'.outside.disks world.outside.calls world'.outside.calls → Counts e world.outside.faults world'.outside.faults → SaysOfKeepers e end → IsWhyOfServing kinds given world world' end
     why_refused (lack.NotAJournal component at) end (inl begun) counts says = absurd (subst TellsMore begun.cause tt)
-    why_refused (lack.NotAJournal component at) end (inr one) counts (inl same) = subst (IsWhyOfServing disking keeping kinds given world world') (sym same) (inr record { resources = resources; configured = read; component = component; at = at; refused = one; tells = refl })
-    why_refused (lack.NotAJournal component at) end (inr one) counts (inr same) = subst (IsWhyOfServing disking keeping kinds given world world') (sym same) tt
-    why_refused lack.OutsideFailed end refused counts same = subst (IsWhyOfServing disking keeping kinds given world world') (sym same) (rose_once world.outside.faults world'.outside.faults counts, left)
-    why_refused lack.DiskFailed end refused counts same = subst (IsWhyOfServing disking keeping kinds given world world') (sym same) (counts, left)
-    why_refused lack.NoMemory end refused counts same = subst (IsWhyOfServing disking keeping kinds given world world') (sym same) tt
+    why_refused (lack.NotAJournal component at) end (inr one) counts (inl same) = subst (IsWhyOfServing kinds given world world') (sym same) (inr record { resources = resources; configured = read; component = component; at = at; refused = one; tells = refl })
+    why_refused (lack.NotAJournal component at) end (inr one) counts (inr same) = subst (IsWhyOfServing kinds given world world') (sym same) tt
+    why_refused lack.OutsideFailed end refused counts same = subst (IsWhyOfServing kinds given world world') (sym same) (rose_once world.outside.faults world'.outside.faults counts, left)
+    why_refused lack.DiskFailed end refused counts same = subst (IsWhyOfServing kinds given world world') (sym same) (counts, left)
+    why_refused lack.NoMemory end refused counts same = subst (IsWhyOfServing kinds given world world') (sym same) tt
 
-    why_kept : (words : List Stream) (end : Status) → IsKeptServing disking keeping kinds (record { app = given.app; components = resources.components; subs = []; policies = resources.policies }) given.port words world.note world'.note (record world.outside { numbers = numbers }) world'.outside end
-        → IsWhyOfServing disking keeping kinds given world world' end
+    why_kept : (words : List Stream) (end : Status) → IsKeptServing kinds (record { app = given.app; components = resources.components; subs = []; policies = resources.policies }) given.port words world.note world'.note (record world.outside { numbers = numbers }) world'.outside end
+        → IsWhyOfServing kinds given world world' end
     why_kept words end (serve.down (play.refused e refused counts numbered says) quiet) = why_refused e end refused counts says
-    why_kept words end (serve.down (play.lacks keepers kept is) quiet) = subst (IsWhyOfServing disking keeping kinds given world world') (sym is) tt
+    why_kept words end (serve.down (play.lacks keepers kept is) quiet) = subst (IsWhyOfServing kinds given world world') (sym is) tt
     why_kept words end (serve.up objects pass between up serving) = why_serving (record { app = given.app; components = resources.components; subs = []; policies = resources.policies }) (record world.outside { numbers = numbers }) between objects pass words up refl end serving
 
-  unread_serving : (end : Status) → WhyUnread given world.files world'.files end → IsWhyOfServing disking keeping kinds given world world' end
+  unread_serving : (end : Status) → WhyUnread given world.files world'.files end → IsWhyOfServing kinds given world world' end
   unread_serving (status.BadResources text) why = inl why
   unread_serving (status.OutsideFailed device.Files) why = (why.1, left)
   unread_serving (status.OutsideFailed device.Source) why = absurd (subst IsFiles (sym why.0) tt)
@@ -312,28 +312,28 @@ module _ {D : Type 0} {disking : Keeps D} {keeping : Ghosts (AnyKeeper D disking
   unread_serving (status.Spent count) why = absurd why
 
 module _ {D : Type 0} {disking : Keeps D} {keeping : Ghosts (AnyKeeper D disking)} (kinds : Kinds (Store (AnyKeeper D disking) keeping)) (given : Words) (world world' : WorldAt) where
-  why_begun : (numbers : Option (List ℕ)) (words : List Stream) (end : Status) → IsBegunServing disking keeping kinds given words (record world { outside = record world.outside { numbers = numbers } }) world' end → IsWhyOfServing disking keeping kinds given world world' end
+  why_begun : (numbers : Option (List ℕ)) (words : List Stream) (end : Status) → IsBegunServing kinds given words (record world { outside = record world.outside { numbers = numbers } }) world' end → IsWhyOfServing kinds given world world' end
   why_begun numbers words end (serve.refused e read says rest) = unread_serving kinds given world world' (record { source = ap (λ w. w.source) rest; sink = ap (λ w. w.sink) rest }) end (why_unread given world.files world'.files e given.resources end refl read says)
   why_begun numbers words end (serve.read resources read kept rest) = why_kept kinds given world world' (record { source = ap (λ w. w.source) rest; sink = ap (λ w. w.sink) rest }) resources numbers read words end kept
 
-  why_serve : (words_of : ℕ → Stream) (end : Status) → IsServe disking keeping kinds words_of given world world' end → IsWhyOfServing disking keeping kinds given world world' end
-  why_serve words_of end (serve.asked seeds one other between wide told only begun) = why_begun between.outside.numbers (map words_of seeds) end (subst (λ w. IsBegunServing disking keeping kinds given (map words_of seeds) w world' end) only begun)
-  why_serve words_of end (serve.lacks same _) = subst (IsWhyOfServing disking keeping kinds given world world') (sym same) tt
+  why_serve : (words_of : ℕ → Stream) (end : Status) → IsServe kinds words_of given world world' end → IsWhyOfServing kinds given world world' end
+  why_serve words_of end (serve.asked seeds one other between wide told only begun) = why_begun between.outside.numbers (map words_of seeds) end (subst (λ w. IsBegunServing kinds given (map words_of seeds) w world' end) only begun)
+  why_serve words_of end (serve.lacks same _) = subst (IsWhyOfServing kinds given world world') (sym same) tt
 
   module _ (words_of : ℕ → Stream) (words : List (List ℕ)) (means : Means words given) where
-    serve_command : (end : Status) → given.mode ≡ mode.Serve → IsCommand disking keeping kinds words_of given world world' end → IsWhyOfServing disking keeping kinds given world world' end
+    serve_command : (end : Status) → given.mode ≡ mode.Serve → IsCommand kinds words_of given world world' end → IsWhyOfServing kinds given world world' end
     serve_command end is (run.served also ran) = why_serve words_of end ran
     serve_command end is (run.played also ran) = absurd (subst IsNoServing (sym also ∙ is) tt)
     serve_command end is (run.checked also ran) = absurd (subst IsNoServing (sym also ∙ is) tt)
 
     -- a run of words that name no mode
-    pub serve_run : (end : Status) → given.mode ≡ mode.Serve → IsRun disking keeping kinds words_of words world world' end → IsWhyOfServing disking keeping kinds given world world' end
-    serve_run end is (run.meant other also command) = serve_command end is (subst (λ g. IsCommand disking keeping kinds words_of g world world' end) (one_meaning words other given also means) command)
+    pub serve_run : (end : Status) → given.mode ≡ mode.Serve → IsRun kinds words_of words world world' end → IsWhyOfServing kinds given world world' end
+    serve_run end is (run.meant other also command) = serve_command end is (subst (λ g. IsCommand kinds words_of g world world' end) (one_meaning words other given also means) command)
     serve_run end is (run.meaningless nothing same left) = absurd (nothing given means)
-    serve_run end is (run.lacks same left) = subst (IsWhyOfServing disking keeping kinds given world world') (sym same) tt
+    serve_run end is (run.lacks same left) = subst (IsWhyOfServing kinds given world world') (sym same) tt
 
   -- where all is well, a run that serves ends with 0, or there was no memory
-  pub serve_well : (end : Status) → IsWhyOfServing disking keeping kinds given world world' end → AllIsWellOfServing disking keeping kinds given world world' → (end ≡ status.Ok) ⊎ (end ≡ status.NoMemory)
+  pub serve_well : (end : Status) → IsWhyOfServing kinds given world world' end → AllIsWellOfServing kinds given world world' → (end ≡ status.Ok) ⊎ (end ≡ status.NoMemory)
   serve_well status.Ok why well = inl refl
   serve_well status.NoMemory why well = inr refl
   serve_well (status.BadResources text) (inl why) well = absurd (well.files text why)

@@ -42,12 +42,12 @@ module _ {O : Type 0} (kinds : Kinds O) (cells : CellsAt O) where
 module _ {D : Type 0} {disking : Keeps D} {keeping : Ghosts (AnyKeeper D disking)} {kinds : Kinds (Store (AnyKeeper D disking) keeping)} where
   -- serving over a configuration is serving over the same
   pub serving_of : {config config' : Config} {objects : Objects (AnyKeeper D disking) keeping} {pass : Pass (AnyKeeper D disking) keeping} {port : ℕ} {words : List Stream} {note note' : SinkAt} {outside outside' : OutsideAt} {status : Status}
-      → config' ≡ config → IsServing disking keeping kinds config' objects pass port words note note' outside outside' status → IsServing disking keeping kinds config objects pass port words note note' outside outside' status
-  serving_of {objects = objects} {pass = pass} {port} {words} {note} {note'} {outside} {outside'} {status} same serving = subst (λ c. IsServing disking keeping kinds c objects pass port words note note' outside outside' status) same serving
+      → config' ≡ config → IsServing kinds config' objects pass port words note note' outside outside' status → IsServing kinds config objects pass port words note note' outside outside' status
+  serving_of {objects = objects} {pass = pass} {port} {words} {note} {note'} {outside} {outside'} {status} same serving = subst (λ c. IsServing kinds c objects pass port words note note' outside outside' status) same serving
 
   -- a run with the same random words
-  pub begun_serving_by : {given : Words} {words words' : List Stream} {world world' : WorldAt} {status : Status} → words ≡ words' → IsBegunServing disking keeping kinds given words world world' status → IsBegunServing disking keeping kinds given words' world world' status
-  begun_serving_by {given} {world = world} {world' = world'} {status = status} same begun = subst (λ w. IsBegunServing disking keeping kinds given w world world' status) same begun
+  pub begun_serving_by : {given : Words} {words words' : List Stream} {world world' : WorldAt} {status : Status} → words ≡ words' → IsBegunServing kinds given words world world' status → IsBegunServing kinds given words' world world' status
+  begun_serving_by {given} {world = world} {world' = world'} {status = status} same begun = subst (λ w. IsBegunServing kinds given w world world' status) same begun
 
 -- the outside is as it was
 pub as_before : (world : WorldAt) (after : OutsideAt) → after.disks ≡ world.outside.disks → after.calls ≡ world.outside.calls → after.backs ≡ world.outside.backs → after.numbers ≡ world.outside.numbers → after.faults ≡ world.outside.faults → record world { outside = after } ≡ world

@@ -15,8 +15,8 @@ use Rattle.sidecar_cli.specs.World.{OutsideAt, WorldAt}
 use Rattle.sidecar_cli.specs.declared.status.Status.{Status}
 
 module _ {D : Type 0} {disking : Keeps D} {keeping : Ghosts (AnyKeeper D disking)} {kinds : Kinds (Store (AnyKeeper D disking) keeping)} (config : List Sub → Config) where
-  pub kept : {words : Stream} {world world' : WorldAt} {status : Status} {subs : List Sub} → subs ≡ [] → IsKept disking keeping kinds (config subs) words world world' status → IsKept disking keeping kinds (config []) words world world' status
-  kept {words} {world} {world'} {status} {subs} is held = subst (λ list. IsKept disking keeping kinds (config list) words world world' status) is held
+  pub kept : {words : Stream} {world world' : WorldAt} {status : Status} {subs : List Sub} → subs ≡ [] → IsKept kinds (config subs) words world world' status → IsKept kinds (config []) words world world' status
+  kept {words} {world} {world'} {status} {subs} is held = subst (λ list. IsKept kinds (config list) words world world' status) is held
 
-  pub kept_serving : {port : ℕ} {words : List Stream} {note note' : SinkAt} {outside outside' : OutsideAt} {status : Status} {subs : List Sub} → subs ≡ [] → IsKeptServing disking keeping kinds (config subs) port words note note' outside outside' status → IsKeptServing disking keeping kinds (config []) port words note note' outside outside' status
-  kept_serving {port} {words} {note} {note'} {outside} {outside'} {status} {subs} is held = subst (λ list. IsKeptServing disking keeping kinds (config list) port words note note' outside outside' status) is held
+  pub kept_serving : {port : ℕ} {words : List Stream} {note note' : SinkAt} {outside outside' : OutsideAt} {status : Status} {subs : List Sub} → subs ≡ [] → IsKeptServing kinds (config subs) port words note note' outside outside' status → IsKeptServing kinds (config []) port words note note' outside outside' status
+  kept_serving {port} {words} {note} {note'} {outside} {outside'} {status} {subs} is held = subst (λ list. IsKeptServing kinds (config list) port words note note' outside outside' status) is held

@@ -90,7 +90,7 @@ pub data IsFull {O : Type 0} (seats : SeatsAt O) (count : ℕ) : Type 0 where
   breaker : (k : ℕ) → IsFullAt k count seats.breakers → IsFull seats count
   notes : seats.notes.count ≡ Some count → length seats.notes.seen ≡ 2 ^ 62 → IsFull seats count
 
-module _ {D : Type 0} (disking : Keeps D) (keeping : Ghosts (AnyKeeper D disking)) (kinds : Kinds (Store (AnyKeeper D disking) keeping)) where
+module _ {D : Type 0} {disking : Keeps D} {keeping : Ghosts (AnyKeeper D disking)} (kinds : Kinds (Store (AnyKeeper D disking) keeping)) where
   -- A session was served, over objects that had just begun, and the ledgers were counted behind it: it ended so, and this is the first count that a seat of the
   -- pass shows behind it, or else what was read of the first exhausted cell of a ledger, if there is one. Nothing was read or written but by it
   pub record HasSession (world world' : WorldAt) (ended : Ended) (spent : Option ℕ) : Type 0 where
@@ -104,7 +104,7 @@ module _ {D : Type 0} (disking : Keeps D) (keeping : Ghosts (AnyKeeper D disking
     pub over : WorldAt
     pub lone : IsLone (cells_of objects) (seats_of pass)
     pub sound : IsSoundPass kinds (cells_of objects) (seats_of pass)
-    pub served : IsServed disking keeping kinds config objects pass after words started over ended
+    pub served : IsServed kinds config objects pass after words started over ended
     pub counted : Option ℕ
     pub told : IsTold kinds (cells_of objects) config.components (seats_of after) (seats_of last) over.note world'.note counted
     pub spent_is : spent ≡ option_or (spent_of (seats_of after)) counted
@@ -155,6 +155,10 @@ module _ {D : Type 0} (disking : Keeps D) (keeping : Ghosts (AnyKeeper D disking
   abbrev pub EndsAsItShould : WorldAt → WorldAt → Status → Type 0
   EndsAsItShould world world' end = ((end ≡ status.Ok) × EndsWell world world') ⊎ (end ≡ status.NoMemory)
 
+  -- it does where all is well
+  abbrev pub EndsWellWhereAllIsWell : Words → WorldAt → WorldAt → Status → Type 0
+  EndsWellWhereAllIsWell given world world' end = AllIsWell given world world' → EndsAsItShould world world' end
+
 -- why a check ends so
 abbrev pub IsWhyOfCheck : Words → WorldAt → WorldAt → Status → Type 0
 IsWhyOfCheck given world world' status.Ok = Unit {0}
@@ -169,3 +173,7 @@ pub record AllIsWellOfCheck (given : Words) (world world' : WorldAt) : Type 0 wh
   pub files : (text : List ℕ) → ¬ IsFileRefused given world.files world'.files text
   pub read : ¬ HasFault Files world world'
   pub wrote : ¬ HasFault Sink world world'
+
+-- where this is so the status of a check is 0, or there was no memory
+abbrev pub ChecksWellWhereAllIsWell : Words → WorldAt → WorldAt → Status → Type 0
+ChecksWellWhereAllIsWell given world world' end = AllIsWellOfCheck given world world' → (end ≡ status.Ok) ⊎ (end ≡ status.NoMemory)

@@ -12,7 +12,7 @@ use Rattle.resource_spec.specs.Component.{Loaded}
 use Rattle.sidecar_core.specs.Did.{CellsAt, Does, Kinds, SeatsAt, ShowsAt}
 use Rattle.sidecar_core.specs.Delivery.{Counted}
 use Rattle.sidecar_core.specs.Sites.{pubsubs_of}
-use Rattle.sidecar_cli.specs.Note.{AreNoted}
+use Rattle.sidecar_cli.specs.Note.{AreNoted, IsNoted}
 
 -- the line of a broker: how many deliveries are owed, done, dropped and dead-lettered
 abbrev pub counts_line : List ℕ → LedgerReply → List ℕ
@@ -35,6 +35,10 @@ pub record IsCountedOf {O : Type 0} (kinds : Kinds O) (cells : CellsAt O) (name 
   pub shows : (count : ℕ) → result ≡ Err (record { count = count }) → ShowsAt place count seats'.ledgers
   pub text_is : text ≡ line_told name result
   pub spent_is : spent ≡ spent_told result
+
+-- such a broker was counted, and its text was written to the note
+abbrev pub IsToldOf : {O : Type 0} → Kinds O → CellsAt O → List ℕ → ℕ → SeatsAt O → SeatsAt O → SinkAt → SinkAt → Option ℕ → Type 0
+IsToldOf kinds cells name place seats seats' note note' spent = (text : List ℕ) × IsCountedOf kinds cells name place seats text spent seats' × IsNoted note note' text
 
 -- brokers whose ledgers stand from this place on, one after the other, each with a text; the first count of an exhausted cell is what is spent
 pub data AreCountedOf {O : Type 0} (kinds : Kinds O) (cells : CellsAt O) : ℕ → List Loaded → SeatsAt O → List (List ℕ) → Option ℕ → SeatsAt O → Type 0 where

@@ -1,5 +1,5 @@
 -- The line of each broker, by its place.
-use Rattle.std.specs.Prelude.{◌≡◌, ◌<◌, ◌≤◌, ℕ, List, [], ◌∷◌, length, Result, Ok, Err}
+use Rattle.std.specs.Prelude.{◌≡◌, ◌<◌, ◌≤◌, ℕ, List, [], ◌∷◌, length, Option, Result, Ok, Err}
 use mathlib.Core.Option.{some}
 use lib.ListN.{get_elem?}
 use Rattle.turn_cell.specs.declared.error.Exhausted.{Exhausted}
@@ -7,10 +7,11 @@ use Rattle.turn_cell.specs.Growth.{EachGrew}
 use Rattle.ledger_core.specs.declared.command.LedgerCmd.TheVariants.{Counts}
 use Rattle.ledger_core.specs.declared.reply.LedgerReply.{LedgerReply}
 use Rattle.ledger_core.specs.Message.{Step}
+use Rattle.conn_serve.specs.Ends.{SinkAt}
 use Rattle.resource_spec.specs.Component.{Loaded}
 use Rattle.sidecar_core.specs.Did.{CellsAt, Kinds, SeatsAt}
 use Rattle.sidecar_core.specs.Sites.{pubsubs_of}
-use Rattle.sidecar_cli.specs.Counting.{line_told}
+use Rattle.sidecar_cli.specs.Counting.{IsTold, line_told}
 
 -- what a seat did to give this answer: one step, which counts; or none, where its cell is exhausted
 pub data HasCounted (steps : List Step) (result : Result LedgerReply Exhausted) : Type 0 where
@@ -32,3 +33,10 @@ pub record HaveOwnLines {O : Type 0} (kinds : Kinds O) (cells : CellsAt O) (comp
   pub wide : length texts ≡ length (pubsubs_of components)
   pub own : (k : ℕ) → k < length (pubsubs_of components) → HasOwnLine (pubsubs_of components) texts made k
   pub others : (k : ℕ) → length (pubsubs_of components) ≤ k → made k ≡ []
+
+module _ {O : Type 0} (kinds : Kinds O) where
+  -- the texts that are written as all brokers are counted and told are such lines
+  abbrev pub BrokersHaveOwnLines : Type 0
+  BrokersHaveOwnLines =
+      (cells : CellsAt O) (components : List Loaded) (seats seats' : SeatsAt O) (note note' : SinkAt) (spent : Option ℕ)
+      → (told : IsTold kinds cells components seats seats' note note' spent) → HaveOwnLines kinds cells components seats seats' told.texts

@@ -24,6 +24,7 @@ use Rattle.sidecar_keepers.specs.Refused.{Counts, IsRefused}
 use Rattle.sidecar_core.specs.declared.config.Config.{Config}
 use Rattle.sidecar_core.specs.declared.objects.Objects.{Objects}
 use Rattle.sidecar_core.specs.declared.objects.Pass.{Pass}
+use Rattle.sidecar_core.specs.declared.shared.Shared.{Shared}
 use Rattle.sidecar_core.specs.Did.{IsSoundPass, Kinds, Standing, Went, spent_of}
 use Rattle.sidecar_core.specs.Exchange.{Exchange}
 use Rattle.sidecar_core.specs.Pass.{cells_of, seats_of}
@@ -53,7 +54,7 @@ pub record AreKept {D : Type 0} (disking : Keeps D) (config : Config) (keepers :
   pub numbers : outside'.numbers ≡ outside.numbers
 
 -- the objects were started over a keeper for each store; what holds of every seat holds of those of the pass
-pub record IsUp {D : Type 0} (disking : Keeps D) (keeping : Ghosts (AnyKeeper D disking)) (kinds : Kinds (Store (AnyKeeper D disking) keeping)) (config : Config) (outside outside' : OutsideAt) (objects : Objects (AnyKeeper D disking) keeping) (pass : Pass (AnyKeeper D disking) keeping) : Type 0 where
+pub record IsUp {D : Type 0} {disking : Keeps D} {keeping : Ghosts (AnyKeeper D disking)} (kinds : Kinds (Store (AnyKeeper D disking) keeping)) (config : Config) (outside outside' : OutsideAt) (objects : Objects (AnyKeeper D disking) keeping) (pass : Pass (AnyKeeper D disking) keeping) : Type 0 where
   pub keepers : List (AnyKeeper D disking)
   pub kept : AreKept disking config keepers outside outside'
   pub started : IsStarted config keepers config objects pass
@@ -64,7 +65,7 @@ pub data IsDown {D : Type 0} (disking : Keeps D) (config : Config) (outside outs
   refused : (e : KeepersErr) → IsRefused disking config.components e outside.disks outside'.disks outside.calls outside'.calls → Counts e outside.faults outside'.faults → outside'.numbers ≡ outside.numbers → SaysOfKeepers e status → IsDown disking config outside outside' status
   lacks : (keepers : List (AnyKeeper D disking)) → AreKept disking config keepers outside outside' → status ≡ ends.NoMemory → IsDown disking config outside outside' status
 
-module _ {D : Type 0} (disking : Keeps D) (keeping : Ghosts (AnyKeeper D disking)) (kinds : Kinds (Store (AnyKeeper D disking) keeping)) where
+module _ {D : Type 0} {disking : Keeps D} {keeping : Ghosts (AnyKeeper D disking)} (kinds : Kinds (Store (AnyKeeper D disking) keeping)) where
   -- what a pass and all that it works with show
   abbrev pub standing_at : Pass (AnyKeeper D disking) keeping → WorldAt → Stream → Standing (Store (AnyKeeper D disking) keeping)
   standing_at pass world words = record { seats = seats_of pass; clock = world.clock; calls = world.link; words = words }
@@ -76,6 +77,10 @@ module _ {D : Type 0} (disking : Keeps D) (keeping : Ghosts (AnyKeeper D disking
     pub files : world'.files ≡ world.files
     pub outside : world'.outside ≡ world.outside
     pub note : world'.note ≡ world.note
+
+  -- one session over what all passes share was
+  abbrev pub IsServedBy : Shared (AnyKeeper D disking) keeping → Pass (AnyKeeper D disking) keeping → Pass (AnyKeeper D disking) keeping → Stream → WorldAt → WorldAt → Ended → Type 0
+  IsServedBy shared = IsServed shared.config shared.objects
 
   -- the cells were closed by this pass, and the disks of the stores' keepers went back
   pub record IsClosed (config : Config) (objects : Objects (AnyKeeper D disking) keeping) (pass : Pass (AnyKeeper D disking) keeping) (outside outside' : OutsideAt) : Type 0 where
@@ -110,7 +115,7 @@ module _ {D : Type 0} (disking : Keeps D) (keeping : Ghosts (AnyKeeper D disking
   -- all objects were started, and then the session was played; or they were not, and nothing was read
   pub data IsKept (config : Config) (words : Stream) (world world' : WorldAt) (status : Status) : Type 0 where
     down : IsDown disking config world.outside world'.outside status → world' ≡ record world { outside = world'.outside } → IsKept config words world world' status
-    up : (objects : Objects (AnyKeeper D disking) keeping) (pass : Pass (AnyKeeper D disking) keeping) (between : WorldAt) → IsUp disking keeping kinds config world.outside between.outside objects pass → between ≡ record world { outside = between.outside }
+    up : (objects : Objects (AnyKeeper D disking) keeping) (pass : Pass (AnyKeeper D disking) keeping) (between : WorldAt) → IsUp kinds config world.outside between.outside objects pass → between ≡ record world { outside = between.outside }
         → IsSession config objects pass words between world' status → IsKept config words world world' status
 
   -- the resources were read, and then all objects were started; or they were refused, and nothing else was done

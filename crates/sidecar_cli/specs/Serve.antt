@@ -55,7 +55,12 @@ status_at ended.NoMemory = ends.NoMemory
 abbrev pub status_after_serving : End → Option ℕ → Status
 status_after_serving end spent = spent_or (option_or (spent_at end) spent) (status_at end)
 
-module _ {D : Type 0} (disking : Keeps D) (keeping : Ghosts (AnyKeeper D disking)) (kinds : Kinds (Store (AnyKeeper D disking) keeping)) where
+-- A number was asked for each of so many streams of random words, in order, and two more behind them
+abbrev pub AsksForStreams : (ℕ → Stream) → ℕ → List Stream → Option (List ℕ) → Option (List ℕ) → Type 0
+AsksForStreams words_of count streams numbers numbers' =
+    (seeds : List ℕ) × (one : ℕ) × (other : ℕ) × (length seeds ≡ count) × (streams ≡ map words_of seeds) × Tells numbers numbers' (seeds ++ one ∷ other ∷ [])
+
+module _ {D : Type 0} {disking : Keeps D} {keeping : Ghosts (AnyKeeper D disking)} (kinds : Kinds (Store (AnyKeeper D disking) keeping)) where
   -- workers were opened over these objects, ran and were met, with one stream of random words each; the disks and the numbers of the outside were left
   pub record IsPortServed (config : Config) (objects : Objects (AnyKeeper D disking) keeping) (pass after : Pass (AnyKeeper D disking) keeping) (port : ℕ) (words : List Stream) (outside outside' : OutsideAt) (end : End) : Type 0 where
     pub served : IsServed config kinds (cells_of objects) port words outside.calls outside'.calls (record { seats = seats_of pass; backs = outside.backs; faults = outside.faults }) (record { seats = seats_of after; backs = outside'.backs; faults = outside'.faults }) end
@@ -65,14 +70,14 @@ module _ {D : Type 0} (disking : Keeps D) (keeping : Ghosts (AnyKeeper D disking
   -- Serving over objects that were just started, by their pass; then all was counted, told and closed. Where a worker was not opened, all was closed, and nothing told
   pub data IsServing (config : Config) (objects : Objects (AnyKeeper D disking) keeping) (pass : Pass (AnyKeeper D disking) keeping) (port : ℕ) (words : List Stream) (note note' : SinkAt) (outside outside' : OutsideAt) (status : Status) : Type 0 where
     went : (after : Pass (AnyKeeper D disking) keeping) (between : OutsideAt) (end : End) (spent : Option ℕ) → IsPortServed config objects pass after port words outside between end → refusal_of end ≡ None
-        → IsFinished disking keeping kinds config objects after note note' between outside' spent → status ≡ status_after_serving end spent → IsServing config objects pass port words note note' outside outside' status
+        → IsFinished kinds config objects after note note' between outside' spent → status ≡ status_after_serving end spent → IsServing config objects pass port words note note' outside outside' status
     unopened : (after : Pass (AnyKeeper D disking) keeping) (between : OutsideAt) (end : End) → IsPortServed config objects pass after port words outside between end → refusal_of end ≡ Some status
-        → IsClosed disking keeping kinds config objects after between outside' → note' ≡ note → IsServing config objects pass port words note note' outside outside' status
+        → IsClosed kinds config objects after between outside' → note' ≡ note → IsServing config objects pass port words note note' outside outside' status
 
   -- all objects were started, and then they were served; or they were not
   pub data IsKeptServing (config : Config) (port : ℕ) (words : List Stream) (note note' : SinkAt) (outside outside' : OutsideAt) (status : Status) : Type 0 where
     down : IsDown disking config outside outside' status → note' ≡ note → IsKeptServing config port words note note' outside outside' status
-    up : (objects : Objects (AnyKeeper D disking) keeping) (pass : Pass (AnyKeeper D disking) keeping) (between : OutsideAt) → IsUp disking keeping kinds config outside between objects pass → IsServing config objects pass port words note note' between outside' status
+    up : (objects : Objects (AnyKeeper D disking) keeping) (pass : Pass (AnyKeeper D disking) keeping) (between : OutsideAt) → IsUp kinds config outside between objects pass → IsServing config objects pass port words note note' between outside' status
         → IsKeptServing config port words note note' outside outside' status
 
   -- the resources were read, and then all objects were started; or they were refused, and nothing else was done

@@ -48,7 +48,7 @@ pub record IsAmong {O : Type 0} (w : WorkerAt O) (workers : List (WorkerAt O)) :
   pub behind : List (WorkerAt O)
   pub whole : workers ≡ before ++ w ∷ behind
 
-module _ {D : Type 0} (disking : Keeps D) (keeping : Ghosts (AnyKeeper D disking)) (kinds : Kinds (Store (AnyKeeper D disking) keeping)) where
+module _ {D : Type 0} {disking : Keeps D} {keeping : Ghosts (AnyKeeper D disking)} (kinds : Kinds (Store (AnyKeeper D disking) keeping)) where
   -- what a pass shows, and what the outside has of workers
   abbrev pub hub_of : SeatsAt (Store (AnyKeeper D disking) keeping) → OutsideAt → HubAt (Store (AnyKeeper D disking) keeping)
   hub_of seats outside = record { seats = seats; backs = outside.backs; faults = outside.faults }
@@ -130,3 +130,7 @@ module _ {D : Type 0} (disking : Keeps D) (keeping : Ghosts (AnyKeeper D disking
     pub outside : ¬ RoseOnce world.outside.faults world'.outside.faults
     pub acceptors : ¬ HasFailedAcceptor world world'
     pub fresh : (count : ℕ) → ¬ IsSpentInServing world world' count
+
+  -- where this is so the status is 0, or there was no memory
+  abbrev pub ServesWellWhereAllIsWell : Words → WorldAt → WorldAt → Status → Type 0
+  ServesWellWhereAllIsWell given world world' end = AllIsWellOfServing given world world' → (end ≡ status.Ok) ⊎ (end ≡ status.NoMemory)

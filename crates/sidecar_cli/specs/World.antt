@@ -1,5 +1,8 @@
 -- What a run has of the outside, as it shows it.
 use Rattle.std.specs.Prelude.{ℕ, List, Option}
+use Rattle.rand_core.specs.Stream.{Stream}
+use Rattle.rand_core.specs.declared.Rng.{Ghosts as Draws}
+use Rattle.rand_core.specs.declared.seedable_rng.SeedableRng.{Ghosts as Seeds}
 use Rattle.side_world.specs.declared.source.Source.{Ghosts as Gives}
 use Rattle.side_world.specs.declared.sink.Sink.{Ghosts as Takes}
 use Rattle.side_world.specs.declared.files.Files.{Ghosts as Holds}
@@ -55,3 +58,17 @@ world_at gives takes notes holds asks times lends world = record {
   clock = clocked times world.clock;
   outside = outside_at lends world.outside;
 }
+
+-- what is said of two worlds, said of a world before a call and behind it, as its parts show themselves, and of what came of the call
+abbrev pub OverWorld : {S N E F L C O D A' L' C' S' N' X : Type 0} → Gives S → Takes N → Takes E → Holds F → Asks L → Times C → Lends O D A' L' C' S' N' → (WorldAt → WorldAt → X → Type 0) → World S N E F L C O → World S N E F L C O → X → Type 0
+OverWorld gives takes notes holds asks times lends P world world' result =
+    P (world_at gives takes notes holds asks times lends world) (world_at gives takes notes holds asks times lends world') result
+
+-- the same where a call has the note and the outside alone
+abbrev pub OverOutside : {E O D A' L' C' S' N' X : Type 0} → Takes E → Lends O D A' L' C' S' N' → (SinkAt → SinkAt → OutsideAt → OutsideAt → X → Type 0) → E → E → O → O → X → Type 0
+OverOutside notes lends P note note' outside outside' result =
+    P (sink_at notes note) (sink_at notes note') (outside_at lends outside) (outside_at lends outside') result
+
+-- the random words of such a generator, by the number from which it begins
+abbrev pub words_by : {R S : Type 0} → Draws R → Seeds R S → ℕ → Stream
+words_by draws seeds number = draws.stream (seeds.of_seed (seeds.seed_of_u64 number))

@@ -1,7 +1,7 @@
 ghost use Rattle.std.specs.Prelude.{◌≡◌, IfOk, length};
 ghost use Rattle.conn_serve.specs.Ends.{sink_at};
 ghost use Rattle.sidecar_cli.specs.Check.{check_line, IsCheck, IsCounted};
-ghost use Rattle.sidecar_cli.specs.World.{world_at};
+ghost use Rattle.sidecar_cli.specs.World.{OverWorld};
 
 use crate::configuring::{configured, without_resources};
 use crate::{Device, Status, World};
@@ -19,7 +19,7 @@ pub(crate) fn check<S: Source, N: Sink, E: Sink, F: Files, L: Link, C: Clock, O:
     given: &Words,
     world: &mut World<S, N, E, F, L, C, O>,
 ) -> Status
-    ensures { IsCheck given.now (world_at S.Source N.Sink E.Sink F.Files L.Link C.Clock O.Outside world.old) (world_at S.Source N.Sink E.Sink F.Files L.Link C.Clock O.Outside world.new) result }
+    ensures { OverWorld S.Source N.Sink E.Sink F.Files L.Link C.Clock O.Outside (IsCheck given.now) world.old world.new result }
 {
     match configured(alloc, &mut world.files, &given.resources, &given.app) {
         Ok(resources) => {

@@ -1,11 +1,11 @@
-ghost use Rattle.std.specs.Prelude.{◌≡◌, ◌≤◌, ◌<◌, ℕ, List, length, OnOk, OnErr};
+ghost use Rattle.std.specs.Prelude.{◌≡◌, ◌≤◌, ◌<◌, length, OnOk, OnErr};
 ghost use Rattle.conn_serve.specs.Ends.{Cut, Sent, sink_at};
 ghost use Rattle.ledger_core.specs.declared.reply.LedgerReply.TheVariants as says;
 ghost use Rattle.std.specs.Prelude.{◌++◌, decimal};
 ghost use Rattle.sidecar_core.specs.Did.{IsPassOf};
 ghost use Rattle.sidecar_core.specs.Pass.{cells_of, seats_of};
 ghost use Rattle.sidecar_core.specs.Sites.{is_pubsub};
-ghost use Rattle.sidecar_cli.specs.Counting.{counts_line, IsCountedOf, IsTold};
+ghost use Rattle.sidecar_cli.specs.Counting.{counts_line, IsTold, IsToldOf};
 ghost use Rattle.sidecar_cli.specs.Note.{IsNoted};
 
 use crate::noting::part;
@@ -66,7 +66,7 @@ fn tell_ledger<K: Keeper, E: Sink, W: Wait>(
 ) -> Option<u64>
     requires pass { IsPassOf (cells_of shared.now.objects) (seats_of pass.old) }
     requires place { place < length shared.now.objects.ledgers.items }
-    ensures { (text : List ℕ) × IsCountedOf ⟦<Store<K> as ObjectKinds>⟧.kinds (cells_of shared.now.objects) name.now place (seats_of pass.old) text result (seats_of pass.new) × IsNoted (sink_at E.Sink note.old) (sink_at E.Sink note.new) text }
+    ensures { IsToldOf ⟦<Store<K> as ObjectKinds>⟧.kinds (cells_of shared.now.objects) name.now place (seats_of pass.old) (seats_of pass.new) (sink_at E.Sink note.old) (sink_at E.Sink note.new) result }
 {
     match shared.counts(rt, place, pass) {
         Ok(reply) => {

@@ -1,14 +1,13 @@
 ghost use Rattle.std.specs.Prelude.{◌≡◌, ◌∷◌, [], ℕ, length, map};
 ghost use Rattle.side_world.specs.Told.{Tells};
 ghost use Rattle.state_core.specs.Store.{keeper_of};
-ghost use Rattle.conn_serve.specs.Ends.{sink_at};
 ghost use Rattle.sidecar_core.specs.Did.{IsLone, IsPassOf, IsSoundPass};
 ghost use Rattle.sidecar_core.specs.Pass.{cells_of, seats_of};
 ghost use Rattle.sidecar_core.specs.Started.{IsRoomFor};
 ghost use Rattle.sidecar_keepers.specs.Kinds.{AllFit};
 ghost use Rattle.sidecar_keepers.specs.Stores.{stores_of};
-ghost use Rattle.sidecar_cli.specs.Play.{IsBegun, IsClosed, IsFinished, IsKept, IsPlay, IsServed, IsSession};
-ghost use Rattle.sidecar_cli.specs.World.{outside_at, world_at};
+ghost use Rattle.sidecar_cli.specs.Play.{IsBegun, IsClosed, IsFinished, IsKept, IsPlay, IsServedBy, IsSession};
+ghost use Rattle.sidecar_cli.specs.World.{OverOutside, OverWorld, outside_at, words_by};
 
 use crate::configuring::{configured, without_resources};
 use crate::counting::tell_ledgers;
@@ -16,7 +15,6 @@ use crate::starting::start_objects;
 use crate::status::status_after;
 use crate::{Status, World};
 use conn_serve::{Buffers, Ended};
-use keeper_core::Keeper;
 use keeper_journal::AnyKeeper;
 use rand_core::{Rng, SeedableRng};
 use rand_pcg::Pcg64;
@@ -36,7 +34,7 @@ pub(crate) fn play<S: Source, N: Sink, E: Sink, F: Files, L: Link, C: Clock, O: 
     given: Words,
     world: &mut World<S, N, E, F, L, C, O>,
 ) -> Status
-    ensures { IsPlay O.Disk.Disk ⟦<AnyKeeper<O::Disk> as Keeper>⟧ ⟦<Store<AnyKeeper<O::Disk>> as ObjectKinds>⟧.kinds (λ n. ⟦<Pcg64 as Rng>⟧.stream (⟦<Pcg64 as SeedableRng>⟧.of_seed (⟦<Pcg64 as SeedableRng>⟧.seed_of_u64 n))) given (world_at S.Source N.Sink E.Sink F.Files L.Link C.Clock O.Outside world.old) (world_at S.Source N.Sink E.Sink F.Files L.Link C.Clock O.Outside world.new) result }
+    ensures { OverWorld S.Source N.Sink E.Sink F.Files L.Link C.Clock O.Outside (IsPlay ⟦<Store<AnyKeeper<O::Disk>> as ObjectKinds>⟧.kinds (words_by ⟦<Pcg64 as Rng>⟧ ⟦<Pcg64 as SeedableRng>⟧) given) world.old world.new result }
 {
     let (seed, secret) = start_numbers(&mut world.outside);
     let mut rng = words_from(seed);
@@ -59,7 +57,7 @@ fn start_numbers<O: Outside>(outside: &mut O) -> (u64, [u8; 16])
 
 /// The random words that begin from a number.
 fn words_from(seed: u64) -> Pcg64
-    ensures { ⟦<Pcg64 as Rng>⟧.stream result ≡ ⟦<Pcg64 as Rng>⟧.stream (⟦<Pcg64 as SeedableRng>⟧.of_seed (⟦<Pcg64 as SeedableRng>⟧.seed_of_u64 seed)) }
+    ensures { ⟦<Pcg64 as Rng>⟧.stream result ≡ words_by ⟦<Pcg64 as Rng>⟧ ⟦<Pcg64 as SeedableRng>⟧ seed }
 {
     Pcg64::seed_from_u64(seed)
 }
@@ -73,7 +71,7 @@ fn begin<S: Source, N: Sink, E: Sink, F: Files, L: Link, C: Clock, O: Outside, R
     rng: &mut R,
     world: &mut World<S, N, E, F, L, C, O>,
 ) -> Status
-    ensures { IsBegun O.Disk.Disk ⟦<AnyKeeper<O::Disk> as Keeper>⟧ ⟦<Store<AnyKeeper<O::Disk>> as ObjectKinds>⟧.kinds given (R.stream rng.old) (world_at S.Source N.Sink E.Sink F.Files L.Link C.Clock O.Outside world.old) (world_at S.Source N.Sink E.Sink F.Files L.Link C.Clock O.Outside world.new) result }
+    ensures { OverWorld S.Source N.Sink E.Sink F.Files L.Link C.Clock O.Outside (IsBegun ⟦<Store<AnyKeeper<O::Disk>> as ObjectKinds>⟧.kinds given (R.stream rng.old)) world.old world.new result }
 {
     match configured(alloc, &mut world.files, &given.resources, &given.app) {
         Ok(resources) => {
@@ -98,7 +96,7 @@ fn keep<S: Source, N: Sink, E: Sink, F: Files, L: Link, C: Clock, O: Outside, R:
     rng: &mut R,
     world: &mut World<S, N, E, F, L, C, O>,
 ) -> Status
-    ensures { IsKept O.Disk.Disk ⟦<AnyKeeper<O::Disk> as Keeper>⟧ ⟦<Store<AnyKeeper<O::Disk>> as ObjectKinds>⟧.kinds config (R.stream rng.old) (world_at S.Source N.Sink E.Sink F.Files L.Link C.Clock O.Outside world.old) (world_at S.Source N.Sink E.Sink F.Files L.Link C.Clock O.Outside world.new) result }
+    ensures { OverWorld S.Source N.Sink E.Sink F.Files L.Link C.Clock O.Outside (IsKept ⟦<Store<AnyKeeper<O::Disk>> as ObjectKinds>⟧.kinds config (R.stream rng.old)) world.old world.new result }
 {
     match start_objects(alloc, config, secret, &mut world.outside) {
         Ok(up) => session(rt, alloc, up.shared, up.pass, up.room, rng, world),
@@ -121,7 +119,7 @@ fn session<S: Source, N: Sink, E: Sink, F: Files, L: Link, C: Clock, O: Outside,
     requires sound { IsSoundPass ⟦<Store<AnyKeeper<O::Disk>> as ObjectKinds>⟧.kinds (cells_of shared.objects) (seats_of pass) }
     requires room { IsRoomFor (length shared.objects.stores.items) room }
     requires fit { AllFit (stores_of shared.config.components) (map (λ cell. keeper_of cell.first) shared.objects.stores.items) }
-    ensures { IsSession O.Disk.Disk ⟦<AnyKeeper<O::Disk> as Keeper>⟧ ⟦<Store<AnyKeeper<O::Disk>> as ObjectKinds>⟧.kinds shared.config shared.objects pass (R.stream rng.old) (world_at S.Source N.Sink E.Sink F.Files L.Link C.Clock O.Outside world.old) (world_at S.Source N.Sink E.Sink F.Files L.Link C.Clock O.Outside world.new) result }
+    ensures { OverWorld S.Source N.Sink E.Sink F.Files L.Link C.Clock O.Outside (IsSession ⟦<Store<AnyKeeper<O::Disk>> as ObjectKinds>⟧.kinds shared.config shared.objects pass (R.stream rng.old)) world.old world.new result }
 {
     let ended = served(rt, alloc, &shared, &mut pass, rng, world);
     let spent = finish(rt, shared, pass, room, &mut world.note, &mut world.outside);
@@ -138,7 +136,7 @@ fn served<S: Source, N: Sink, E: Sink, F: Files, L: Link, C: Clock, O: Outside, 
     world: &mut World<S, N, E, F, L, C, O>,
 ) -> Ended
     requires { IsPassOf (cells_of shared.now.objects) (seats_of pass.old) }
-    ensures served { IsServed O.Disk.Disk ⟦<AnyKeeper<O::Disk> as Keeper>⟧ ⟦<Store<AnyKeeper<O::Disk>> as ObjectKinds>⟧.kinds shared.now.config shared.now.objects pass.old pass.new (R.stream rng.old) (world_at S.Source N.Sink E.Sink F.Files L.Link C.Clock O.Outside world.old) (world_at S.Source N.Sink E.Sink F.Files L.Link C.Clock O.Outside world.new) result }
+    ensures served { OverWorld S.Source N.Sink E.Sink F.Files L.Link C.Clock O.Outside (IsServedBy ⟦<Store<AnyKeeper<O::Disk>> as ObjectKinds>⟧.kinds shared.now pass.old pass.new (R.stream rng.old)) world.old world.new result }
     ensures pass { IsPassOf (cells_of shared.now.objects) (seats_of pass.new) }
 {
     let mut buffers = Buffers::new(alloc);
@@ -170,7 +168,7 @@ pub(crate) fn finish<E: Sink, O: Outside, W: Wait>(
     requires sound { IsSoundPass ⟦<Store<AnyKeeper<O::Disk>> as ObjectKinds>⟧.kinds (cells_of shared.objects) (seats_of pass) }
     requires room { IsRoomFor (length shared.objects.stores.items) room }
     requires fit { AllFit (stores_of shared.config.components) (map (λ cell. keeper_of cell.first) shared.objects.stores.items) }
-    ensures { IsFinished O.Disk.Disk ⟦<AnyKeeper<O::Disk> as Keeper>⟧ ⟦<Store<AnyKeeper<O::Disk>> as ObjectKinds>⟧.kinds shared.config shared.objects pass (sink_at E.Sink note.old) (sink_at E.Sink note.new) (outside_at O.Outside outside.old) (outside_at O.Outside outside.new) result }
+    ensures { OverOutside E.Sink O.Outside (IsFinished ⟦<Store<AnyKeeper<O::Disk>> as ObjectKinds>⟧.kinds shared.config shared.objects pass) note.old note.new outside.old outside.new result }
 {
     let shown = pass.spent();
     let counted = tell_ledgers(rt, &shared, &mut pass, note);
@@ -188,7 +186,7 @@ pub(crate) fn close<O: Outside>(
     requires lone { IsLone (cells_of shared.objects) (seats_of pass) }
     requires room { IsRoomFor (length shared.objects.stores.items) room }
     requires fit { AllFit (stores_of shared.config.components) (map (λ cell. keeper_of cell.first) shared.objects.stores.items) }
-    ensures closed { IsClosed O.Disk.Disk ⟦<AnyKeeper<O::Disk> as Keeper>⟧ ⟦<Store<AnyKeeper<O::Disk>> as ObjectKinds>⟧.kinds shared.config shared.objects pass (outside_at O.Outside outside.old) (outside_at O.Outside outside.new) }
+    ensures closed { IsClosed ⟦<Store<AnyKeeper<O::Disk>> as ObjectKinds>⟧.kinds shared.config shared.objects pass (outside_at O.Outside outside.old) (outside_at O.Outside outside.new) }
 {
     let (config, keepers) = shared.close(pass, room);
     give_back(&config.components, keepers, outside);

@@ -1,12 +1,11 @@
 ghost use Rattle.std.specs.Prelude.{◌<◌};
 ghost use Rattle.sidecar_cli.specs.Run.{IsCommand, IsMain, IsRun};
-ghost use Rattle.sidecar_cli.specs.World.{world_at};
+ghost use Rattle.sidecar_cli.specs.World.{OverWorld, words_by};
 
 use crate::checking::check;
 use crate::playing::play;
 use crate::serving::serve_port;
 use crate::{Status, World};
-use keeper_core::Keeper;
 use keeper_journal::AnyKeeper;
 use rand_core::{Rng, SeedableRng};
 use rand_pcg::Pcg64;
@@ -33,7 +32,7 @@ pub fn sidecar_main<
     O: Outside,
     W: Threads + Wait + Sync,
 >(rt: &W, alloc: Global, words: &[Text], world: &mut World<S, N, E, F, L, C, O>) -> Status
-    ensures { IsMain O.Disk.Disk ⟦<AnyKeeper<O::Disk> as Keeper>⟧ ⟦<Store<AnyKeeper<O::Disk>> as ObjectKinds>⟧.kinds (λ n. ⟦<Pcg64 as Rng>⟧.stream (⟦<Pcg64 as SeedableRng>⟧.of_seed (⟦<Pcg64 as SeedableRng>⟧.seed_of_u64 n))) words.now (world_at S.Source N.Sink E.Sink F.Files L.Link C.Clock O.Outside world.old) (world_at S.Source N.Sink E.Sink F.Files L.Link C.Clock O.Outside world.new) result }
+    ensures { OverWorld S.Source N.Sink E.Sink F.Files L.Link C.Clock O.Outside (IsMain ⟦<Store<AnyKeeper<O::Disk>> as ObjectKinds>⟧.kinds (words_by ⟦<Pcg64 as Rng>⟧ ⟦<Pcg64 as SeedableRng>⟧) words.now) world.old world.new result }
 {
     let status = run(rt, alloc, words, world);
     status.tell(&mut world.note);
@@ -51,7 +50,7 @@ fn run<
     O: Outside,
     W: Threads + Wait + Sync,
 >(rt: &W, alloc: Global, words: &[Text], world: &mut World<S, N, E, F, L, C, O>) -> Status
-    ensures { IsRun O.Disk.Disk ⟦<AnyKeeper<O::Disk> as Keeper>⟧ ⟦<Store<AnyKeeper<O::Disk>> as ObjectKinds>⟧.kinds (λ n. ⟦<Pcg64 as Rng>⟧.stream (⟦<Pcg64 as SeedableRng>⟧.of_seed (⟦<Pcg64 as SeedableRng>⟧.seed_of_u64 n))) words.now (world_at S.Source N.Sink E.Sink F.Files L.Link C.Clock O.Outside world.old) (world_at S.Source N.Sink E.Sink F.Files L.Link C.Clock O.Outside world.new) result }
+    ensures { OverWorld S.Source N.Sink E.Sink F.Files L.Link C.Clock O.Outside (IsRun ⟦<Store<AnyKeeper<O::Disk>> as ObjectKinds>⟧.kinds (words_by ⟦<Pcg64 as Rng>⟧ ⟦<Pcg64 as SeedableRng>⟧) words.now) world.old world.new result }
 {
     match read_words(alloc, words) {
         Ok(given) => command(rt, alloc, given, world),
@@ -72,7 +71,7 @@ fn command<
     W: Threads + Wait + Sync,
 >(rt: &W, alloc: Global, given: Words, world: &mut World<S, N, E, F, L, C, O>) -> Status
     requires { given.workers < 65535 }
-    ensures { IsCommand O.Disk.Disk ⟦<AnyKeeper<O::Disk> as Keeper>⟧ ⟦<Store<AnyKeeper<O::Disk>> as ObjectKinds>⟧.kinds (λ n. ⟦<Pcg64 as Rng>⟧.stream (⟦<Pcg64 as SeedableRng>⟧.of_seed (⟦<Pcg64 as SeedableRng>⟧.seed_of_u64 n))) given (world_at S.Source N.Sink E.Sink F.Files L.Link C.Clock O.Outside world.old) (world_at S.Source N.Sink E.Sink F.Files L.Link C.Clock O.Outside world.new) result }
+    ensures { OverWorld S.Source N.Sink E.Sink F.Files L.Link C.Clock O.Outside (IsCommand ⟦<Store<AnyKeeper<O::Disk>> as ObjectKinds>⟧.kinds (words_by ⟦<Pcg64 as Rng>⟧ ⟦<Pcg64 as SeedableRng>⟧) given) world.old world.new result }
 {
     match given.mode {
         Mode::Stdio => play(rt, alloc, given, world),

@@ -1,6 +1,5 @@
-ghost use Rattle.std.specs.Prelude.{◌≡◌, ◌<◌, ◌++◌, ◌∷◌, ℕ, List, [], IfOk, OnErr, length, map};
+ghost use Rattle.std.specs.Prelude.{◌≡◌, ◌<◌, ℕ, List, IfOk, OnErr, length, map};
 ghost use Rattle.rand_core.specs.Stream.{Stream};
-ghost use Rattle.conn_serve.specs.Ends.{sink_at};
 ghost use Rattle.side_world.specs.Told.{Tells};
 ghost use Rattle.state_core.specs.Store.{keeper_of};
 ghost use Rattle.sidecar_core.specs.Did.{IsLone, IsPassOf, IsSoundPass};
@@ -9,14 +8,13 @@ ghost use Rattle.sidecar_core.specs.Started.{IsRoomFor};
 ghost use Rattle.sidecar_keepers.specs.Kinds.{AllFit};
 ghost use Rattle.sidecar_keepers.specs.Stores.{stores_of};
 ghost use Rattle.sidecar_serving.specs.Passes.{root_pass};
-ghost use Rattle.sidecar_cli.specs.Serve.{IsBegunServing, IsKeptServing, IsServe, IsServing, refusal_of, spent_at, status_after_serving, status_at};
-ghost use Rattle.sidecar_cli.specs.World.{outside_at, world_at};
+ghost use Rattle.sidecar_cli.specs.Serve.{AsksForStreams, IsBegunServing, IsKeptServing, IsServe, IsServing, refusal_of, spent_at, status_after_serving, status_at};
+ghost use Rattle.sidecar_cli.specs.World.{OverOutside, OverWorld, words_by};
 
 use crate::configuring::{configured, without_resources};
 use crate::playing::{close, finish, secret};
 use crate::starting::{Started, start_objects};
 use crate::{Device, Status, World};
-use keeper_core::Keeper;
 use keeper_journal::AnyKeeper;
 use rand_core::{Rng, SeedableRng};
 use rand_pcg::Pcg64;
@@ -50,7 +48,7 @@ pub(crate) fn serve_port<
     W: Threads + Wait + Sync,
 >(rt: &W, alloc: Global, given: Words, world: &mut World<S, N, E, F, L, C, O>) -> Status
     requires { given.workers < 65535 }
-    ensures { IsServe O.Disk.Disk ⟦<AnyKeeper<O::Disk> as Keeper>⟧ ⟦<Store<AnyKeeper<O::Disk>> as ObjectKinds>⟧.kinds (λ n. ⟦<Pcg64 as Rng>⟧.stream (⟦<Pcg64 as SeedableRng>⟧.of_seed (⟦<Pcg64 as SeedableRng>⟧.seed_of_u64 n))) given (world_at S.Source N.Sink E.Sink F.Files L.Link C.Clock O.Outside world.old) (world_at S.Source N.Sink E.Sink F.Files L.Link C.Clock O.Outside world.new) result }
+    ensures { OverWorld S.Source N.Sink E.Sink F.Files L.Link C.Clock O.Outside (IsServe ⟦<Store<AnyKeeper<O::Disk>> as ObjectKinds>⟧.kinds (words_by ⟦<Pcg64 as Rng>⟧ ⟦<Pcg64 as SeedableRng>⟧) given) world.old world.new result }
 {
     match worker_numbers(alloc, given.workers, &mut world.outside) {
         Ok(numbers) => begin(rt, alloc, given, numbers.secret, numbers.rngs, world),
@@ -64,7 +62,7 @@ fn worker_numbers<O: Outside>(
     workers: u32,
     outside: &mut O,
 ) -> Result<Numbers, NoMemory>
-    ensures asked { IfOk result (λ numbers. (seeds : List ℕ) × (one : ℕ) × (other : ℕ) × (length seeds ≡ workers) × (map (λ rng. ⟦<Pcg64 as Rng>⟧.stream rng) numbers.rngs.items ≡ map (λ n. ⟦<Pcg64 as Rng>⟧.stream (⟦<Pcg64 as SeedableRng>⟧.of_seed (⟦<Pcg64 as SeedableRng>⟧.seed_of_u64 n))) seeds) × Tells (O.numbers outside.old) (O.numbers outside.new) (seeds ++ one ∷ other ∷ [])) }
+    ensures asked { IfOk result (λ numbers. AsksForStreams (words_by ⟦<Pcg64 as Rng>⟧ ⟦<Pcg64 as SeedableRng>⟧) workers (map (λ rng. ⟦<Pcg64 as Rng>⟧.stream rng) numbers.rngs.items) (O.numbers outside.old) (O.numbers outside.new)) }
     ensures disks { O.disks outside.new ≡ O.disks outside.old }
     ensures calls { O.calls outside.new ≡ O.calls outside.old }
     ensures backs { O.backs outside.new ≡ O.backs outside.old }
@@ -120,7 +118,7 @@ fn begin<
     world: &mut World<S, N, E, F, L, C, O>,
 ) -> Status
     requires { length rngs.items < 65535 }
-    ensures { IsBegunServing O.Disk.Disk ⟦<AnyKeeper<O::Disk> as Keeper>⟧ ⟦<Store<AnyKeeper<O::Disk>> as ObjectKinds>⟧.kinds given (map R.stream rngs.items) (world_at S.Source N.Sink E.Sink F.Files L.Link C.Clock O.Outside world.old) (world_at S.Source N.Sink E.Sink F.Files L.Link C.Clock O.Outside world.new) result }
+    ensures { OverWorld S.Source N.Sink E.Sink F.Files L.Link C.Clock O.Outside (IsBegunServing ⟦<Store<AnyKeeper<O::Disk>> as ObjectKinds>⟧.kinds given (map R.stream rngs.items)) world.old world.new result }
 {
     let port = given.port;
     match configured(alloc, &mut world.files, &given.resources, &given.app) {
@@ -158,7 +156,7 @@ fn keep<E: Sink, O: Outside, R: Rng + Drop + Send, W: Threads + Wait + Sync>(
     outside: &mut O,
 ) -> Status
     requires { length rngs.items < 65535 }
-    ensures { IsKeptServing O.Disk.Disk ⟦<AnyKeeper<O::Disk> as Keeper>⟧ ⟦<Store<AnyKeeper<O::Disk>> as ObjectKinds>⟧.kinds config port (map R.stream rngs.items) (sink_at E.Sink note.old) (sink_at E.Sink note.new) (outside_at O.Outside outside.old) (outside_at O.Outside outside.new) result }
+    ensures { OverOutside E.Sink O.Outside (IsKeptServing ⟦<Store<AnyKeeper<O::Disk>> as ObjectKinds>⟧.kinds config port (map R.stream rngs.items)) note.old note.new outside.old outside.new result }
 {
     match start_objects(alloc, config, secret, outside) {
         Ok(up) => serve_over(
@@ -185,7 +183,7 @@ fn serve_over<E: Sink, O: Outside, R: Rng + Drop + Send, W: Threads + Wait + Syn
     requires sound { IsSoundPass ⟦<Store<AnyKeeper<O::Disk>> as ObjectKinds>⟧.kinds (cells_of shared.objects) (seats_of pass) }
     requires room { IsRoomFor (length shared.objects.stores.items) room }
     requires fit { AllFit (stores_of shared.config.components) (map (λ cell. keeper_of cell.first) shared.objects.stores.items) }
-    ensures { IsServing O.Disk.Disk ⟦<AnyKeeper<O::Disk> as Keeper>⟧ ⟦<Store<AnyKeeper<O::Disk>> as ObjectKinds>⟧.kinds shared.config shared.objects pass port (map R.stream rngs.items) (sink_at E.Sink note.old) (sink_at E.Sink note.new) (outside_at O.Outside outside.old) (outside_at O.Outside outside.new) result }
+    ensures { OverOutside E.Sink O.Outside (IsServing ⟦<Store<AnyKeeper<O::Disk>> as ObjectKinds>⟧.kinds shared.config shared.objects pass port (map R.stream rngs.items)) note.old note.new outside.old outside.new result }
 {
     let end = serve(
         rt, alloc, &shared, &mut pass, port, rngs, &FreeGate, outside,

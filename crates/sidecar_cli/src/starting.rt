@@ -38,7 +38,7 @@ pub(crate) fn start_objects<O: Outside>(
     outside: &mut O,
 ) -> Result<Started<AnyKeeper<O::Disk>>, Status>
     ensures same { IfOk result (λ up. up.shared.config ≡ config) }
-    ensures up { IfOk result (λ up. IsUp O.Disk.Disk ⟦<AnyKeeper<O::Disk> as Keeper>⟧ ⟦<Store<AnyKeeper<O::Disk>> as ObjectKinds>⟧.kinds config (outside_at O.Outside outside.old) (outside_at O.Outside outside.new) up.shared.objects up.pass) }
+    ensures up { IfOk result (λ up. IsUp ⟦<Store<AnyKeeper<O::Disk>> as ObjectKinds>⟧.kinds config (outside_at O.Outside outside.old) (outside_at O.Outside outside.new) up.shared.objects up.pass) }
     ensures pass { IfOk result (λ up. IsPassOf (cells_of up.shared.objects) (seats_of up.pass)) }
     ensures lone { IfOk result (λ up. IsLone (cells_of up.shared.objects) (seats_of up.pass)) }
     ensures sound { IfOk result (λ up. IsSoundPass ⟦<Store<AnyKeeper<O::Disk>> as ObjectKinds>⟧.kinds (cells_of up.shared.objects) (seats_of up.pass)) }

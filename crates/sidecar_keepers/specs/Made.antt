@@ -1,5 +1,5 @@
 -- Keepers as a start makes them, over the disks that are told before it and after it.
-use Rattle.std.specs.Prelude.{◌≡◌, ◌≢◌, ℕ, List, [], ◌∷◌, Option, Some, None}
+use Rattle.std.specs.Prelude.{◌≡◌, ◌≢◌, ℕ, List, [], ◌∷◌, ◌++◌, Option, Some, None}
 use Rattle.std.specs.FinMap.{empty}
 use Rattle.side_world.specs.declared.disk.Disk.{Ghosts}
 use Rattle.side_world.specs.Outside.{Disks, IsNewDisk, IsTaken}
@@ -59,3 +59,7 @@ module _ {D : Type 0} (disking : Ghosts D) where
   AreMade (c ∷ stores) (keeper ∷ keepers) before after = (mid : Option Disks) × IsMade c keeper before mid × AreMade stores keepers mid after
   AreMade [] (keeper ∷ keepers) before after = ⊥
   AreMade (c ∷ stores) [] before after = ⊥
+
+  -- behind the keepers that were there stands one of each of these components, made in order
+  abbrev pub HasMadeMore : List Loaded → List (AnyKeeper D disking) → List (AnyKeeper D disking) → Option Disks → Option Disks → Type 0
+  HasMadeMore stores keepers keepers' before after = (added : List (AnyKeeper D disking)) × (keepers' ≡ keepers ++ added) × AreMade stores added before after

@@ -5,10 +5,13 @@ use Rattle.side_world.specs.declared.disk.Disk.{Ghosts as Keeps}
 use Rattle.keeper_core.specs.declared.changes.Changes.{Changes}
 use Rattle.keeper_core.specs.declared.keeper.Keeper.{Ghosts}
 use Rattle.keeper_core.specs.Commits.{HasMade}
+use Rattle.keeper_journal.specs.declared.any_keeper.AnyKeeper.{AnyKeeper}
 use Rattle.keeper_journal.specs.History.{IsHistory}
 use Rattle.keeper_journal.specs.Run.{HasAtMostOneMore}
 use Rattle.resource_spec.specs.Component.{Loaded}
 use Rattle.resource_spec.specs.Load.{journal_of}
+use Rattle.sidecar_keepers.specs.Given.{AreBack}
+use Rattle.sidecar_keepers.specs.Made.{AreMade}
 use Rattle.sidecar_keepers.specs.Stores.{paths_of}
 
 -- the commits that a file says where a journal is opened: one of no bytes says none
@@ -60,3 +63,12 @@ pub record IsHeldAfter (stores : List Loaded) (held held' : Disks) (made : List 
 -- disks that always tell what a read gives, as those in memory do
 abbrev pub TellAlways : {D : Type 0} → Keeps D → Type 0
 TellAlways {D} disking = (disk : D) → (bytes : List ℕ) × (disking.contents disk ≡ Some bytes)
+
+module _ {D : Type 0} (disking : Keeps D) (keeping : Ghosts (AnyKeeper D disking)) where
+  -- Where keepers were made, over disks that always tell and journals with paths of their own, made these commits and gave their disks back, what is held then is what
+  -- is held after a run of these stores
+  abbrev pub FilesHaveWhatWasMade : Type 0
+  FilesHaveWhatWasMade =
+      (stores : List Loaded) (firsts lasts : List (AnyKeeper D disking)) (made : List (List Changes)) (before mid after : Option Disks)
+      → AreApart (paths_of stores) → TellAlways disking → AreMade disking stores firsts before mid → HaveMade keeping firsts lasts made → AreBack disking stores lasts mid after
+      → (held' : Disks) → after ≡ Some held' → (held : Disks) × (before ≡ Some held) × IsHeldAfter stores held held' made

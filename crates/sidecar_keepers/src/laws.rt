@@ -1,15 +1,14 @@
 //! What holds of the keepers of a run and of their disks, as functions whose contract is the law.
-ghost use Rattle.std.specs.Prelude.{◌≡◌, ℕ, List, Option, Some, IfOk};
+ghost use Rattle.std.specs.Prelude.{ℕ, List, Option, IfOk};
 ghost use Rattle.side_world.specs.Outside.{Disks};
 ghost use Rattle.keeper_core.specs.declared.changes.Changes.{Changes};
 ghost use Rattle.keeper_journal.specs.declared.any_keeper.AnyKeeper.{AnyKeeper};
 ghost use Rattle.resource_spec.specs.Component.{Loaded};
 ghost use Rattle.resource_spec.specs.Load.{loaded, joined};
 ghost use Rattle.yaml_subset.specs.Trees.{Trees};
-ghost use Rattle.sidecar_keepers.specs.Given.{AreBack};
 ghost use Rattle.sidecar_keepers.specs.Kinds.{AllFit};
 ghost use Rattle.sidecar_keepers.specs.Made.{AreMade};
-ghost use Rattle.sidecar_keepers.specs.Runs.{AreApart, HaveMade, IsHeldAfter, TellAlways};
+ghost use Rattle.sidecar_keepers.specs.Runs.{AreApart, FilesHaveWhatWasMade, HaveMade};
 ghost use Rattle.sidecar_keepers.specs.Stores.{paths_of};
 
 use keeper_core::Keeper;
@@ -25,7 +24,7 @@ pub fn keepers_keep_their_kinds<D: Disk>()
 /// The file of each journal holds after a run what it said when the journal was opened, then the commits that were made, in order, and
 /// then at most one more; at other paths all is as it was. The paths differ, and the disks tell what a read gives.
 pub fn files_have_what_was_made<D: Disk>()
-    ensures { (stores : List Loaded) (firsts lasts : List (AnyKeeper D D.Disk)) (made : List (List Changes)) (before mid after : Option Disks) → AreApart (paths_of stores) → TellAlways D.Disk → AreMade D.Disk stores firsts before mid → HaveMade ⟦<AnyKeeper<D> as Keeper>⟧ firsts lasts made → AreBack D.Disk stores lasts mid after → (held' : Disks) → after ≡ Some held' → (held : Disks) × (before ≡ Some held) × IsHeldAfter stores held held' made }
+    ensures { FilesHaveWhatWasMade D.Disk ⟦<AnyKeeper<D> as Keeper>⟧ }
 {}
 
 /// The paths of journals that are loaded differ.

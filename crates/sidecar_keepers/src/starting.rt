@@ -1,10 +1,9 @@
-ghost use Rattle.std.specs.Prelude.{◌≡◌, ◌≤◌, ◌<◌, ◌+◌, ◌++◌, ◌∷◌, ℕ, List, [], vec_len, IfOk, IfErr, OnOk, OnErr};
+ghost use Rattle.std.specs.Prelude.{◌≡◌, ◌≤◌, ◌<◌, ◌+◌, ◌∷◌, ℕ, [], vec_len, IfOk, IfErr, OnOk, OnErr};
 ghost use Rattle.std.specs.Vec.{vec_capacity};
 ghost use Rattle.side_world.specs.Told.{Tells};
-ghost use Rattle.keeper_journal.specs.declared.any_keeper.AnyKeeper.{AnyKeeper as AnyKeeperRecord};
 ghost use Rattle.disk_journal.specs.declared.error.JournalErr.TheVariants.{Full};
 ghost use Rattle.sidecar_keepers.specs.Stores.{stores_of, takes_of};
-ghost use Rattle.sidecar_keepers.specs.Made.{IsNewInMemory, IsOpened, AreMade};
+ghost use Rattle.sidecar_keepers.specs.Made.{IsNewInMemory, IsOpened, AreMade, HasMadeMore};
 ghost use Rattle.sidecar_keepers.specs.Refused.{Counts, IsAnswerTo, IsCause, IsRefused};
 
 use disk_journal::JournalErr;
@@ -77,7 +76,7 @@ fn add_keeper<O: Outside>(
     keepers: &mut Vec<AnyKeeper<O::Disk>>,
 ) -> Result<(), KeepersErr>
     requires room { vec_len keepers.old < vec_capacity keepers.old }
-    ensures made { OnOk result ((added : List (AnyKeeperRecord O.Disk O.Disk.Disk)) × (keepers.new.items ≡ keepers.old.items ++ added) × AreMade O.Disk.Disk (stores_of (component.now ∷ [])) added (O.disks outside.old) (O.disks outside.new)) }
+    ensures made { OnOk result (HasMadeMore O.Disk.Disk (stores_of (component.now ∷ [])) keepers.old.items keepers.new.items (O.disks outside.old) (O.disks outside.new)) }
     ensures long { vec_len keepers.new ≤ vec_len keepers.old + 1 }
     ensures capacity { vec_capacity keepers.old ≤ vec_capacity keepers.new }
     ensures takes { Tells (O.calls outside.old) (O.calls outside.new) (takes_of (component.now ∷ [])) }

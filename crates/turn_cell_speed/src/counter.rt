@@ -9,7 +9,7 @@ use turn_cell::Object;
 const HOLD_MS: u64 = 20;
 
 /// Some work: so many rounds of a few instructions, each of which waits for the one before. A round takes some 2.5 nanoseconds.
-pub fn rounds(value: u64, count: u32) -> u64 {
+pub(crate) fn rounds(value: u64, count: u32) -> u64 {
     let mut value = value;
     for _ in 0..count {
         value ^= value << 13;
@@ -21,7 +21,7 @@ pub fn rounds(value: u64, count: u32) -> u64 {
 
 /// What a counter does.
 #[derive(Clone, Copy)]
-pub enum Step {
+pub(crate) enum Step {
     /// It adds the amount, and works for so many rounds.
     Work { amount: u64, rounds: u32 },
     /// It sleeps.
@@ -30,21 +30,21 @@ pub enum Step {
 
 /// A counter whose step takes as long as it is told.
 #[derive(Drop)]
-pub struct Counter {
+pub(crate) struct Counter {
     value: u64,
     steps: u64,
 }
 
 impl Counter {
     /// A counter at 1.
-    pub fn new() -> Counter
+    pub(crate) fn new() -> Counter
         ensures { result.steps ≡ 0 }
     {
         Counter { value: 1, steps: 0 }
     }
 
     /// Makes the step, and returns the value.
-    pub fn make(&mut self, step: &Step) -> u64
+    pub(crate) fn make(&mut self, step: &Step) -> u64
         ensures { self.old.steps < 2 ^ 62 → self.new.steps ≡ self.old.steps + 1 }
     {
         match step {

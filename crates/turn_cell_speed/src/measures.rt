@@ -133,7 +133,7 @@ fn pace_of(row: Pace, calls: u32, threads: u8) -> Pace {
 }
 
 /// Cells beside mutexes, with so many threads, at each of these paces; the calls of all threads, and of a row how often as many.
-pub fn beside<R: Threads + Wait + Sync + Clock + Eprint>(
+pub(crate) fn beside<R: Threads + Wait + Sync + Clock + Eprint>(
     rt: &R,
     alloc: Global,
     threads: u8,
@@ -165,7 +165,7 @@ fn tell_held<R: Eprint>(rt: &R, took: u64, burnt: u64) -> io::Result<()> {
 }
 
 /// Eight threads, of which one holds its turn and seven wait.
-pub fn held<R: Threads + Wait + Sync + Clock + CpuClock + Eprint>(
+pub(crate) fn held<R: Threads + Wait + Sync + Clock + CpuClock + Eprint>(
     rt: &R,
     alloc: Global,
     clock: HostRuntime,

@@ -11,21 +11,21 @@ use turn_cell::{Seat, TurnCell};
 
 /// What a thread does: so many calls, and the rounds of work before each and in each.
 #[derive(Clone, Copy)]
-pub struct Pace {
-    pub calls: u32,
-    pub work: u32,
-    pub turn: u32,
+pub(crate) struct Pace {
+    pub(crate) calls: u32,
+    pub(crate) work: u32,
+    pub(crate) turn: u32,
 }
 
 /// Who makes steps: by a cell, or by a mutex.
-pub trait Caller {
+pub(crate) trait Caller {
     /// Makes a step that adds the amount; whether it was made.
     fn step<R: Wait>(&mut self, rt: &R, amount: u64, pace: Pace) -> bool;
 }
 
 /// A cell, a seat of it, and with a clock that the seat is to hold its turns.
 #[derive(Drop)]
-pub struct Place<'a> {
+pub(crate) struct Place<'a> {
     cell: &'a TurnCell<Counter>,
     seat: Seat<Counter>,
     hold: Option<HostRuntime>,
@@ -41,7 +41,7 @@ impl Caller for Place<'_> {
 
 /// A cell with its seat.
 #[derive(Drop)]
-pub struct Own {
+pub(crate) struct Own {
     cell: TurnCell<Counter>,
     seat: Seat<Counter>,
     ghost of_cell: { IsSeatOf cell seat },
@@ -88,7 +88,7 @@ fn hold_of(number: u8, hold: Option<HostRuntime>) -> Option<HostRuntime> {
 }
 
 /// So many places on the cell, of which the first holds its turns where it is given a clock.
-pub fn places<'a>(
+pub(crate) fn places<'a>(
     alloc: Global,
     cell: &'a TurnCell<Counter>,
     root: &mut Seat<Counter>,
@@ -114,7 +114,7 @@ fn fresh(alloc: Global) -> Result<Own, AllocError> {
 }
 
 /// So many new cells.
-pub fn owns(alloc: Global, count: u8) -> Result<Vec<Own>, AllocError> {
+pub(crate) fn owns(alloc: Global, count: u8) -> Result<Vec<Own>, AllocError> {
     let mut owns = Vec::new(alloc);
     for _ in 0..count {
         owns.push(fresh(alloc)?)?;
@@ -123,7 +123,7 @@ pub fn owns(alloc: Global, count: u8) -> Result<Vec<Own>, AllocError> {
 }
 
 /// So many new mutexes.
-pub fn locks(alloc: Global, count: u8) -> Result<Vec<Mutex<Counter>>, AllocError> {
+pub(crate) fn locks(alloc: Global, count: u8) -> Result<Vec<Mutex<Counter>>, AllocError> {
     let mut locks = Vec::new(alloc);
     for _ in 0..count {
         locks.push(Mutex::new(Counter::new()))?;
@@ -133,19 +133,19 @@ pub fn locks(alloc: Global, count: u8) -> Result<Vec<Mutex<Counter>>, AllocError
 
 /// The calls that a thread made.
 #[derive(Drop)]
-pub struct Calls {
-    pub made: u64,
+pub(crate) struct Calls {
+    pub(crate) made: u64,
     /// How many nanoseconds each took, where there is work between calls: a call by itself would be small beside two looks at the clock.
-    pub took: Vec<u64>,
+    pub(crate) took: Vec<u64>,
 }
 
 /// A time in nanoseconds.
-pub fn nanos(time: Duration) -> u64 {
+pub(crate) fn nanos(time: Duration) -> u64 {
     u64::try_from(time.as_nanos()).unwrap_or(u64::MAX)
 }
 
 /// What a clock shows, in nanoseconds; 0 where it fails.
-pub fn now<R: Clock>(rt: &R) -> u64 {
+pub(crate) fn now<R: Clock>(rt: &R) -> u64 {
     match rt.monotonic() {
         Ok(time) => nanos(time),
         Err(_) => 0,
@@ -183,7 +183,7 @@ fn step_of(hold: Option<HostRuntime>, amount: u64, pace: Pace) -> Step {
 }
 
 /// Makes steps as often as the pace says, or until one can't be made.
-pub fn often<R: Wait + Clock, C: Caller + Drop>(
+pub(crate) fn often<R: Wait + Clock, C: Caller + Drop>(
     rt: &R,
     alloc: Global,
     mut caller: C,
