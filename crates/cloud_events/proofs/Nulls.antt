@@ -3,15 +3,15 @@ use Rattle.std.proofs.Common.{◌≡◌, inl, inr, ℕ, suc, ◌+◌, Bool, true
 use Rattle.std.specs.Str.{bytes_eq}
 use Rattle.std.proofs.lemmas.Slice.Eq.{bytes_eq-Decides}
 use Rattle.std.proofs.lemmas.Bool.Decides.{eqb_tells}
-use Rattle.json_text.specs.declared.kind.Kind.{Kind}
-use Rattle.json_text.specs.declared.kind.Kind.TheVariants as kinds
+use Rattle.json_text.specs.Kind.{Kind}
+use Rattle.json_text.specs.Kind.TheVariants as kinds
 use Rattle.json_text.specs.declared.spot.Spot.{Spot}
 use Rattle.json_text.specs.declared.part.Bracket.{Bracket}
 use Rattle.json_text.specs.declared.part.Bracket.TheVariants as brackets
 use Rattle.json_text.specs.declared.part.Part.TheVariants.{Start as start}
-use Rattle.json_text.specs.declared.lexeme.Lexeme.{Lexeme}
-use Rattle.json_text.specs.declared.lexeme.Lexeme.TheVariants.{Letters as letters}
-use Rattle.json_text.specs.declared.lexeme.Lexeme.TheVariants as Lexemes
+use Rattle.json_text.specs.LexemeState.{Lexeme}
+use Rattle.json_text.specs.LexemeState.TheVariants.{Letters as letters}
+use Rattle.json_text.specs.LexemeState.TheVariants as Lexemes
 use Rattle.json_text.specs.Lexeme.{begins, ends, is_digit, next, done, more}
 use Rattle.json_text.specs.Forest.{Forest, empty, grows, one}
 use Rattle.json_text.specs.Grammar.{Completes, IsText, blank, word, nested, member_name, turn, close, finish, bracket_kind, closes, takes_name, takes_value, turns}

@@ -10,7 +10,7 @@ use Rattle.base64.specs.GeneralPurpose.{IsBytes, encode_of}
 use Rattle.base64.proofs.EngineFacts.{IsAscii-encode_of}
 use Rattle.json_text.specs.declared.spot.Spot.{Spot}
 use Rattle.json_text.specs.Forest.{Forest, empty, grows}
-use Rattle.json_text.specs.declared.kind.Kind.TheVariants as kinds
+use Rattle.json_text.specs.Kind.TheVariants as kinds
 use Rattle.json_text.specs.Faults.{IsClean}
 use Rattle.json_text.specs.Grammar.{IsText}
 use Rattle.json_text.specs.Shape.{value_bytes}

@@ -6,8 +6,8 @@ use Rattle.std.specs.Ordering.{nat_cmp}
 use Rattle.std.specs.declared.cmp.Ordering.TheVariants.{Less}
 use Rattle.std.specs.Cmp.Lexicographic.{slice_cmp}
 use Rattle.side_base.specs.Decimal.{digits_at, after_digits}
-use Rattle.json_text.specs.declared.kind.Kind.{Kind}
-use Rattle.json_text.specs.declared.kind.Kind.TheVariants as kinds
+use Rattle.json_text.specs.Kind.{Kind}
+use Rattle.json_text.specs.Kind.TheVariants as kinds
 use Rattle.json_text.specs.declared.spot.Spot.{Spot}
 use Rattle.json_text.specs.Forest.{Forest}
 use Rattle.json_text.specs.Shape.{value_bytes}

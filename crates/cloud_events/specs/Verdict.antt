@@ -1,8 +1,8 @@
 -- What the reply to a delivery says of it.
 use Rattle.std.specs.Prelude.{◌≡◌, ℕ, Bool, ◌&&◌, ◌||◌, ◌==◌, nat_le, List, [], codes, Option, Some, None, if◌then◌else◌}
 use Rattle.std.specs.Str.{bytes_eq}
-use Rattle.json_text.specs.declared.kind.Kind.{Kind}
-use Rattle.json_text.specs.declared.kind.Kind.TheVariants as kinds
+use Rattle.json_text.specs.Kind.{Kind}
+use Rattle.json_text.specs.Kind.TheVariants as kinds
 use Rattle.json_text.specs.declared.spot.Spot.{Spot}
 use Rattle.json_text.specs.declared.doc.Doc.{Doc}
 use Rattle.json_text.specs.declared.doc.Node.{Node}

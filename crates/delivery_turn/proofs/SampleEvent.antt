@@ -1,6 +1,6 @@
 -- The event that is written out is a JSON text.
 use Rattle.std.proofs.Common.{◌≤◌, Some, None, refl, arith}
-use Rattle.json_text.specs.declared.kind.Kind.TheVariants as kinds
+use Rattle.json_text.specs.Kind.TheVariants as kinds
 use Rattle.json_text.specs.Forest.{Forest, empty, grows}
 use Rattle.json_text.specs.Lexeme.{begins, ends, next, done, more}
 use Rattle.json_text.specs.Grammar.{IsText, word, nested, member_name, turn, close, finish, closes, takes_name, takes_value, turns}

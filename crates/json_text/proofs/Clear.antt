@@ -1,24 +1,24 @@
 -- Texts in which no surrogate stands alone.
 use Rattle.std.proofs.Common.{◌≡◌, ℕ, zero, suc, ◌+◌, ◌<◌, ◌≤◌, Bool, true, false, eqb, max, List, [], ◌∷◌, length, take, drop, get_or, Option, Some, None, refl, sym, ap, subst, ◌∙◌, arith}
-use Rattle.json_text.specs.declared.kind.Kind.{Kind}
-use Rattle.json_text.specs.declared.kind.Kind.TheVariants as kinds
+use Rattle.json_lexemes.specs.declared.kind.Kind.{Kind}
+use Rattle.json_lexemes.specs.declared.kind.Kind.TheVariants as kinds
 use Rattle.json_text.specs.declared.spot.Span.{Span}
 use Rattle.json_text.specs.declared.part.Bracket.{Bracket}
 use Rattle.json_text.specs.declared.part.Part.{Part}
 use Rattle.json_text.specs.declared.part.Part.TheVariants.{Start as start, Named as named, Rest as rest}
-use Rattle.json_text.specs.declared.lexeme.Lexeme.{Lexeme}
-use Rattle.json_text.specs.declared.lexeme.Lexeme.TheVariants.{Plain as plain}
-use Rattle.json_text.specs.Lexeme.{begins, ends, next, Spells, done, more}
+use Rattle.json_lexemes.specs.declared.lexeme.Lexeme.{Lexeme}
+use Rattle.json_lexemes.specs.declared.lexeme.Lexeme.TheVariants.{Plain as plain}
+use Rattle.json_lexemes.specs.Lexeme.{begins, ends, next, Spells, done, more}
 use Rattle.json_text.specs.Forest.{Forest, empty, grows, one, append}
 use Rattle.json_text.specs.Grammar.{bracket_kind, is_blank, opens, closes, turns, takes_value, takes_name, Completes, blank, word, nested, member_name, turn, close, finish, IsText}
 use Rattle.json_text.specs.Progress.{Frame, Doing, part, value, naming, State, reading, level_of, spot, closed_in, part_step, step, after_from, after}
 use Rattle.json_text.specs.Faults.{is_lone_in, open_count, word_of, lone, IsClean}
-use Rattle.json_text.specs.Scan.{EndsAt, IsOver}
+use Rattle.json_lexemes.specs.Scan.{EndsAt, IsOver}
 use Rattle.json_text.specs.Reading.{Stands}
 use Rattle.json_text.specs.Shape.{is_holder, levels, nesting}
 use Rattle.json_text.proofs.Tables.{some_none, false_true, closes_not_blank, turn_clear, word_clear, nested_clear, name_clear, word_over, text_over}
 use Rattle.json_text.proofs.Residue.{append-empty, append_one, rest_over}
-use Rattle.json_text.proofs.Courses.{Course, here as stop, on as go, course_passes, course_spells, lone_in_left, one_on, first_left, left_inside}
+use Rattle.json_lexemes.proofs.Courses.{Course, here as stop, on as go, course_passes, course_spells, lone_in_left, one_on, first_left, left_inside}
 use Rattle.json_text.proofs.Standing.{after_more, stands_next, clean_next, state_next, count_here}
 use Rattle.json_text.proofs.Words.{Within, within_value, within_name, word_stands, name_stands, text_clean, lone_is_plain}
 use Rattle.json_text.proofs.Readable.{completes_rest}

@@ -3,29 +3,29 @@ use Rattle.std.proofs.Common.{◌≡◌, ◌≤◌, ℕ, suc, ◌+◌, true, fal
 use Rattle.std.specs.List.{AllByRecursion}
 use Rattle.std.specs.Str.{IsUtf8}
 use Rattle.byte_lanes.specs.Spelling.{spelled}
-use Rattle.json_text.specs.declared.kind.Kind.{Kind}
-use Rattle.json_text.specs.declared.kind.Kind.TheVariants as kinds
+use Rattle.json_lexemes.specs.declared.kind.Kind.{Kind}
+use Rattle.json_lexemes.specs.declared.kind.Kind.TheVariants as kinds
 use Rattle.json_text.specs.declared.spot.Span.{Span}
 use Rattle.json_text.specs.declared.spot.Spot.{Spot}
 use Rattle.json_text.specs.declared.part.Bracket.{Bracket}
 use Rattle.json_text.specs.declared.part.Bracket.TheVariants.{Map as map}
 use Rattle.json_text.specs.declared.part.Part.{Part}
 use Rattle.json_text.specs.declared.part.Part.TheVariants.{Start as start, Next as next_part, Named as named, Member as member, Rest as rest}
-use Rattle.json_text.specs.declared.lexeme.Lexeme.{Lexeme}
-use Rattle.json_text.specs.declared.lexeme.Lexeme.TheVariants.{Plain as plain, Closed as closed}
-use Rattle.json_text.specs.Lexeme.{begins, ends, next}
+use Rattle.json_lexemes.specs.declared.lexeme.Lexeme.{Lexeme}
+use Rattle.json_lexemes.specs.declared.lexeme.Lexeme.TheVariants.{Plain as plain, Closed as closed}
+use Rattle.json_lexemes.specs.Lexeme.{begins, ends, next}
 use Rattle.json_text.specs.Faults.{is_numbered, IsClean}
 use Rattle.json_text.specs.Forest.{Forest, empty, grows, one}
 use Rattle.json_text.specs.Grammar.{bracket_kind, opens, closes, turns, takes_value, takes_name, Completes, IsText}
-use Rattle.json_text.specs.Spelling.{string_of}
+use Rattle.json_lexemes.specs.Spelling.{string_of}
 use Rattle.json_text.specs.Moved.{moved}
 use Rattle.json_text.specs.Shape.{is_holder, levels, nesting, value_bytes}
 use Rattle.json_text.specs.Unescape.{unescaped, name_shown}
 use Rattle.std.proofs.lemmas.List.{drop-drop}
 use Rattle.json_text.specs.MapTexts.{ShowsMembers, Written, IsWritten, IsDeep, member_bytes, joined_bytes, map_bytes, ahead, value_place, member_spot, member_values, map_of}
 use Rattle.json_text.proofs.Clear.{Clear, c_blank, c_word, c_nested, c_name, c_turn, c_close, c_finish, clear_completes, text_clear, clear_clean}
-use Rattle.json_text.proofs.StringTails.{whole_word}
-use Rattle.json_text.proofs.Courses.{Course, course_on, here as stop, on as go}
+use Rattle.json_lexemes.proofs.StringTails.{whole_word}
+use Rattle.json_lexemes.proofs.Courses.{Course, course_on, here as stop, on as go}
 use Rattle.json_text.proofs.WrittenTexts.{spelling_leads, closed_next, spelled_text}
 use Rattle.json_text.proofs.Moves.{Steady, cut, takes_first, nesting_moved}
 use Rattle.json_text.proofs.Shapes.{starts_later}

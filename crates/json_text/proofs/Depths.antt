@@ -2,14 +2,14 @@
 use Rattle.std.proofs.Common.{◌≡◌, ℕ, zero, suc, ◌+◌, ◌≤◌, Bool, true, false, ◌&&◌, cond, eqb, max, List, [], ◌∷◌, ◌++◌, append-nil, length, take, drop, get_or, Option, Some, None, refl, sym, ap, subst, ◌∙◌, arith}
 use Rattle.std.specs.Prelude.{MatchOption}
 use Rattle.std.proofs.lemmas.List.{take_all, take-append-drop}
-use Rattle.json_text.specs.declared.kind.Kind.{Kind}
-use Rattle.json_text.specs.declared.kind.Kind.TheVariants as kinds
+use Rattle.json_lexemes.specs.declared.kind.Kind.{Kind}
+use Rattle.json_lexemes.specs.declared.kind.Kind.TheVariants as kinds
 use Rattle.json_text.specs.declared.spot.Span.{Span}
 use Rattle.json_text.specs.declared.spot.Spot.{Spot}
 use Rattle.json_text.specs.Forest.{Forest, empty, grows, one, append}
-use Rattle.json_text.specs.declared.lexeme.Lexeme.{Lexeme}
-use Rattle.json_text.specs.declared.lexeme.Lexeme.TheVariants.{Minus as minus, LeadingZero as leading_zero, Integer as integer, Letters as letters, Plain as plain}
-use Rattle.json_text.specs.Lexeme.{begins, ends, next, is_digit, Spells, done}
+use Rattle.json_lexemes.specs.declared.lexeme.Lexeme.{Lexeme}
+use Rattle.json_lexemes.specs.declared.lexeme.Lexeme.TheVariants.{Minus as minus, LeadingZero as leading_zero, Integer as integer, Letters as letters, Plain as plain}
+use Rattle.json_lexemes.specs.Lexeme.{begins, ends, next, is_digit, Spells, done}
 use Rattle.json_text.specs.declared.part.Bracket.{Bracket}
 use Rattle.json_text.specs.declared.part.Bracket.TheVariants.{List as list, Map as map}
 use Rattle.json_text.specs.declared.part.Part.{Part}
@@ -21,7 +21,7 @@ use Rattle.json_text.specs.Shape.{is_holder, levels, nesting}
 use Rattle.json_text.proofs.Residue.{FromPart, FromState, Then, append-empty}
 use Rattle.json_text.proofs.Fronts.{text_state, after_forth}
 use Rattle.json_text.proofs.Standing.{after_more}
-use Rattle.json_text.proofs.Accepted.{kind_of, KindIf, next_kind, end_kind}
+use Rattle.json_lexemes.proofs.Accepted.{kind_of, KindIf, next_kind, end_kind}
 use Rattle.json_text.proofs.Tables.{some_none}
 
 -- ---- nesting

@@ -6,9 +6,9 @@ use Rattle.json_text.specs.declared.error.JsonErr.{JsonErr}
 use Rattle.json_text.specs.declared.error.JsonErr.TheVariants.{Bad, Deep, NoMemory}
 use Rattle.json_text.specs.declared.spot.Entry.{Entry}
 use Rattle.json_text.specs.declared.part.Part.TheVariants.{Start as start}
-use Rattle.json_text.specs.declared.lexeme.Lexeme.TheVariants.{Plain as plain, Escape as escape}
+use Rattle.json_lexemes.specs.declared.lexeme.Lexeme.TheVariants.{Plain as plain, Escape as escape}
 use Rattle.json_text.specs.Forest.{Forest, count}
-use Rattle.json_text.specs.Lexeme.{next, is_high_surrogate, is_low_surrogate}
+use Rattle.json_lexemes.specs.Lexeme.{next, is_high_surrogate, is_low_surrogate}
 use Rattle.json_text.specs.Grammar.{Completes, blank, word, nested, member_name, turn, close, takes_name, turns, closes}
 use Rattle.json_text.specs.Progress.{part, value, naming, State, refused, reading, step, value_goes, name_goes, after}
 use Rattle.json_text.specs.Faults.{open_count, word_of, is_lone, is_numbered, is_high_escape, is_low_escape, unit_of, IsBad, dead, short, lone, IsDeep, IsClean, IsFirstBad, IsFirstDeep}
@@ -16,7 +16,7 @@ use Rattle.json_text.specs.Reading.{Holds, IsCause}
 use Rattle.json_text.proofs.Tables.{false_true, none_some, or_yes, and_yes, is_it}
 use Rattle.json_text.proofs.Fronts.{front_of_text}
 use Rattle.json_text.proofs.Standing.{after_more}
-use Rattle.json_text.proofs.Escapes.{short_not_numbered}
+use Rattle.json_lexemes.proofs.Escapes.{short_not_numbered}
 use Rattle.json_text.proofs.Kept.{length-entries}
 
 lone_numbered : (high : Bool) (bytes : List ℕ) (at : ℕ) → is_lone high bytes at ≡ true → is_numbered bytes at ≡ true

@@ -1,8 +1,8 @@
 -- What completes a list or a map does so at other places, whatever follows.
 use Rattle.std.proofs.Common.{◌≡◌, ℕ, zero, suc, ◌+◌, ◌-◌, ◌≤◌, Bool, true, false, cond, eqb, List, [], ◌∷◌, ◌++◌, length, take, drop, Option, Some, None, refl, sym, ap, subst, ◌∙◌, arith, append_assoc, append-nil, length-append}
 use Rattle.std.proofs.lemmas.List.{take-append-le, take_all, drop-drop}
-use Rattle.json_text.specs.declared.kind.Kind.{Kind}
-use Rattle.json_text.specs.declared.kind.Kind.TheVariants as kinds
+use Rattle.json_lexemes.specs.declared.kind.Kind.{Kind}
+use Rattle.json_lexemes.specs.declared.kind.Kind.TheVariants as kinds
 use Rattle.json_text.specs.declared.spot.Span.{Span}
 use Rattle.json_text.specs.declared.spot.Spot.{Spot}
 use Rattle.json_text.specs.Shape.{value_bytes, is_holder, levels, nesting}
@@ -10,14 +10,14 @@ use Rattle.json_text.specs.declared.part.Bracket.{Bracket}
 use Rattle.json_text.specs.declared.part.Bracket.TheVariants.{List as list, Map as map}
 use Rattle.json_text.specs.declared.part.Part.{Part}
 use Rattle.json_text.specs.declared.part.Part.TheVariants.{Start as start, Next as next_part, Named as named, Member as member, Rest as rest}
-use Rattle.json_text.specs.declared.lexeme.Lexeme.{Lexeme}
-use Rattle.json_text.specs.declared.lexeme.Lexeme.TheVariants.{Plain as plain}
-use Rattle.json_text.specs.Lexeme.{begins, ends}
+use Rattle.json_lexemes.specs.declared.lexeme.Lexeme.{Lexeme}
+use Rattle.json_lexemes.specs.declared.lexeme.Lexeme.TheVariants.{Plain as plain}
+use Rattle.json_lexemes.specs.Lexeme.{begins, ends}
 use Rattle.json_text.specs.Forest.{Forest, empty, grows, one}
 use Rattle.json_text.specs.Grammar.{bracket_kind, opens, closes, turns, takes_value, takes_name}
 use Rattle.json_text.specs.Moved.{moved_span, moved_name, moved, back, alone}
-use Rattle.json_text.proofs.Courses.{Course}
-use Rattle.json_text.proofs.StringTails.{whole_word}
+use Rattle.json_lexemes.proofs.Courses.{Course}
+use Rattle.json_lexemes.proofs.StringTails.{whole_word}
 use Rattle.json_text.proofs.Clear.{Clear, c_blank, c_word, c_nested, c_name, c_turn, c_close, c_finish}
 use Rattle.json_text.proofs.ValueFacts.{EachValue}
 use Rattle.json_text.proofs.Readable.{drop_tail}

@@ -4,8 +4,8 @@ use Rattle.std.specs.Prelude.{MatchOption}
 use Rattle.std.specs.Str.{IsUtf8, is_utf8}
 use Rattle.std.proofs.lemmas.Str.{IsUtf8-nil, is_utf8-from_IsUtf8}
 use Rattle.std.proofs.lemmas.List.{drop-drop, take-append-le}
-use Rattle.json_text.specs.declared.kind.Kind.{Kind}
-use Rattle.json_text.specs.declared.kind.Kind.TheVariants as kinds
+use Rattle.json_lexemes.specs.declared.kind.Kind.{Kind}
+use Rattle.json_lexemes.specs.declared.kind.Kind.TheVariants as kinds
 use Rattle.json_text.specs.declared.spot.Span.{Span}
 use Rattle.json_text.specs.declared.spot.Spot.{Spot}
 use Rattle.json_text.specs.declared.spot.Entry.{Entry}
@@ -13,17 +13,17 @@ use Rattle.json_text.specs.declared.part.Bracket.{Bracket}
 use Rattle.json_text.specs.declared.part.Bracket.TheVariants.{List as list, Map as map}
 use Rattle.json_text.specs.declared.part.Part.{Part}
 use Rattle.json_text.specs.declared.part.Part.TheVariants.{Start as start, Next as next_part, Named as named, Member as member, Rest as rest}
-use Rattle.json_text.specs.declared.lexeme.Lexeme.{Lexeme}
-use Rattle.json_text.specs.declared.lexeme.Lexeme.TheVariants.{Minus as minus, LeadingZero as leading_zero, Integer as integer, Point as point, Decimals as decimals, Exponent as exponent, ExponentSign as exponent_sign, ExponentDigits as exponent_digits, Letters as letters, Plain as plain, Tail as tail, Escape as escape, Digits as digits, Closed as closed}
-use Rattle.json_text.specs.declared.unescape.Pending.TheVariants.{Between as between}
+use Rattle.json_lexemes.specs.declared.lexeme.Lexeme.{Lexeme}
+use Rattle.json_lexemes.specs.declared.lexeme.Lexeme.TheVariants.{Minus as minus, LeadingZero as leading_zero, Integer as integer, Point as point, Decimals as decimals, Exponent as exponent, ExponentSign as exponent_sign, ExponentDigits as exponent_digits, Letters as letters, Plain as plain, Tail as tail, Escape as escape, Digits as digits, Closed as closed}
+use Rattle.json_lexemes.specs.declared.unescape.Pending.TheVariants.{Between as between}
 use Rattle.json_text.specs.Forest.{Forest, count}
-use Rattle.json_text.specs.Lexeme.{next, begins, ends, Spells, done, more, is_digit, literal, next_letter, ends_after_letters, fraction_from, exponent_from}
+use Rattle.json_lexemes.specs.Lexeme.{next, begins, ends, Spells, done, more, is_digit, literal, next_letter, ends_after_letters, fraction_from, exponent_from}
 use Rattle.json_text.specs.Grammar.{bracket_kind, turns, takes_value, Completes, blank, word, nested, member_name, turn, close, finish}
 use Rattle.json_text.specs.Unescape.{unescaped, content, text_in, name_in}
 use Rattle.json_text.specs.Reading.{Holds}
 use Rattle.json_text.specs.Readable.{IsReadable, TextsAreReadable}
 use Rattle.json_text.proofs.Tables.{none_some}
-use Rattle.json_text.proofs.StringTexts.{inside_of}
+use Rattle.json_lexemes.proofs.StringTexts.{inside_of}
 use Rattle.json_text.proofs.Every.{Every, every_kept}
 
 -- ---- numbers and literals are no texts

@@ -1,16 +1,16 @@
 -- Where the values of a text stand.
 use Rattle.std.proofs.Common.{◌≡◌, ℕ, suc, ◌+◌, ◌-◌, ◌≤◌, Bool, true, false, cond, eqb, List, [], ◌∷◌, length, Option, Some, None, refl, sym, subst, arith}
 use Rattle.std.specs.Prelude.{is_some}
-use Rattle.json_text.specs.declared.kind.Kind.{Kind}
+use Rattle.json_lexemes.specs.declared.kind.Kind.{Kind}
 use Rattle.json_text.specs.declared.spot.Span.{Span}
 use Rattle.json_text.specs.declared.spot.Spot.{Spot}
 use Rattle.json_text.specs.declared.part.Bracket.{Bracket}
 use Rattle.json_text.specs.declared.part.Bracket.TheVariants.{List as list, Map as map}
 use Rattle.json_text.specs.declared.part.Part.{Part}
 use Rattle.json_text.specs.declared.part.Part.TheVariants.{Start as start, Next as next_part, Named as named, Member as member, Rest as rest}
-use Rattle.json_text.specs.declared.lexeme.Lexeme.{Lexeme}
-use Rattle.json_text.specs.declared.lexeme.Lexeme.TheVariants.{Plain as plain}
-use Rattle.json_text.specs.Lexeme.{ends, Spells, done, more}
+use Rattle.json_lexemes.specs.declared.lexeme.Lexeme.{Lexeme}
+use Rattle.json_lexemes.specs.declared.lexeme.Lexeme.TheVariants.{Plain as plain}
+use Rattle.json_lexemes.specs.Lexeme.{ends, Spells, done, more}
 use Rattle.json_text.specs.Forest.{Forest, empty, grows}
 use Rattle.json_text.specs.Grammar.{bracket_kind, turns, takes_value, Completes, blank, word, nested, member_name, turn, close, finish, IsText}
 use Rattle.json_text.specs.Shape.{is_map, is_holder, StandsBefore, AreInRow}

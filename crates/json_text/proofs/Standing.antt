@@ -2,14 +2,14 @@
 use Rattle.std.proofs.Common.{◌≡◌, ◌≢◌, inl, inr, ℕ, suc, ◌+◌, ◌<◌, Bool, List, [], ◌∷◌, ◌++◌, length, take, take-suc, get_or, Option, Some, None, refl, sym, ap, subst, ◌∙◌, arith}
 use Rattle.std.proofs.lemmas.Bool.{cases_lt}
 use Rattle.std.proofs.lemmas.List.{length-take-le}
-use Rattle.json_text.specs.declared.kind.Kind.{Kind}
-use Rattle.json_text.specs.declared.kind.Kind.TheVariants as kinds
+use Rattle.json_lexemes.specs.declared.kind.Kind.{Kind}
+use Rattle.json_lexemes.specs.declared.kind.Kind.TheVariants as kinds
 use Rattle.json_text.specs.declared.spot.Span.{Span}
 use Rattle.json_text.specs.declared.part.Part.{Part}
-use Rattle.json_text.specs.declared.lexeme.Lexeme.{Lexeme}
-use Rattle.json_text.specs.declared.lexeme.Lexeme.TheVariants.{Plain as plain}
+use Rattle.json_lexemes.specs.declared.lexeme.Lexeme.{Lexeme}
+use Rattle.json_lexemes.specs.declared.lexeme.Lexeme.TheVariants.{Plain as plain}
 use Rattle.json_text.specs.Forest.{Forest}
-use Rattle.json_text.specs.Lexeme.{ends}
+use Rattle.json_lexemes.specs.Lexeme.{ends}
 use Rattle.json_text.specs.Progress.{Frame, Doing, part, value, naming, State, refused, reading, step, part_step, after_from, after, first_state}
 use Rattle.json_text.specs.Faults.{open_count, word_of, IsLoneAt, IsBad, dead, short, lone, IsDeep, IsClean, IsFirstBad, IsFirstDeep}
 use Rattle.json_text.specs.Reading.{settled, settled_value, settled_name, Stands}

@@ -3,14 +3,14 @@ use Rattle.std.proofs.Common.{◌≡◌, ℕ, zero, suc, ◌+◌, ◌≤◌, Boo
 use Rattle.json_text.specs.declared.part.Bracket.{Bracket}
 use Rattle.json_text.specs.declared.part.Part.{Part}
 use Rattle.json_text.specs.declared.part.Opening.{Opening}
-use Rattle.json_text.specs.declared.lexeme.Lexeme.{Lexeme}
-use Rattle.json_text.specs.declared.kind.Kind.{Kind}
+use Rattle.json_lexemes.specs.declared.lexeme.Lexeme.{Lexeme}
+use Rattle.json_lexemes.specs.declared.kind.Kind.{Kind}
 use Rattle.json_text.specs.Grammar.{closes}
-use Rattle.json_text.specs.Scan.{EndsAt}
+use Rattle.json_lexemes.specs.Scan.{EndsAt}
 use Rattle.json_text.specs.Reading.{innermost}
 use Rattle.json_text.proofs.Tables.{false_true, none_some, closes_level, is_it}
 use Rattle.std.proofs.lemmas.List.{nil_from_length}
-use Rattle.json_text.proofs.Runs.{passes_low}
+use Rattle.json_lexemes.proofs.Runs.{passes_low}
 
 pub innermost_at : (xs : List Opening) (n : ℕ) (x : Opening) → n + 1 ≡ length xs → x ≡ get_or xs n x → Some x.bracket ≡ innermost xs
 innermost_at [] n x e is = absurd (omega (arith, e))

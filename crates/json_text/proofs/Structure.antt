@@ -1,26 +1,26 @@
 -- The grammar's texts are those of the productions.
 use Rattle.std.proofs.Common.{◌≡◌, ◌⊎◌, inl, inr, ℕ, suc, ◌+◌, Bool, true, false, cond, eqb, List, [], ◌∷◌, ◌++◌, length, Option, Some, None, refl, sym, ap, subst, ◌∙◌, arith}
 use Rattle.std.specs.Prelude.{◌↔◌}
-use Rattle.json_text.specs.declared.kind.Kind.{Kind}
-use Rattle.json_text.specs.declared.kind.Kind.TheVariants as kinds
+use Rattle.json_lexemes.specs.declared.kind.Kind.{Kind}
+use Rattle.json_lexemes.specs.declared.kind.Kind.TheVariants as kinds
 use Rattle.json_text.specs.declared.spot.Span.{Span}
 use Rattle.json_text.specs.declared.spot.Spot.{Spot}
 use Rattle.json_text.specs.declared.part.Bracket.{Bracket}
 use Rattle.json_text.specs.declared.part.Bracket.TheVariants.{List as list, Map as map}
 use Rattle.json_text.specs.declared.part.Part.{Part}
 use Rattle.json_text.specs.declared.part.Part.TheVariants.{Start as start, Next as next_part, Named as named, Member as member, Rest as rest}
-use Rattle.json_text.specs.declared.lexeme.Lexeme.TheVariants.{Plain as plain}
+use Rattle.json_lexemes.specs.declared.lexeme.Lexeme.TheVariants.{Plain as plain}
 use Rattle.json_text.specs.Forest.{Forest, empty, grows, one, append}
-use Rattle.json_text.specs.Lexeme.{Spells, begins}
-use Rattle.json_text.specs.Productions.{inside_of}
+use Rattle.json_lexemes.specs.Lexeme.{Spells, begins}
+use Rattle.json_lexemes.specs.Productions.{inside_of}
 use Rattle.json_text.specs.Grammar.{opens, closes, turns, takes_value, takes_name, bracket_kind, Completes, IsText, blank, word, nested, member_name, turn, close, finish}
 use Rattle.json_text.specs.Progress.{spot}
-use Rattle.json_text.specs.Words.{HasProduced}
+use Rattle.json_lexemes.specs.Words.{HasProduced}
 use Rattle.json_text.specs.Structure.{Blanks, no_blank, one_blank, Structural, Production, a_value, items, members, Produces, a_word, empty_array, array, empty_object, object, last_item, more_items, last_member, more_members, IsJsonText}
 use Rattle.json_text.proofs.Tables.{none_some, false_true, is_it}
-use Rattle.json_text.proofs.Accepted.{spelled_out}
-use Rattle.json_text.proofs.StringWords.{string_accepts}
-use Rattle.json_text.proofs.Productions.{words}
+use Rattle.json_lexemes.proofs.Accepted.{spelled_out}
+use Rattle.json_lexemes.proofs.StringWords.{string_accepts}
+use Rattle.json_lexemes.proofs.Productions.{words}
 use Rattle.json_text.proofs.Residue.{append-empty, append-assoc}
 
 -- ---- from the grammar to the productions

@@ -1,21 +1,21 @@
 -- What each token does to a reader's lists.
 use Rattle.std.proofs.Common.{◌≡◌, ℕ, suc, ◌+◌, ◌-◌, ◌<◌, ◌≤◌, true, false, ◌&&◌, cond, eqb, List, [], ◌∷◌, ◌++◌, length, set, get_or, Option, Some, None, refl, sym, ap, subst, ◌∙◌, arith, length-append}
-use Rattle.json_text.specs.declared.kind.Kind.{Kind}
-use Rattle.json_text.specs.declared.kind.Kind.TheVariants as kinds
+use Rattle.json_lexemes.specs.declared.kind.Kind.{Kind}
+use Rattle.json_lexemes.specs.declared.kind.Kind.TheVariants as kinds
 use Rattle.json_text.specs.declared.spot.Span.{Span}
 use Rattle.json_text.specs.declared.spot.Entry.{Entry}
 use Rattle.json_text.specs.declared.part.Bracket.{Bracket}
 use Rattle.json_text.specs.declared.part.Part.{Part}
 use Rattle.json_text.specs.declared.part.Part.TheVariants.{Start as start, Named as named, Rest as rest}
 use Rattle.json_text.specs.declared.part.Opening.{Opening}
-use Rattle.json_text.specs.declared.lexeme.Lexeme.{Lexeme}
-use Rattle.json_text.specs.declared.lexeme.Lexeme.TheVariants.{Minus as minus, LeadingZero as leading_zero, Integer as integer, Point as point, Decimals as decimals, Exponent as exponent, ExponentSign as exponent_sign, ExponentDigits as exponent_digits, Letters as letters, Plain as plain, Tail as tail, Escape as escape, Digits as digits, Closed as closed}
+use Rattle.json_lexemes.specs.declared.lexeme.Lexeme.{Lexeme}
+use Rattle.json_lexemes.specs.declared.lexeme.Lexeme.TheVariants.{Minus as minus, LeadingZero as leading_zero, Integer as integer, Point as point, Decimals as decimals, Exponent as exponent, ExponentSign as exponent_sign, ExponentDigits as exponent_digits, Letters as letters, Plain as plain, Tail as tail, Escape as escape, Digits as digits, Closed as closed}
 use Rattle.json_text.specs.Forest.{Forest, empty, one, append, count}
-use Rattle.json_text.specs.Lexeme.{next, begins, ends}
+use Rattle.json_lexemes.specs.Lexeme.{next, begins, ends}
 use Rattle.json_text.specs.Grammar.{bracket_kind, is_blank, opens, closes, turns, takes_value, takes_name, IsText}
 use Rattle.json_text.specs.Progress.{Frame, part, value, naming, refused, reading, level_of, spot, closed_in, close_step, word_step, value_step, part_step, after_from}
 use Rattle.json_text.specs.Faults.{IsClean, IsFirstBad, IsFirstDeep, max_depth}
-use Rattle.json_text.specs.Scan.{EndsAt, BreaksAt, Passes, stay, go}
+use Rattle.json_lexemes.specs.Scan.{EndsAt, BreaksAt, Passes, stay, go}
 use Rattle.json_text.specs.Reading.{entries, opened, open_entries, openings, innermost, Stands, Reads}
 use Rattle.json_text.specs.Between.{Between}
 use Rattle.json_text.proofs.Tables.{none_some, closes_level}

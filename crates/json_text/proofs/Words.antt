@@ -3,24 +3,24 @@ use Rattle.std.proofs.Common.{◌≡◌, ◌⊎◌, inl, inr, ℕ, suc, ◌≤�
 use Rattle.std.proofs.lemmas.Bool.{cases_lt}
 use Rattle.std.proofs.Math.Seq.{take-length}
 use Rattle.std.proofs.lemmas.List.{take_all}
-use Rattle.json_text.specs.declared.kind.Kind.{Kind}
-use Rattle.json_text.specs.declared.kind.Kind.TheVariants as kinds
+use Rattle.json_lexemes.specs.declared.kind.Kind.{Kind}
+use Rattle.json_lexemes.specs.declared.kind.Kind.TheVariants as kinds
 use Rattle.json_text.specs.declared.spot.Span.{Span}
 use Rattle.json_text.specs.declared.part.Part.{Part}
 use Rattle.json_text.specs.declared.part.Part.TheVariants.{Named as named, Rest as rest}
-use Rattle.json_text.specs.declared.lexeme.Lexeme.{Lexeme}
-use Rattle.json_text.specs.declared.lexeme.Lexeme.TheVariants.{Minus as minus, LeadingZero as leading_zero, Integer as integer, Point as point, Decimals as decimals, Exponent as exponent, ExponentSign as exponent_sign, ExponentDigits as exponent_digits, Letters as letters, Plain as plain, Tail as tail, Escape as escape, Digits as digits, Closed as closed}
+use Rattle.json_lexemes.specs.declared.lexeme.Lexeme.{Lexeme}
+use Rattle.json_lexemes.specs.declared.lexeme.Lexeme.TheVariants.{Minus as minus, LeadingZero as leading_zero, Integer as integer, Point as point, Decimals as decimals, Exponent as exponent, ExponentSign as exponent_sign, ExponentDigits as exponent_digits, Letters as letters, Plain as plain, Tail as tail, Escape as escape, Digits as digits, Closed as closed}
 use Rattle.json_text.specs.Forest.{Forest, empty, one, append}
-use Rattle.json_text.specs.Lexeme.{next, ends, Spells, done}
+use Rattle.json_lexemes.specs.Lexeme.{next, ends, Spells, done}
 use Rattle.json_text.specs.Grammar.{IsText, finish}
 use Rattle.json_text.specs.Progress.{Frame, Doing, part, value, naming, State, refused, reading, level_of, spot, step, doing_step, value_goes, name_goes, value_end, name_end, after}
 use Rattle.json_text.specs.Faults.{open_count, word_of, word_in, is_lone, is_lone_in, IsLoneAt, IsBad, dead, short, lone, IsClean, IsFirstBad}
-use Rattle.json_text.specs.Scan.{Passes, stay, go, IsOver, EndsAt, BreaksAt}
+use Rattle.json_lexemes.specs.Scan.{Passes, stay, go, IsOver, EndsAt, BreaksAt}
 use Rattle.json_text.specs.Reading.{settled, settled_value, settled_name, Stands}
 use Rattle.json_text.proofs.Tables.{none_some, some_none, false_true}
 use Rattle.json_text.proofs.Residue.{FromState, FromPart, FromDoing, append-empty}
 use Rattle.json_text.proofs.Fronts.{no_text, text_forth, text_back, no_more, not_named}
-use Rattle.json_text.proofs.Runs.{passes_high}
+use Rattle.json_lexemes.proofs.Runs.{passes_high}
 use Rattle.json_text.proofs.Standing.{after_more, reading_not_refused, clean_more, good_here, not_deep, not_lone_here}
 
 pub lone_is_plain : (word : Lexeme) (bytes : List ℕ) (j : ℕ) → is_lone_in word bytes j ≡ true → (high : Bool) × (word ≡ plain high) × (is_lone high bytes j ≡ true)

@@ -1,9 +1,10 @@
 -- Where a text goes wrong.
-use Rattle.std.specs.Prelude.{◌≡◌, ℕ, suc, ◌+◌, ◌*◌, ◌<◌, Bool, true, false, ◌&&◌, ◌||◌, not, ◌==◌, List, ◌++◌, length, take, slice_index, Option, Some, None}
-use Rattle.json_text.specs.declared.lexeme.Lexeme.{Lexeme}
-use Rattle.json_text.specs.declared.lexeme.Lexeme.TheVariants.{Plain as plain}
+use Rattle.std.specs.Prelude.{◌≡◌, ℕ, suc, ◌<◌, Bool, true, List, ◌++◌, length, take, Option, Some, None}
+use Rattle.json_lexemes.specs.declared.lexeme.Lexeme.{Lexeme}
+use Rattle.json_lexemes.specs.declared.lexeme.Lexeme.TheVariants.{Plain as plain}
 use Rattle.json_text.specs.Forest.{Forest}
-use Rattle.json_text.specs.Lexeme.{hex_value, is_hex_digit, is_high_surrogate, is_low_surrogate}
+unfoldable pub use Rattle.json_lexemes.specs.Surrogates.{is_numbered, unit_of}
+pub use Rattle.json_lexemes.specs.Surrogates.{hex_at, is_high_escape, is_low_escape, is_lone, is_lone_in}
 use Rattle.json_text.specs.Grammar.{IsText}
 use Rattle.json_text.specs.Progress.{Doing, part, value, naming, State, refused, reading, after}
 
@@ -29,33 +30,6 @@ word_in (naming word from) = Some word
 abbrev pub word_of : State → Option Lexeme
 word_of refused = None
 word_of (reading values frames doing) = word_in doing
-
-abbrev pub hex_at : List ℕ → ℕ → Bool
-hex_at bytes i = is_hex_digit (slice_index bytes i)
-
--- a numbered escape stands at the place
-unfoldable pub is_numbered : List ℕ → ℕ → Bool
-is_numbered bytes at = slice_index bytes at == 92 && slice_index bytes (at + 1) == 117 && hex_at bytes (at + 2) && hex_at bytes (at + 3) && hex_at bytes (at + 4) && hex_at bytes (at + 5)
-
--- its number
-unfoldable pub unit_of : List ℕ → ℕ → ℕ
-unit_of bytes at =
-    4096 * hex_value (slice_index bytes (at + 2)) + 256 * hex_value (slice_index bytes (at + 3)) + 16 * hex_value (slice_index bytes (at + 4)) + hex_value (slice_index bytes (at + 5))
-
-abbrev pub is_high_escape : List ℕ → ℕ → Bool
-is_high_escape bytes at = is_numbered bytes at && is_high_surrogate (unit_of bytes at)
-
-abbrev pub is_low_escape : List ℕ → ℕ → Bool
-is_low_escape bytes at = is_numbered bytes at && is_low_surrogate (unit_of bytes at)
-
--- At the place in a string stands the escape of a lone surrogate: a high one that the escape of a low one doesn't follow
--- at once, or a low one that doesn't so follow the escape of a high one, as `high` says.
-abbrev pub is_lone : Bool → List ℕ → ℕ → Bool
-is_lone high bytes at = (is_high_escape bytes at && not (is_low_escape bytes (at + 6))) || (is_low_escape bytes at && not high)
-
-abbrev pub is_lone_in : Lexeme → List ℕ → ℕ → Bool
-is_lone_in (plain high) bytes at = is_lone high bytes at
-is_lone_in other bytes at = false
 
 -- the escape of a lone surrogate begins at the place
 abbrev pub IsLoneAt : List ℕ → ℕ → Type 0

@@ -1,17 +1,17 @@
 -- The grammar of JSON (RFC 8259, sections 2 to 5). Blanks may stand before and after each value and each of `[`, `]`,
 -- `{`, `}`, `:` and `,`.
 use Rattle.std.specs.Prelude.{◌≡◌, ℕ, suc, Bool, true, false, ◌||◌, ◌==◌, if◌then◌else◌, List, [], ◌∷◌, length, Option, Some, None}
-use Rattle.json_text.specs.declared.kind.Kind.{Kind}
-use Rattle.json_text.specs.declared.kind.Kind.TheVariants as kinds
+use Rattle.json_lexemes.specs.declared.kind.Kind.{Kind}
+use Rattle.json_lexemes.specs.declared.kind.Kind.TheVariants as kinds
 use Rattle.json_text.specs.declared.spot.Span.{Span}
 use Rattle.json_text.specs.declared.part.Bracket.{Bracket}
 use Rattle.json_text.specs.declared.part.Bracket.TheVariants.{List as list, Map as map}
 use Rattle.json_text.specs.declared.part.Part.{Part}
 use Rattle.json_text.specs.declared.part.Part.TheVariants.{Start as start, Next as next, Named as named, Member as member, Rest as rest}
 use Rattle.json_text.specs.Forest.{Forest, empty, grows}
-use Rattle.json_text.specs.declared.lexeme.Lexeme.{Lexeme}
-use Rattle.json_text.specs.declared.lexeme.Lexeme.TheVariants.{Plain as plain}
-use Rattle.json_text.specs.Lexeme.{Spells, begins}
+use Rattle.json_lexemes.specs.declared.lexeme.Lexeme.{Lexeme}
+use Rattle.json_lexemes.specs.declared.lexeme.Lexeme.TheVariants.{Plain as plain}
+use Rattle.json_lexemes.specs.Lexeme.{Spells, begins}
 
 -- the value that it is
 abbrev pub bracket_kind : Bracket → Kind

@@ -1,10 +1,14 @@
--- Contracts of other crates may cite all of these but `Scan`, `Between`, `Reader`, `Packed` and `Piece`, which are of the functions inside.
+-- Contracts of other crates may cite all of these but `Between`, `Reader` and `Packed`, which are of the functions inside.
+pub use Rattle.json_lexemes.specs.declared.kind.Kind
+pub use Rattle.json_lexemes.specs.declared.lexeme.Lexeme as LexemeState
+pub use Rattle.json_lexemes.specs.Lexeme
+pub use Rattle.json_lexemes.specs.Spelling
+pub use Rattle.json_lexemes.specs.Productions
+pub use Rattle.json_lexemes.specs.Words
 pub mod Forest
-pub mod Lexeme
 pub mod Grammar
 pub mod Progress
 pub mod Faults
-pub mod Scan
 pub mod Reading
 pub mod Between
 pub mod Reader
@@ -12,13 +16,9 @@ pub mod Unescape
 pub mod Readable
 pub mod Packed
 pub mod Doc
-pub mod Piece
 pub mod Causes
-pub mod Spelling
 pub mod Written
 pub mod Visits
-pub mod Productions
-pub mod Words
 pub mod Structure
 pub mod Root
 pub mod Shape

@@ -1,15 +1,15 @@
 -- A map written of names and of values that are texts by themselves.
 use Rattle.std.specs.Prelude.{◌≡◌, ⊤, ℕ, ◌+◌, ◌≤◌, List, [], ◌∷◌, ◌++◌, length, Some, None}
 use Rattle.std.specs.Str.{IsUtf8}
-use Rattle.json_text.specs.declared.kind.Kind.{Kind}
-use Rattle.json_text.specs.declared.kind.Kind.TheVariants as kinds
+use Rattle.json_lexemes.specs.declared.kind.Kind.{Kind}
+use Rattle.json_lexemes.specs.declared.kind.Kind.TheVariants as kinds
 use Rattle.json_text.specs.declared.spot.Spot.{Spot}
 use Rattle.json_text.specs.Forest.{Forest, empty, grows, one}
 use Rattle.json_text.specs.Grammar.{IsText}
 use Rattle.json_text.specs.Faults.{IsClean}
 use Rattle.json_text.specs.Shape.{is_holder, levels, nesting, value_bytes}
 use Rattle.json_text.specs.Unescape.{name_shown}
-use Rattle.json_text.specs.Spelling.{string_of}
+use Rattle.json_lexemes.specs.Spelling.{string_of}
 use Rattle.json_text.specs.Moved.{moved}
 
 -- a member to be written: its name, and the bytes of its value, with what they hold

@@ -1,9 +1,10 @@
 -- Values at other places.
-use Rattle.std.specs.Prelude.{ℕ, ◌-◌, List, Option, Some, None}
+use Rattle.std.specs.Prelude.{ℕ, ◌+◌, ◌-◌, List, length, Option, Some, None}
 use Rattle.json_text.specs.declared.spot.Span.{Span}
 use Rattle.json_text.specs.declared.spot.Spot.{Spot}
 use Rattle.json_text.specs.Forest.{Forest, empty, grows, one}
 use Rattle.json_text.specs.Grammar.{IsText}
+use Rattle.json_text.specs.Faults.{IsClean}
 use Rattle.json_text.specs.Shape.{value_bytes}
 
 abbrev pub moved_span : (ℕ → ℕ) → Span → Span
@@ -32,3 +33,7 @@ alone spot children = one (record { kind = spot.kind; span = moved_span (back sp
 -- its bytes are a text that has it alone
 abbrev pub IsTextAlone : List ℕ → Spot → Forest → Type 0
 IsTextAlone bytes spot children = IsText (value_bytes bytes spot) (alone spot children)
+
+-- and nothing is wrong with them
+abbrev pub IsCleanAlone : List ℕ → Spot → Type 0
+IsCleanAlone bytes spot = IsClean (value_bytes bytes spot) (length (value_bytes bytes spot) + 1)

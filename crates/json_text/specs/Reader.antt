@@ -4,7 +4,7 @@ use Rattle.json_text.specs.declared.part.Bracket.{Bracket}
 use Rattle.json_text.specs.declared.part.Part.{Part}
 use Rattle.json_text.specs.declared.reader.Reader.{Reader}
 use Rattle.json_text.specs.Grammar.{closes, turns}
-use Rattle.json_text.specs.Scan.{IsTextUpTo}
+use Rattle.json_lexemes.specs.Scan.{IsTextUpTo}
 use Rattle.json_text.specs.Between.{Between}
 use Rattle.json_text.specs.Reading.{Reads}
 

@@ -1,16 +1,16 @@
 -- How a reader's own lists stand to what it has seen.
 use Rattle.std.specs.Prelude.{◌≡◌, ℕ, suc, ◌+◌, ◌<◌, ◌≤◌, List, [], ◌∷◌, ◌++◌, length, take, slice_index, Option, Some, None, ⊤}
-use Rattle.json_text.specs.declared.kind.Kind.{Kind}
-use Rattle.json_text.specs.declared.kind.Kind.TheVariants as kinds
+use Rattle.json_lexemes.specs.declared.kind.Kind.{Kind}
+use Rattle.json_lexemes.specs.declared.kind.Kind.TheVariants as kinds
 use Rattle.json_text.specs.declared.spot.Span.{Span}
 use Rattle.json_text.specs.declared.spot.Entry.{Entry}
 use Rattle.json_text.specs.declared.part.Bracket.{Bracket}
 use Rattle.json_text.specs.declared.part.Part.{Part}
 use Rattle.json_text.specs.declared.part.Part.TheVariants.{Named as named, Rest as rest}
 use Rattle.json_text.specs.declared.part.Opening.{Opening}
-use Rattle.json_text.specs.declared.lexeme.Lexeme.{Lexeme}
+use Rattle.json_lexemes.specs.declared.lexeme.Lexeme.{Lexeme}
 use Rattle.json_text.specs.Forest.{Forest, empty, grows, one, append, count}
-use Rattle.json_text.specs.Lexeme.{ends}
+use Rattle.json_lexemes.specs.Lexeme.{ends}
 use Rattle.json_text.specs.Grammar.{bracket_kind, IsText}
 use Rattle.json_text.specs.Progress.{Frame, part, value, naming, State, refused, reading, spot, step, part_step, after}
 use Rattle.json_text.specs.Faults.{IsClean, IsFirstBad, IsFirstDeep, max_depth}

@@ -1,13 +1,13 @@
 -- The structure of a JSON text as RFC 8259 gives it by its productions (sections 2, 3, 4 and 5), with the values that it has.
 -- Each production is told of bytes s that stand at place i: those up to place j, where t stands, are what it produces.
 use Rattle.std.specs.Prelude.{◌≡◌, ℕ, suc, true, List, [], ◌∷◌, length, Option, Some, None}
-use Rattle.json_text.specs.declared.kind.Kind.{Kind}
-use Rattle.json_text.specs.declared.kind.Kind.TheVariants as kinds
+use Rattle.json_lexemes.specs.declared.kind.Kind.{Kind}
+use Rattle.json_lexemes.specs.declared.kind.Kind.TheVariants as kinds
 use Rattle.json_text.specs.declared.spot.Span.{Span}
 use Rattle.json_text.specs.Forest.{Forest, empty, one, append}
 use Rattle.json_text.specs.Grammar.{is_blank}
 use Rattle.json_text.specs.Progress.{spot}
-use Rattle.json_text.specs.Words.{HasProduced}
+use Rattle.json_lexemes.specs.Words.{HasProduced}
 
 -- ws = *( %x20 / %x09 / %x0A / %x0D )
 pub data Blanks : ℕ → List ℕ → ℕ → List ℕ → Type 0 where

@@ -1,11 +1,11 @@
 -- What reading a text's spelling comes to.
 use Rattle.std.specs.Prelude.{◌≡◌, ℕ, ◌+◌, List, length, None}
-use Rattle.json_text.specs.declared.kind.Kind.TheVariants as kinds
+use Rattle.json_lexemes.specs.declared.kind.Kind.TheVariants as kinds
 use Rattle.json_text.specs.declared.spot.Spot.{Spot}
 use Rattle.json_text.specs.Forest.{empty, one}
 use Rattle.json_text.specs.Grammar.{IsText}
 use Rattle.json_text.specs.Faults.{IsClean}
-use Rattle.json_text.specs.Spelling.{string_of}
+use Rattle.json_lexemes.specs.Spelling.{string_of}
 use Rattle.json_text.specs.Unescape.{text_shown}
 
 -- a string that takes all of so many bytes, and has no name

@@ -6,10 +6,10 @@ ghost use Rattle.json_text.specs.Reading.{Holds};
 ghost use Rattle.json_text.specs.Shape.{value_bytes};
 ghost use Rattle.std.specs.Str.{IsUtf8};
 
-use crate::kind::Kind;
 use crate::packed::Packed;
 use crate::shown::{has_name, has_text, push_name_of, push_text_of, text_byte_of};
 use crate::spot::Entry;
+use json_lexemes::Kind;
 use side_base::{Blob, NoMemory, Text};
 use std::alloc::Global;
 

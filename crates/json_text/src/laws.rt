@@ -9,17 +9,15 @@ ghost use Rattle.json_text.specs.Forest.{Forest, grows, count};
 ghost use Rattle.json_text.specs.Doc.{IsRoot, StandsAt, Shows};
 ghost use Rattle.json_text.specs.Root.{IsValueOf};
 ghost use Rattle.json_text.specs.Visits.{IsVisited, HasValue};
-ghost use Rattle.json_text.specs.declared.kind.Kind.{Kind};
-ghost use Rattle.json_text.specs.Productions.{Char, IsChar, inside_of, text_of};
-ghost use Rattle.json_text.specs.Unescape.{unescaped};
-ghost use Rattle.json_text.specs.Words.{HasWord, HasProduced};
 ghost use Rattle.json_text.specs.Structure.{IsJsonText};
 ghost use Rattle.json_text.specs.Written.{ReadsBack};
 ghost use Rattle.json_text.specs.Grammar.{IsText};
-ghost use Rattle.json_text.specs.Shape.{AreInRow, nesting, IsPlaced, value_bytes};
-ghost use Rattle.json_text.specs.Moved.{IsTextAlone};
+ghost use Rattle.json_text.specs.Shape.{AreInRow, nesting, IsPlaced};
+ghost use Rattle.json_text.specs.Moved.{IsTextAlone, IsCleanAlone};
 ghost use Rattle.json_text.specs.MapTexts.{Written, IsWritten, ShowsMembers, IsDeep, map_bytes, map_of};
 ghost use Rattle.json_text.specs.Faults.{IsClean, IsLoneAt};
+
+pub use json_lexemes::laws::words_are_those_of_the_productions;
 
 /// What `push_string` writes of a text is a JSON text of one string in which nothing is wrong, so that `read` takes it
 /// unless memory runs out; and the text of that string, as `Doc::text_of` tells it, is the text that was written.
@@ -32,13 +30,6 @@ pub fn a_written_text_reads_back()
 pub fn a_walk_visits_all_items()
     ensures visits { (doc : Doc) (node : Node) (spot : Spot) (children later : Forest) → StandsAt doc node (grows spot children later) → IsVisited doc node children }
     ensures stands { (doc : Doc) (bytes : List ℕ) (node : Node) (shows : Shows doc bytes) → node.number < count shows.values → HasValue doc node }
-{}
-
-/// The words of the grammar are those of the productions of RFC 8259, and the text of a string is the one that its
-/// characters spell.
-pub fn words_are_those_of_the_productions()
-    ensures words { (kind : Kind) (i j : ℕ) (s t : List ℕ) → HasWord kind i s j t ↔ HasProduced kind i s j t }
-    ensures texts { (chars : List Char) → AllByRecursion IsChar chars → unescaped (inside_of chars) ≡ text_of chars }
 {}
 
 /// The texts of the grammar are those of the productions of RFC 8259 for texts, values, objects and arrays, with the same
@@ -79,7 +70,7 @@ pub fn a_text_has_one_tree()
 /// places that count from its start.
 pub fn each_value_is_a_text()
     ensures text { (doc : Doc) (bytes : List ℕ) (node : Node) (spot : Spot) (children later : Forest) → Shows doc bytes → StandsAt doc node (grows spot children later) → IsTextAlone bytes spot children }
-    ensures clean { (doc : Doc) (bytes : List ℕ) (node : Node) (spot : Spot) (children later : Forest) → Shows doc bytes → StandsAt doc node (grows spot children later) → IsClean (value_bytes bytes spot) (length (value_bytes bytes spot) + 1) }
+    ensures clean { (doc : Doc) (bytes : List ℕ) (node : Node) (spot : Spot) (children later : Forest) → Shows doc bytes → StandsAt doc node (grows spot children later) → IsCleanAlone bytes spot }
 {}
 
 /// A map written of names and of values that are texts by themselves, joined by commas, is a text: one level deeper, with

@@ -7,8 +7,8 @@ ghost use Rattle.json_text.specs.Doc.{bytes_read, values_kept, IsNode, IsRoot, O
 ghost use Rattle.json_text.specs.declared.doc.Node.{Node};
 
 use crate::doc::{Doc, Node};
-use crate::kind::Kind;
 use crate::packed::Packed;
+use json_lexemes::Kind;
 
 impl<'a> Doc<'a> {
     /// How many lists and maps stand within one another in the value, itself counted: 0 for a word, 1 for an empty list. It

@@ -2,8 +2,8 @@
 ghost use Rattle.std.specs.Prelude.{◌≡◌, ◌++◌, ◌∷◌, [], IfSome, OnOk};
 ghost use Rattle.json_text.specs.Packed.{name_kept};
 
-use crate::kind::Kind;
 use crate::spot::{Entry, Span, Spot};
+use json_lexemes::Kind;
 use side_base::NoMemory;
 use std::alloc::AllocError;
 use std::marker::Model;

@@ -2,8 +2,8 @@
 ghost use Rattle.std.specs.Prelude.{◌≡◌};
 ghost use Rattle.json_text.specs.Grammar.{is_blank, opens, closes, turns, takes_value, takes_name, bracket_kind};
 
-use crate::kind::Kind;
 use crate::spot::Span;
+use json_lexemes::Kind;
 
 /// What holds values: an array or an object.
 #[derive(Clone, Copy, Debug)]

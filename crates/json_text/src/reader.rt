@@ -5,16 +5,15 @@ ghost use Rattle.json_text.specs.Progress.{spot};
 ghost use Rattle.json_text.specs.Reading.{IsCause, Holds, innermost};
 
 use crate::error::JsonErr;
-use crate::kind::Kind;
-use crate::lexeme::{Lexeme, first_word};
 use crate::packed::{Packed, keep};
 use crate::part::{
     Bracket, Opening, Part, bracket_of, is_blank_byte, is_closed_by, kind_of, may_be_named,
     turned_by, value_name,
 };
-use crate::scan::scan;
 use crate::spot::{Entry, Span, Spot};
 use byte_lanes::{QUOTE, utf8_len};
+use json_lexemes::scan::scan;
+use json_lexemes::{Kind, Lexeme, first_word};
 use std::alloc::Global;
 
 /// How many lists and maps may be open at once.

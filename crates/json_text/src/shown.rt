@@ -1,12 +1,23 @@
 // The texts of a value and of its name.
 ghost use Rattle.std.specs.Prelude.{◌≡◌, ◌↔◌, ◌++◌, IsTrue, OnOk, OnErr, slice_get};
-ghost use Rattle.json_text.specs.Unescape.{HasText, HasName, unescaped, text_shown, name_shown};
+ghost use Rattle.json_text.specs.Unescape.{HasText, HasName, unescaped, content, text_shown, name_shown};
 
-use crate::copies::push_unescaped;
-use crate::kind::Kind;
-use crate::spot::Spot;
-use crate::texts::{byte_of, content_of, spells};
+use crate::spot::{Span, Spot};
+use json_lexemes::{Kind, byte_of, push_unescaped, spells};
 use side_base::{Blob, NoMemory};
+
+// The bytes between the quotes of a string.
+fn content_of(bytes: &[u8], span: Span) -> &[u8]
+    ensures { result.now ≡ content bytes.now span }
+{
+    let from = span.start.saturating_add(1).min(bytes.len());
+    let rest = &bytes[from..];
+    let len = span
+        .end
+        .saturating_sub(1)
+        .saturating_sub(span.start.saturating_add(1));
+    &rest[..len.min(rest.len())]
+}
 
 /// Whether the value is this text.
 pub(crate) fn has_text(bytes: &[u8], spot: Spot, text: &[u8]) -> bool
@@ -29,7 +40,7 @@ pub(crate) fn has_name(bytes: &[u8], spot: Spot, name: &[u8]) -> bool
 }
 
 /// What spells the text that the value is; nothing for another value.
-#[tactic(auto, unfolding(crate::specs::Unescape::unescaped_from))]
+#[tactic(auto, unfolding(json_lexemes::specs::Unescape::unescaped_from))]
 pub(crate) fn text_inside(bytes: &[u8], spot: Spot) -> &[u8]
     ensures { unescaped result.now ≡ text_shown bytes.now spot }
 {
@@ -40,7 +51,7 @@ pub(crate) fn text_inside(bytes: &[u8], spot: Spot) -> &[u8]
 }
 
 /// What spells the name of a member; nothing for another value.
-#[tactic(auto, unfolding(crate::specs::Unescape::unescaped_from))]
+#[tactic(auto, unfolding(json_lexemes::specs::Unescape::unescaped_from))]
 pub(crate) fn name_inside(bytes: &[u8], spot: Spot) -> &[u8]
     ensures { unescaped result.now ≡ name_shown bytes.now spot }
 {

@@ -1,4 +1,4 @@
-use crate::kind::Kind;
+use json_lexemes::Kind;
 
 /// The bytes from place `start` up to place `end`.
 #[derive(Clone, Copy, Debug)]

@@ -4,7 +4,7 @@ use Rattle.side_base.specs.declared.method.Method.TheVariants.{Post}
 use Rattle.side_base.specs.declared.message.Response.{Response}
 use Rattle.side_base.specs.Field.{is_same_word}
 use Rattle.side_world.specs.declared.link.LinkCall.{LinkCall}
-use Rattle.json_text.specs.declared.kind.Kind.TheVariants as kinds
+use Rattle.json_text.specs.Kind.TheVariants as kinds
 use Rattle.json_text.specs.declared.spot.Spot.{Spot}
 use Rattle.json_text.specs.Forest.{Forest, empty, grows}
 use Rattle.json_text.specs.Lexeme.{begins, ends, next, done, more}

@@ -1,7 +1,7 @@
 -- What the bodies of the written requests ask of a store.
 use Rattle.std.proofs.Common.{◌≤◌, ℕ, List, [], ◌∷◌, codes, Some, None, Ok, refl, arith}
 use Rattle.form_urlencoded.specs.Form.{raw_pairs, split}
-use Rattle.json_text.specs.declared.kind.Kind.TheVariants as kinds
+use Rattle.json_text.specs.Kind.TheVariants as kinds
 use Rattle.json_text.specs.declared.spot.Spot.{Spot}
 use Rattle.json_text.specs.Forest.{Forest, empty, grows}
 use Rattle.json_text.specs.Lexeme.{begins, ends, next, done, more}

@@ -8,7 +8,7 @@ use Rattle.std.proofs.lemmas.Str.{IsUtf8-from_ascii, is_utf8-from_IsUtf8}
 use Rattle.jiff.proofs.OnLiterals.{jiff_on_literals}
 use Rattle.byte_lanes.specs.Spelling.{spelled_byte}
 use Rattle.side_base.specs.Field.{first_named, first_value, is_same_word, trimmed}
-use Rattle.json_text.specs.declared.kind.Kind.TheVariants as kinds
+use Rattle.json_text.specs.Kind.TheVariants as kinds
 use Rattle.json_text.specs.declared.spot.Spot.{Spot}
 use Rattle.json_text.specs.Forest.{Forest, empty, grows}
 use Rattle.json_text.specs.Lexeme.{begins, ends, next, done, more}

@@ -1,7 +1,7 @@
 -- What an app's own list of subscriptions says, as a JSON text. Of repeated members the last counts; null counts as absent.
 use Rattle.std.specs.Prelude.{◌≡◌, ℕ, ◌+◌, Bool, true, false, if◌then◌else◌, List, [], ◌∷◌, ◌++◌, codes, Option, Some, None, option_map, Result, Ok, Err}
-use Rattle.json_text.specs.declared.kind.Kind.{Kind}
-use Rattle.json_text.specs.declared.kind.Kind.TheVariants as kinds
+use Rattle.json_text.specs.Kind.{Kind}
+use Rattle.json_text.specs.Kind.TheVariants as kinds
 use Rattle.json_text.specs.declared.spot.Spot.{Spot}
 use Rattle.json_text.specs.Forest.{Forest, empty, grows}
 use Rattle.json_text.specs.Unescape.{text_shown}

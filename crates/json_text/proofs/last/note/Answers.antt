@@ -2,7 +2,7 @@ use Rattle.std.proofs.Common.{sym, ap, ◌∙◌}
 use Rattle.std.specs.String.{string_bytes}
 use Rattle.json_text.specs.Doc.{bytes_read}
 use Rattle.json_text.proofs.Walks.{own_spot, for_first}
-use Rattle.json_text.proofs.Spelled.{on_ok}
+use Rattle.json_lexemes.proofs.Spelled.{on_ok}
 use Rattle.json_text.proofs.LastNames.{noted_none, noted_some, for_both}
 use Rattle.json_text.proofs.last.note.Goals as goal
 

@@ -1,7 +1,7 @@
 use Rattle.std.proofs.Common.{sym, ◌∙◌, arith}
 use Rattle.json_text.proofs.Tokens.{read_name, read_nothing, read_name_broken}
 use Rattle.json_text.proofs.Steps.{ends_low}
-use Rattle.json_text.specs.declared.lexeme.Lexeme.TheVariants.{Plain as plain}
+use Rattle.json_lexemes.specs.declared.lexeme.Lexeme.TheVariants.{Plain as plain}
 use Rattle.std.proofs.Common.{◌+◌, false}
 use Rattle.json_text.proofs.reader.Reader.name.Goals as goal
 

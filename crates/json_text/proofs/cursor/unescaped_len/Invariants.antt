@@ -1,6 +1,0 @@
-use Rattle.std.proofs.Common.{◌≡◌, ◌+◌, length, drop}
-use Rattle.json_text.specs.Unescape.{unescaped, unescaped_from}
-use Rattle.json_text.proofs.cursor.unescaped_len.Given as goal
-
-abbrev pub invariant-loop-byte : goal.invariant-loop-byte
-invariant-loop-byte l = l.count + length (unescaped_from l.pending (drop l.byte-index l.inside)) ≡ length (unescaped l.inside)

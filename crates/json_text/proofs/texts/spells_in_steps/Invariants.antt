@@ -1,7 +1,0 @@
-use Rattle.std.proofs.Common.{drop}
-use Rattle.json_text.specs.Unescape.{unescaped, unescaped_from}
-use Rattle.json_text.proofs.Pieces.{Same}
-use Rattle.json_text.proofs.texts.spells_in_steps.Given as goal
-
-abbrev pub invariant-loop-byte : goal.invariant-loop-byte
-invariant-loop-byte l = Same (unescaped l.inside) l.fn.text (unescaped_from l.pending (drop l.byte-index l.inside)) l.rest
