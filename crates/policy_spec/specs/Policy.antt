@@ -3,8 +3,8 @@ use Rattle.std.specs.Prelude.{◌≡◌, ℕ, zero, suc, Bool, true, false, ◌&
 use Rattle.std.specs.Str.{is_utf8}
 use Rattle.std.specs.Str.Parse.{digits_value}
 use Rattle.side_base.specs.Decimal.{digits_at, after_digits}
-use Rattle.yaml_subset.specs.declared.kind.PartKind.{PartKind}
-use Rattle.yaml_subset.specs.declared.kind.PartKind.TheVariants as parts
+use Rattle.yaml_subset.specs.PartKind.{PartKind}
+use Rattle.yaml_subset.specs.PartKind.TheVariants as parts
 use Rattle.yaml_subset.specs.Trees.{Trees, none, tree}
 use Rattle.std.specs.Borrow.{Bor}
 use Rattle.yaml_subset.specs.declared.preorder.Part.{Part}

@@ -4,8 +4,8 @@ use Rattle.std.specs.Prelude.{IsUtf8, if◌then◌else◌}
 use Rattle.std.specs.Str.{is_utf8}
 use Rattle.std.proofs.lemmas.Bool.{false_from_ne_true}
 use Rattle.std.proofs.lemmas.Str.{IsUtf8-from_is_utf8, is_utf8-from_IsUtf8}
-use Rattle.yaml_subset.specs.declared.kind.PartKind.{PartKind}
-use Rattle.yaml_subset.specs.declared.kind.PartKind.TheVariants as kinds
+use Rattle.yaml_subset.specs.PartKind.{PartKind}
+use Rattle.yaml_subset.specs.PartKind.TheVariants as kinds
 use Rattle.yaml_subset.specs.Trees.{Told}
 use Rattle.resource_spec.specs.Field.{text_of}
 

@@ -1,7 +1,7 @@
 -- What documents of all kinds begin with: their kind, its version, a name, and the apps that they are for.
 use Rattle.std.specs.Prelude.{◌≡◌, ℕ, Bool, true, false, ◌&&◌, ◌||◌, if◌then◌else◌, List, [], ◌∷◌, bytes_eq, codes, Option, Some, None, Result, Ok, Err}
-use Rattle.yaml_subset.specs.declared.kind.PartKind.{PartKind}
-use Rattle.yaml_subset.specs.declared.kind.PartKind.TheVariants as kinds
+use Rattle.yaml_subset.specs.PartKind.{PartKind}
+use Rattle.yaml_subset.specs.PartKind.TheVariants as kinds
 use Rattle.yaml_subset.specs.Trees.{Trees, none, tree}
 use Rattle.yaml_subset.specs.Docs.{told_of, inner_of, Walked, absent, wrong, here, walked}
 use Rattle.resource_spec.specs.declared.field_err.FieldErr.{FieldErr}

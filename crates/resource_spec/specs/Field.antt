@@ -2,8 +2,8 @@
 use Rattle.std.specs.Prelude.{◌≡◌, ℕ, zero, suc, if◌then◌else◌, List, [], ◌∷◌, ◌++◌, length, take, Option, Some, None, option_map, Result, Ok, Err}
 use Rattle.std.specs.Borrow.{Bor}
 use Rattle.std.specs.Str.{is_utf8}
-use Rattle.yaml_subset.specs.declared.kind.PartKind.{PartKind}
-use Rattle.yaml_subset.specs.declared.kind.PartKind.TheVariants as kinds
+use Rattle.yaml_subset.specs.PartKind.{PartKind}
+use Rattle.yaml_subset.specs.PartKind.TheVariants as kinds
 use Rattle.yaml_subset.specs.Trees.{Told, Trees}
 use Rattle.yaml_subset.specs.Docs.{told_of, Walked, absent, wrong, here, walked}
 use Rattle.resource_spec.specs.declared.field_err.FieldErr.{FieldErr}

@@ -4,8 +4,8 @@ use Rattle.std.proofs.lemmas.Bool.Decides.{Decides-eqb}
 use Rattle.std.proofs.lemmas.Slice.Eq.{bytes_eq-Decides}
 use Rattle.std.specs.Prelude.{Result, Ok, Err, IfSome, ⊤, ◌==◌, ◌⊎◌, bytes_eq, is_some, option_map, codes}
 use Rattle.json_text.specs.Forest.{Forest, empty, grows}
-use Rattle.yaml_subset.specs.declared.kind.PartKind.{PartKind}
-use Rattle.yaml_subset.specs.declared.kind.PartKind.TheVariants as parts
+use Rattle.yaml_subset.specs.PartKind.{PartKind}
+use Rattle.yaml_subset.specs.PartKind.TheVariants as parts
 use Rattle.yaml_subset.specs.Trees.{Trees, none, tree}
 use Rattle.yaml_subset.specs.Docs.{Walked, absent, wrong, here, walked, told_of, inner_of}
 use Rattle.resource_spec.specs.declared.field_err.FieldErr.{FieldErr}

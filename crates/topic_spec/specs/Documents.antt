@@ -1,7 +1,7 @@
 -- What the documents of a file say of subscriptions.
 use Rattle.std.specs.Prelude.{ℕ, ◌+◌, Bool, true, false, bytes_eq, if◌then◌else◌, List, [], ◌∷◌, ◌++◌, codes, Option, Some, None, option_map, Result, Ok, Err}
-use Rattle.yaml_subset.specs.declared.kind.PartKind.{PartKind}
-use Rattle.yaml_subset.specs.declared.kind.PartKind.TheVariants as parts
+use Rattle.yaml_subset.specs.PartKind.{PartKind}
+use Rattle.yaml_subset.specs.PartKind.TheVariants as parts
 use Rattle.yaml_subset.specs.Trees.{Trees, none, tree}
 use Rattle.yaml_subset.specs.Docs.{told_of, inner_of, Walked, absent, wrong, here, walked}
 use Rattle.resource_spec.specs.declared.field_err.FieldErr.{FieldErr}

@@ -1,12 +1,13 @@
 -- A file as a whole.
 use Rattle.std.proofs.Common.{◌≡◌, ◌⊎◌, inl, inr, ℕ, suc, List, [], ◌∷◌, ◌++◌, refl, sym, ap, ◌∙◌, append_assoc, Result, Ok, Err}
 use Rattle.std.specs.Prelude.{map, IsUtf8}
+use Rattle.yaml_lines.specs.Leaf.{Scalar as ItemText}
+use Rattle.yaml_lines.specs.LineParts.{Line}
 use Rattle.yaml_subset.specs.declared.error.YamlErr.{YamlErr}
 use Rattle.yaml_subset.specs.declared.error.YamlErr.TheVariants.{Tab, Indent, LeftOut, Repeated, Scalar, NotUtf8, NoMemory}
 use Rattle.yaml_subset.specs.declared.node.Node.{Node}
-use Rattle.yaml_subset.specs.Tree.{Scalar as ItemText, What, absent, leaf, rows, Forest, empty, grows, Entry, kind_of, text_of, item_entries, leaf_entries, row_entries, entries}
+use Rattle.yaml_subset.specs.Tree.{What, absent, leaf, rows, Forest, empty, grows, Entry, kind_of, text_of, item_entries, leaf_entries, row_entries, entries}
 use Rattle.yaml_subset.specs.Front.{Front}
-use Rattle.yaml_subset.specs.Line.{Line}
 use Rattle.yaml_subset.specs.Reading.{Says, IsRefused}
 use Rattle.yaml_subset.specs.Trees.{Trees, item_trees, inner_trees, plain, tree_entries}
 use Rattle.yaml_subset.specs.File.{file_lines, IsFile, IsRefusal, IsRefusalOrMemory}

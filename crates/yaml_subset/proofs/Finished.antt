@@ -1,15 +1,15 @@
 -- A reader between two lines, and what it has in the end.
 use Rattle.std.proofs.Common.{◌≡◌, List, [], ◌∷◌, ◌++◌, refl, sym, ap, subst, ◌∙◌, append_assoc, append-nil, Option, Some, None, Err}
 use Rattle.std.specs.Prelude.{map, MatchOption}
-use Rattle.yaml_subset.specs.declared.line.Line.{Line as LineHeld}
-use Rattle.yaml_subset.specs.LineShown.{line_shown}
+use Rattle.yaml_lines.specs.declared.line.Line.{Line as LineHeld}
+use Rattle.yaml_lines.specs.LineShown.{line_shown}
+use Rattle.yaml_lines.specs.LineParts.{Line}
 use Rattle.yaml_subset.specs.declared.error.YamlErr.{YamlErr}
 use Rattle.yaml_subset.specs.declared.error.YamlErr.TheVariants.{Tab, Indent, LeftOut, Repeated, Scalar, NotUtf8, NoMemory}
 use Rattle.yaml_subset.specs.declared.open.Tip.TheVariants as tips
 use Rattle.yaml_subset.specs.declared.reader.Reader.{Reader}
 use Rattle.yaml_subset.specs.Tree.{What, absent, rows, Forest, empty, entries}
 use Rattle.yaml_subset.specs.Front.{Frame, Front, IsTip}
-use Rattle.yaml_subset.specs.Line.{Line}
 use Rattle.yaml_subset.specs.Reading.{Says, IsRefused}
 use Rattle.yaml_subset.specs.Refusal.{with_row, after_line}
 use Rattle.yaml_subset.specs.Held.{node_shown, entries_open, openings, AreNames, Stands, StandsAfter, IsCause}

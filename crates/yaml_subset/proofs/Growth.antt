@@ -3,20 +3,21 @@ use Rattle.std.proofs.Common.{◌≡◌, ◌≢◌, ℕ, zero, suc, ◌+◌, ◌
 use Rattle.std.specs.Prelude.{nat_lt, if◌then◌else◌, map, bytes_eq}
 use Rattle.std.proofs.lemmas.List.{length-append}
 use Rattle.std.proofs.lemmas.Bool.Decides.{Decides-eqb}
-use Rattle.yaml_subset.specs.declared.kind.PartKind.{PartKind}
-use Rattle.yaml_subset.specs.declared.kind.PartKind.TheVariants as kinds
+use Rattle.yaml_lines.specs.declared.kind.PartKind.{PartKind}
+use Rattle.yaml_lines.specs.declared.kind.PartKind.TheVariants as kinds
+use Rattle.yaml_lines.specs.declared.value.Item.{Item}
+use Rattle.yaml_lines.specs.Leaf.{Scalar, Leaf}
+use Rattle.yaml_lines.specs.Shown.{item_shown}
 use Rattle.yaml_subset.specs.declared.node.Node.{Node}
 use Rattle.yaml_subset.specs.declared.open.Holder.{Holder}
 use Rattle.yaml_subset.specs.declared.open.Holder.TheVariants as holders
 use Rattle.yaml_subset.specs.declared.open.Open.{Open}
-use Rattle.yaml_subset.specs.declared.value.Item.{Item}
-use Rattle.yaml_subset.specs.Tree.{Scalar, Leaf, What, absent, leaf, rows, Forest, empty, grows, one, append, Entry, holder_kind, item_entries, row_entries, entries}
+use Rattle.yaml_subset.specs.Tree.{What, absent, leaf, rows, Forest, empty, grows, one, append, Entry, holder_kind, item_entries, row_entries, entries}
 use Rattle.yaml_subset.specs.Front.{Frame}
 use Rattle.yaml_subset.specs.Refusal.{is_holder, with_row, turned, may_have, name_is_taken}
 use Rattle.yaml_subset.specs.Names.{has_name}
 use Rattle.yaml_subset.specs.Held.{node_shown, entries_open, opened, openings, AreNames, last_with, with_kind}
 use Rattle.yaml_subset.specs.Kept.{kept_count}
-use Rattle.yaml_subset.specs.Shown.{item_shown}
 use Rattle.yaml_subset.proofs.Known.{or_exchange}
 use Rattle.yaml_subset.proofs.Rows.{entries_append}
 

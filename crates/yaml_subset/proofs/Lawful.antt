@@ -4,17 +4,18 @@ use Rattle.std.specs.Prelude.{nat_lt, if◌then◌else◌, bytes_eq, IsUtf8}
 use Rattle.std.proofs.lemmas.Bool.{false_from_ne_true}
 use Rattle.std.proofs.lemmas.Slice.Eq.{bytes_eq-Decides}
 use Rattle.std.proofs.lemmas.Str.{IsUtf8-nil}
-use Rattle.yaml_subset.specs.declared.kind.PartKind.{PartKind}
-use Rattle.yaml_subset.specs.declared.kind.PartKind.TheVariants as kinds
+use Rattle.yaml_lines.specs.declared.kind.PartKind.{PartKind}
+use Rattle.yaml_lines.specs.declared.kind.PartKind.TheVariants as kinds
+use Rattle.yaml_lines.specs.Leaf.{Scalar}
+use Rattle.yaml_lines.proofs.Branches.{if_of}
 use Rattle.yaml_subset.specs.declared.open.Holder.{Holder}
 use Rattle.yaml_subset.specs.declared.open.Holder.TheVariants as holders
-use Rattle.yaml_subset.specs.Tree.{Scalar, What, absent, leaf, rows, Forest, empty, grows, holder_kind, kind_of, text_of}
+use Rattle.yaml_subset.specs.Tree.{What, absent, leaf, rows, Forest, empty, grows, holder_kind, kind_of, text_of}
 use Rattle.yaml_subset.specs.Layout.{Says, start, item, named, value, says_of, Mark, lead, inside, marks, Lacks, IsNameIn, Fits}
 use Rattle.yaml_subset.specs.Trees.{Told, Trees, none, tree, item_trees, inner_trees, plain}
 use Rattle.yaml_subset.specs.Docs.{size, row_at, told_of, inner_of, members_in, members_of}
 use Rattle.yaml_subset.specs.Lawful.{count_named, AreUnnamed, MayHold, MayTell, IsLawful, AreLawful, AreOfFile}
 use Rattle.yaml_subset.proofs.Rows.{marks_grows, RowFits, fits_row}
-use Rattle.yaml_subset.proofs.Branches.{if_of}
 use Rattle.yaml_subset.proofs.Leaves.{AreItems, MayList, IsLeaf}
 
 abbrev OfSays : Says → Type 0

@@ -1,14 +1,16 @@
 -- What reading line by line comes to: the documents that the lines say, or the first refusal.
 use Rattle.std.proofs.Common.{◌≡◌, ℕ, Bool, true, false, ◌||◌, List, [], ◌∷◌, ◌++◌, length, refl, sym, ap, subst, ◌∙◌, append_assoc, append-nil, Option, Some, None, Result, Ok, Err}
 use Rattle.std.specs.Prelude.{if◌then◌else◌}
+use Rattle.yaml_lines.specs.Leaf.{Leaf}
+use Rattle.yaml_lines.specs.LineParts.{Line, Name, Value, name_in, value_in, first_of, Spelled, good, left_out, wrong}
 use Rattle.yaml_subset.specs.declared.error.YamlErr.{YamlErr}
 use Rattle.yaml_subset.specs.declared.error.YamlErr.TheVariants.{Tab, LeftOut, Repeated, Scalar}
 use Rattle.yaml_subset.specs.declared.open.Holder.{Holder}
 use Rattle.yaml_subset.specs.declared.open.Holder.TheVariants as holders
-use Rattle.yaml_subset.specs.Tree.{Leaf, What, rows, Forest, empty, one}
+use Rattle.yaml_subset.specs.Tree.{What, rows, Forest, empty, one}
 use Rattle.yaml_subset.specs.Layout.{Mark, inside, marks, Fits}
 use Rattle.yaml_subset.specs.Front.{Frame, Front, AreOpen, IsTip, IsFront, marks_then}
-use Rattle.yaml_subset.specs.Line.{Line, Name, Value, name_in, value_in, first_of, Spelled, good, left_out, wrong, line_marks, IsGood, IsGoodName, IsGoodValue, IsClean, marks_of, AreClean}
+use Rattle.yaml_subset.specs.Line.{line_marks, IsGood, IsGoodName, IsGoodValue, IsClean, marks_of, AreClean}
 use Rattle.yaml_subset.specs.Refusal.{with_row, ◌>>=◌, with_start, with_parts, goes_on, byte_left_out, name_left_out, value_left_out, first_of_two, what_left_out, is_wrong, wrong_name_in, wrong_value_in, has_wrong, repeats, placed, unless_left_out, unless_goes_on, after_line}
 use Rattle.yaml_subset.specs.Reading.{Says, IsRefused}
 use Rattle.yaml_subset.proofs.Rows.{marks_append, marks_one, RowFits, fits_snoc}

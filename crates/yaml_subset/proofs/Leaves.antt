@@ -2,24 +2,24 @@
 use Rattle.std.proofs.Common.{◌≡◌, ℕ, ◌-◌, ◌<◌, Bool, true, false, ◌&&◌, ◌||◌, not, ◌==◌, List, [], ◌∷◌, ◌++◌, drop, take, refl, sym, arith, Option, Some, None}
 use Rattle.std.specs.Prelude.{IsUtf8, if◌then◌else◌}
 use Rattle.std.proofs.lemmas.Str.{IsUtf8-nil}
-use Rattle.yaml_subset.specs.declared.kind.PartKind.{PartKind}
-use Rattle.yaml_subset.specs.declared.kind.PartKind.TheVariants as kinds
-use Rattle.yaml_subset.specs.declared.flow.Within.TheVariants.{Before as before}
-use Rattle.yaml_subset.specs.Tree.{Scalar, Leaf}
-use Rattle.yaml_subset.specs.Line.{Spelled, good, left_out, wrong}
+use Rattle.yaml_lines.specs.declared.kind.PartKind.{PartKind}
+use Rattle.yaml_lines.specs.declared.kind.PartKind.TheVariants as kinds
+use Rattle.yaml_lines.specs.declared.flow.Within.TheVariants.{Before as before}
+use Rattle.yaml_lines.specs.Leaf.{Scalar, Leaf}
+use Rattle.yaml_lines.specs.LineParts.{Spelled, good, left_out, wrong}
+use Rattle.yaml_lines.proofs.Branches.{if_of}
+use Rattle.yaml_lines.proofs.Chars.{low_by, utf8_tail, AreTexts}
+use Rattle.yaml_lines.proofs.Cuts.{behind_whites, trimmed_utf8, before_comment_utf8, within_quotes}
+use Rattle.yaml_lines.proofs.Spelling.{unquoted_utf8}
+use Rattle.yaml_lines.proofs.BlockTexts.{block_utf8}
+use Rattle.yaml_lines.proofs.FlowTexts.{pieces_utf8}
+use Rattle.yaml_lines.specs.Blank.{whites_of, begins_with, is_end, is_tail}
+use Rattle.yaml_lines.specs.Plain.{trimmed, before_comment, begins_plain, has_colon_space, is_left_out, is_null}
+use Rattle.yaml_lines.specs.Quoted.{quoted_len, text_within}
+use Rattle.yaml_lines.specs.Block.{block_text}
+use Rattle.yaml_lines.specs.Flow.{plain_scalar, is_plain_item, quoted_scalar, quoted_item, item_by, trimmed_item, first_of_item, item_text, Gathered, gather, gathered, gathered_none, sequence_leaf, sequence_out, closed_by, pieces, flow_leaf}
+use Rattle.yaml_lines.specs.ValueText.{text_leaf, bare_leaf, plain_leaf, quoted_text_leaf, quoted_leaf, header_keeps, header_tail, block_leaf, brace_leaf, value_by, value_text}
 use Rattle.yaml_subset.specs.Lawful.{MayTell}
-use Rattle.yaml_subset.proofs.Branches.{if_of}
-use Rattle.yaml_subset.proofs.Chars.{low_by, utf8_tail, AreTexts}
-use Rattle.yaml_subset.proofs.Cuts.{behind_whites, trimmed_utf8, before_comment_utf8, within_quotes}
-use Rattle.yaml_subset.proofs.Spelling.{unquoted_utf8}
-use Rattle.yaml_subset.proofs.BlockTexts.{block_utf8}
-use Rattle.yaml_subset.proofs.FlowTexts.{pieces_utf8}
-use Rattle.yaml_subset.specs.Blank.{whites_of, begins_with, is_end, is_tail}
-use Rattle.yaml_subset.specs.Plain.{trimmed, before_comment, begins_plain, has_colon_space, is_left_out, is_null}
-use Rattle.yaml_subset.specs.Quoted.{quoted_len, text_within}
-use Rattle.yaml_subset.specs.Block.{block_text}
-use Rattle.yaml_subset.specs.Flow.{plain_scalar, is_plain_item, quoted_scalar, quoted_item, item_by, trimmed_item, first_of_item, item_text, Gathered, gather, gathered, gathered_none, sequence_leaf, sequence_out, closed_by, pieces, flow_leaf}
-use Rattle.yaml_subset.specs.ValueText.{text_leaf, bare_leaf, plain_leaf, quoted_text_leaf, quoted_leaf, header_keeps, header_tail, block_leaf, brace_leaf, value_by, value_text}
 
 -- a fact of what is spelled, if something is
 abbrev pub OfSpelled : {T : Type 0} → (T → Type 0) → Spelled T → Type 0

@@ -4,11 +4,6 @@ pub mod Whole
 pub mod Sound
 pub mod Lines
 pub mod Laws
-pub mod Blanks
-pub mod Words
-pub mod Escapes
-pub mod Items
-pub mod Blocks
 pub mod Sources
 pub mod Opens
 pub mod Growth
@@ -20,12 +15,6 @@ pub mod Numbers
 pub mod Mild
 pub mod Files
 pub mod OrderMark
-pub mod Branches
-pub mod Chars
-pub mod Cuts
-pub mod Spelling
-pub mod BlockTexts
-pub mod FlowTexts
 pub mod Leaves
 pub mod Lawful
 pub mod Marked

@@ -1,14 +1,16 @@
 -- Lines and their marks: what is placed line by line is what the marks lead to.
 use Rattle.std.proofs.Common.{◌≡◌, ℕ, Bool, true, false, ◌&&◌, ◌||◌, ◌==◌, List, [], ◌∷◌, ◌++◌, refl, sym, ap, subst, ◌∙◌, append_assoc, append-nil, arith, Option, Some, None, Result, Ok, Err}
 use Rattle.std.specs.Prelude.{nat_lt, if◌then◌else◌}
+use Rattle.yaml_lines.specs.Leaf.{Leaf}
+use Rattle.yaml_lines.specs.LineParts.{Line, Name, Value, Parts, dashed, member, alone, name_in, value_in, column_of, first_of, Spelled, good, left_out, wrong}
 use Rattle.yaml_subset.specs.declared.error.YamlErr.{YamlErr}
 use Rattle.yaml_subset.specs.declared.error.YamlErr.TheVariants.{LeftOut, Repeated}
 use Rattle.yaml_subset.specs.declared.open.Holder.{Holder}
 use Rattle.yaml_subset.specs.declared.open.Holder.TheVariants as holders
-use Rattle.yaml_subset.specs.Tree.{Leaf, What, absent, leaf, rows, Forest, empty}
+use Rattle.yaml_subset.specs.Tree.{What, absent, leaf, rows, Forest, empty}
 use Rattle.yaml_subset.specs.Layout.{Mark, Says, start, item, named, value, nests}
 use Rattle.yaml_subset.specs.Front.{Frame, Front, IsFront}
-use Rattle.yaml_subset.specs.Line.{Line, Name, Value, Parts, dashed, member, alone, name_in, value_in, column_of, first_of, Spelled, good, left_out, wrong, text_said, start_marks, name_marks, leaf_marks, value_marks, part_marks, line_marks, IsGood, IsGoodName, IsGoodValue, IsClean}
+use Rattle.yaml_subset.specs.Line.{text_said, start_marks, name_marks, leaf_marks, value_marks, part_marks, line_marks, IsGood, IsGoodName, IsGoodValue, IsClean}
 use Rattle.yaml_subset.specs.Refusal.{is_holder, is_absent, is_plain, turned, turned_or, may_begin, may_have, is_deep, has_column, Misplaced, too_deep, misplaced_in, with_row, with_lead, with_value, name_is_taken, is_repeated, at_line, ◌>>=◌, with_start, with_name, counts_as_level, leaf_said, with_leaf, with_parts, goes_on, byte_left_out, name_left_out, value_left_out, first_of_two, what_left_out, is_wrong, wrong_name_in, wrong_value_in, has_wrong, repeats, placed, unless_left_out, unless_goes_on, after_line}
 use Rattle.yaml_subset.proofs.Machine.{run, said, led, had, kept}
 use Rattle.yaml_subset.proofs.Sound.{lead_sound, value_sound, same_holder}

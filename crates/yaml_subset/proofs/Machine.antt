@@ -4,9 +4,10 @@ use Rattle.std.specs.Prelude.{nat_lt, if◌then◌else◌, bytes_eq}
 use Rattle.std.proofs.lemmas.Bool.{false_from_ne_true}
 use Rattle.std.proofs.lemmas.Bool.Decides.{Decides-eqb}
 use Rattle.std.proofs.lemmas.Slice.Eq.{bytes_eq-Decides}
+use Rattle.yaml_lines.specs.Leaf.{Leaf}
 use Rattle.yaml_subset.specs.declared.open.Holder.{Holder}
 use Rattle.yaml_subset.specs.declared.open.Holder.TheVariants as holders
-use Rattle.yaml_subset.specs.Tree.{Leaf, What, absent, leaf, rows, Forest, empty, grows, one, append}
+use Rattle.yaml_subset.specs.Tree.{What, absent, leaf, rows, Forest, empty, grows, one, append}
 use Rattle.yaml_subset.specs.Layout.{Says, start, item, named, value, Mark, lead, inside, says_of, marks, may_hold, max_levels, Lacks, IsWithin, nests, Fits}
 use Rattle.yaml_subset.specs.Front.{Frame, Front, IsNewIn}
 use Rattle.yaml_subset.specs.Refusal.{is_holder, is_absent, with_row, turned, may_begin, may_have, is_deep, Misplaced, with_lead, with_value, name_is_taken, is_repeated}

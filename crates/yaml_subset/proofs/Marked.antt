@@ -5,22 +5,25 @@ use Rattle.std.proofs.lemmas.Bool.{and_parts}
 use Rattle.std.proofs.lemmas.List.{drop-drop}
 use Rattle.std.proofs.lemmas.Str.{IsUtf8-nil}
 use Rattle.std.specs.Str.Lines.{lines}
-use Rattle.yaml_subset.specs.Tree.{Leaf, Forest}
-use Rattle.yaml_subset.specs.Blank.{spaces_of, whites_of, is_tail, is_mark, is_passed_over}
-use Rattle.yaml_subset.specs.Line.{Spelled, good, left_out, wrong, Name, Value, Parts, dashed, member, alone, name_in, value_in, start_marks, text_said, name_marks, leaf_marks, value_marks, part_marks, Line, line_marks, marks_of}
-use Rattle.yaml_subset.specs.Plain.{trimmed, ends_name, colon_place, begins_plain, is_left_out}
-use Rattle.yaml_subset.specs.Quoted.{quoted_len, text_within}
-use Rattle.yaml_subset.specs.LineText.{first_byte, NameAt, quoted_name, ends_here, colon_behind, quoted_name_at, plain_name_at, name_by, name_at, Held, value_at, value_behind, block_from, Cut, item_named, item_cut, line_named, is_item, cut, cut_line, line_with, holder_column, lines_below}
-use Rattle.yaml_subset.specs.ValueText.{opens_block}
+use Rattle.yaml_lines.specs.Leaf.{Leaf}
+use Rattle.yaml_lines.specs.Blank.{spaces_of, whites_of, is_tail, is_mark, is_passed_over}
+use Rattle.yaml_lines.specs.LineParts.{Spelled, good, left_out, wrong, Name, Value, Parts, dashed, member, alone, name_in, value_in, Line}
+use Rattle.yaml_lines.specs.Plain.{trimmed, ends_name, colon_place, begins_plain, is_left_out}
+use Rattle.yaml_lines.specs.Quoted.{quoted_len, text_within}
+use Rattle.yaml_lines.specs.LineText.{first_byte, NameAt, quoted_name, ends_here, colon_behind, quoted_name_at, plain_name_at, name_by, name_at, Held, value_at, value_behind, block_from, Cut, item_named, item_cut, line_named, is_item, cut, cut_line, line_with, holder_column, lines_below}
+use Rattle.yaml_lines.specs.ValueText.{opens_block}
+use Rattle.yaml_lines.proofs.Branches.{if_of}
+use Rattle.yaml_lines.proofs.Chars.{take_low, drop_low, AreTexts}
+use Rattle.yaml_lines.proofs.Cuts.{behind_whites, behind_spaces, trimmed_utf8, colon_at, within_quotes}
+use Rattle.yaml_lines.proofs.FlowTexts.{lines_utf8}
+use Rattle.yaml_subset.specs.Tree.{Forest}
+use Rattle.yaml_subset.specs.Line.{start_marks, text_said, name_marks, leaf_marks, value_marks, part_marks, line_marks, marks_of}
 use Rattle.yaml_subset.specs.Contents.{contents}
 use Rattle.yaml_subset.specs.Trees.{plain}
 use Rattle.yaml_subset.specs.Reading.{Says}
 use Rattle.yaml_subset.specs.File.{without_order_mark, file_lines}
 use Rattle.yaml_subset.specs.Lawful.{AreOfFile}
-use Rattle.yaml_subset.proofs.Branches.{if_of}
-use Rattle.yaml_subset.proofs.Chars.{take_low, drop_low, AreTexts}
-use Rattle.yaml_subset.proofs.Cuts.{behind_whites, behind_spaces, trimmed_utf8, colon_at, within_quotes}
-use Rattle.yaml_subset.proofs.FlowTexts.{lines_utf8, unmarked_utf8}
+use Rattle.yaml_subset.proofs.OrderMark.{unmarked_utf8}
 use Rattle.yaml_subset.proofs.Leaves.{OfSpelled, IsTextIf, between_quotes, behind_byte, IsLeaf, value_good}
 use Rattle.yaml_subset.proofs.Lawful.{AreGood, good_append, documents_lawful}
 

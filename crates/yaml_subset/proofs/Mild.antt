@@ -1,11 +1,12 @@
 -- Which errors a line may have.
 use Rattle.std.proofs.Common.{◌≡◌, ℕ, [], Bool, true, false, Option, Some, None, Result, Ok, Err, subst}
 use Rattle.std.specs.Prelude.{if◌then◌else◌}
+use Rattle.yaml_lines.specs.LineParts.{Line, Name, Value, Parts, dashed, member, alone, name_in, first_of}
 use Rattle.yaml_subset.specs.declared.error.YamlErr.{YamlErr}
 use Rattle.yaml_subset.specs.declared.error.YamlErr.TheVariants.{Tab, Indent, LeftOut, Repeated, Scalar, NotUtf8, NoMemory}
 use Rattle.yaml_subset.specs.declared.open.Holder.TheVariants as holders
 use Rattle.yaml_subset.specs.Front.{Front}
-use Rattle.yaml_subset.specs.Line.{Line, Name, Value, Parts, dashed, member, alone, name_in, text_said, first_of}
+use Rattle.yaml_subset.specs.Line.{text_said}
 use Rattle.yaml_subset.specs.Refusal.{Misplaced, too_deep, no_column, other_kind, at_line, ◌>>=◌, with_lead, with_value, with_start, with_name, with_leaf, with_parts, counts_as_level, leaf_said, goes_on, has_wrong, repeats, placed, unless_left_out, unless_goes_on, what_left_out, after_line}
 
 -- a line is never refused as a file is

@@ -3,9 +3,10 @@ use Rattle.std.proofs.Common.{◌≡◌, ◌≢◌, ℕ, suc, ◌<◌, Bool, tru
 use Rattle.std.specs.Prelude.{nat_lt, bytes_eq, if◌then◌else◌}
 use Rattle.std.proofs.lemmas.Bool.Decides.{Decides-eqb, Decides-ltb}
 use Rattle.std.proofs.lemmas.Slice.Eq.{bytes_eq-Decides}
+use Rattle.yaml_lines.specs.Leaf.{Leaf}
 use Rattle.yaml_subset.specs.declared.open.Holder.{Holder}
 use Rattle.yaml_subset.specs.declared.open.Holder.TheVariants as holders
-use Rattle.yaml_subset.specs.Tree.{Leaf, What, absent, leaf, rows, Forest, empty, grows, one, append}
+use Rattle.yaml_subset.specs.Tree.{What, absent, leaf, rows, Forest, empty, grows, one, append}
 use Rattle.yaml_subset.specs.Layout.{Mark, lead, inside, value, marks, max_levels, nests, Lacks, IsWithin, Fits}
 use Rattle.yaml_subset.specs.Front.{Frame, Front, IsNewIn, IsPlaced, AreOpen, IsTip, IsFront, marks_then, row_lead}
 use Rattle.yaml_subset.specs.Refusal.{is_holder, is_absent, with_row, turned, turned_or, may_begin, may_have, is_deep, has_column, too_deep, misplaced_in, with_lead, with_value, name_is_taken, is_repeated}

@@ -1,13 +1,12 @@
 -- Steps over the lines of a file.
-use Rattle.std.proofs.Common.{◌≡◌, ℕ, zero, suc, ◌+◌, ◌-◌, ◌<◌, ◌≤◌, Bool, true, false, List, [], ◌∷◌, length, take, drop, get_or, refl, sym, ap, ◌∙◌, arith}
-use Rattle.std.proofs.lemmas.List.{length-drop}
+use Rattle.std.proofs.Common.{◌≡◌, ℕ, zero, suc, ◌+◌, ◌<◌, ◌≤◌, Bool, true, false, List, [], ◌∷◌, length, drop, get_or, refl, sym, ap, ◌∙◌, arith}
 use Rattle.std.specs.Borrow.{Bor}
-use Rattle.yaml_subset.specs.Blank.{is_mark, is_passed_over}
-use Rattle.yaml_subset.specs.Line.{Line}
-use Rattle.yaml_subset.specs.LineText.{Cut, cut_line, line_with, lines_below, holder_column}
+use Rattle.yaml_lines.specs.Blank.{is_mark, is_passed_over}
+use Rattle.yaml_lines.specs.LineParts.{Line}
+use Rattle.yaml_lines.specs.LineText.{Cut, cut_line, line_with, lines_below, holder_column}
+use Rattle.yaml_lines.specs.Texts.{texts}
+use Rattle.yaml_lines.proofs.Blocks.{line_at, line_end, texts_drop}
 use Rattle.yaml_subset.specs.Contents.{contents}
-use Rattle.yaml_subset.specs.Texts.{texts}
-use Rattle.yaml_subset.proofs.Blocks.{line_at, line_end, texts_drop}
 
 pub contents_mark : (at least : ℕ) (starts : Bool) (lines : List (Bor (List ℕ))) (d : Bor (List ℕ)) → at < length lines → is_mark (get_or lines at d).now ≡ true → contents (at + 1 + 1) true 0 0 (texts (drop (at + 1) lines)) ≡ contents (at + 1) starts least 0 (texts (drop at lines))
 unfolding contents
@@ -64,12 +63,3 @@ contents_take at least count starts lines others d c line next_least h o m p e l
   where
     number : at + 1 + 1 + count ≡ at + 1 + count + 1
     number = omega arith
-
-take_whole : (k : ℕ) (lines : List (Bor (List ℕ))) → length lines ≤ k → take k lines ≡ lines
-take_whole zero [] h = refl
-take_whole zero (x ∷ xs) h = absurd (omega (arith, h))
-take_whole (suc k) [] h = refl
-take_whole (suc k) (x ∷ xs) h = ap (λ l. x ∷ l) (take_whole k xs (omega (arith, h)))
-
-pub rest_is_drop : (n : ℕ) (lines : List (Bor (List ℕ))) → take (length lines - n) (drop n lines) ≡ drop n lines
-rest_is_drop n lines = take_whole (length lines - n) (drop n lines) (omega (arith, length-drop n lines))

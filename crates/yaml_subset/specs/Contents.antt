@@ -1,8 +1,8 @@
 -- The lines of a file that have content.
 use Rattle.std.specs.Prelude.{ℕ, zero, suc, ◌+◌, Bool, true, false, if◌then◌else◌, List, [], ◌∷◌}
-use Rattle.yaml_subset.specs.Blank.{is_mark, is_passed_over}
-use Rattle.yaml_subset.specs.Line.{Line}
-use Rattle.yaml_subset.specs.LineText.{cut_line, line_with, lines_below, holder_column}
+use Rattle.yaml_lines.specs.Blank.{is_mark, is_passed_over}
+use Rattle.yaml_lines.specs.LineParts.{Line}
+use Rattle.yaml_lines.specs.LineText.{cut_line, line_with, lines_below, holder_column}
 
 -- Of raw lines that count from this number: marks begin documents, blank lines and comments are passed over, and so are the
 -- lines of a literal block, since they are what the line above them says. `starts` says that a document is to begin, `least`

@@ -2,10 +2,10 @@
 use Rattle.std.specs.Prelude.{◌≡◌, ℕ, true, if◌then◌else◌, List, [], ◌∷◌, take, drop, bytes_eq, IsUtf8, Result, MatchResult, ◌⊎◌}
 use Rattle.std.specs.Str.Lines.{lines}
 use Rattle.side_base.specs.Text.{IsNotUtf8At}
+use Rattle.yaml_lines.specs.LineParts.{Line}
 use Rattle.yaml_subset.specs.declared.error.YamlErr.{YamlErr}
 use Rattle.yaml_subset.specs.declared.error.YamlErr.TheVariants.{Tab, Indent, LeftOut, Repeated, Scalar, NotUtf8, NoMemory}
 use Rattle.yaml_subset.specs.Tree.{Forest}
-use Rattle.yaml_subset.specs.Line.{Line}
 use Rattle.yaml_subset.specs.Contents.{contents}
 use Rattle.yaml_subset.specs.Reading.{Says, IsRefused}
 use Rattle.yaml_subset.specs.Trees.{Trees, plain}

@@ -1,11 +1,11 @@
 -- How a reader's own lists stand to the front of a layout.
 use Rattle.std.specs.Prelude.{◌≡◌, ℕ, ◌||◌, bytes_eq, Bool, List, [], ◌∷◌, ◌++◌, length, map, if◌then◌else◌, Option, Some, Result, Ok, Err}
+use Rattle.yaml_lines.specs.LineParts.{Name}
+use Rattle.yaml_lines.specs.declared.kind.PartKind.{PartKind}
 use Rattle.yaml_subset.specs.declared.error.YamlErr.{YamlErr}
 use Rattle.yaml_subset.specs.declared.error.YamlErr.TheVariants.{Tab, Indent, LeftOut, Repeated, Scalar, NotUtf8, NoMemory}
 use Rattle.yaml_subset.specs.Refusal.{is_repeated, name_is_taken, repeats}
 use Rattle.yaml_subset.specs.Names.{has_name}
-use Rattle.yaml_subset.specs.Line.{Name}
-use Rattle.yaml_subset.specs.declared.kind.PartKind.{PartKind}
 use Rattle.yaml_subset.specs.declared.node.Node.{Node}
 use Rattle.yaml_subset.specs.declared.open.Open.{Open}
 use Rattle.yaml_subset.specs.declared.open.Tip.{Tip}

@@ -1,7 +1,7 @@
 -- What holds of the parts of every file, by their kinds.
 use Rattle.std.specs.Prelude.{◌≡◌, ℕ, ◌+◌, ◌≤◌, List, [], bytes_eq, IsUtf8, if◌then◌else◌}
-use Rattle.yaml_subset.specs.declared.kind.PartKind.{PartKind}
-use Rattle.yaml_subset.specs.declared.kind.PartKind.TheVariants as kinds
+use Rattle.yaml_lines.specs.declared.kind.PartKind.{PartKind}
+use Rattle.yaml_lines.specs.declared.kind.PartKind.TheVariants as kinds
 use Rattle.yaml_subset.specs.Trees.{Told, Trees, none, tree}
 
 -- how many parts of a row have this name

@@ -1,11 +1,12 @@
 -- How rows are laid out: the marks that they leave, each in its line and column. Columns count from 1; a document begins in
 -- column 0.
 use Rattle.std.specs.Prelude.{◌≡◌, ◌≢◌, ℕ, suc, ◌<◌, Bool, true, false, ◌||◌, ◌==◌, nat_lt, List, [], ◌∷◌, ◌++◌}
-use Rattle.yaml_subset.specs.declared.kind.PartKind.{PartKind}
-use Rattle.yaml_subset.specs.declared.kind.PartKind.TheVariants as kinds
+use Rattle.yaml_lines.specs.declared.kind.PartKind.{PartKind}
+use Rattle.yaml_lines.specs.declared.kind.PartKind.TheVariants as kinds
+use Rattle.yaml_lines.specs.Leaf.{Leaf}
 use Rattle.yaml_subset.specs.declared.open.Holder.{Holder}
 use Rattle.yaml_subset.specs.declared.open.Holder.TheVariants as holders
-use Rattle.yaml_subset.specs.Tree.{Leaf, What, absent, leaf, rows, Forest, empty, grows}
+use Rattle.yaml_subset.specs.Tree.{What, absent, leaf, rows, Forest, empty, grows}
 
 -- how many mappings and sequences may stand within one another
 abbrev pub max_levels : ℕ

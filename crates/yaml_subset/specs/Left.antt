@@ -1,10 +1,10 @@
 -- The lines that a source has still to give.
 use Rattle.std.specs.Prelude.{ℕ, ◌+◌, List, [], drop, slice_index_or}
 use Rattle.std.specs.Borrow.{Bor}
+use Rattle.yaml_lines.specs.LineParts.{Line}
+use Rattle.yaml_lines.specs.Texts.{texts}
 use Rattle.yaml_subset.specs.declared.left.Source.{Source}
 use Rattle.yaml_subset.specs.Contents.{contents}
-use Rattle.yaml_subset.specs.Line.{Line}
-use Rattle.yaml_subset.specs.Texts.{texts}
 
 abbrev pub contents_left : Source → List Line
 contents_left source = contents (source.at + 1) source.starts source.least 0 (texts (drop source.at source.lines.now))

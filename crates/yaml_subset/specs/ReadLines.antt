@@ -1,10 +1,10 @@
 -- Nodes that show what lines say.
 use Rattle.std.specs.Prelude.{◌≡◌, List, map}
+use Rattle.yaml_lines.specs.LineParts.{Line}
 use Rattle.yaml_subset.specs.declared.error.YamlErr.{YamlErr}
 use Rattle.yaml_subset.specs.declared.error.YamlErr.TheVariants.{Tab, Indent, LeftOut, Repeated, Scalar, NotUtf8, NoMemory}
 use Rattle.yaml_subset.specs.declared.node.Node.{Node}
 use Rattle.yaml_subset.specs.Tree.{Forest, entries}
-use Rattle.yaml_subset.specs.Line.{Line}
 use Rattle.yaml_subset.specs.Reading.{Says, IsRefused}
 use Rattle.yaml_subset.specs.Held.{node_shown}
 

@@ -1,11 +1,12 @@
 -- What a list of lines says, and where it is refused.
 use Rattle.std.specs.Prelude.{◌≡◌, List, ◌∷◌, ◌++◌, Err}
+use Rattle.yaml_lines.specs.LineParts.{Line}
 use Rattle.yaml_subset.specs.declared.error.YamlErr.{YamlErr}
 use Rattle.yaml_subset.specs.declared.open.Holder.TheVariants as holders
 use Rattle.yaml_subset.specs.Tree.{Forest}
 use Rattle.yaml_subset.specs.Layout.{marks, Fits}
 use Rattle.yaml_subset.specs.Front.{Front, IsFront}
-use Rattle.yaml_subset.specs.Line.{Line, marks_of, AreClean}
+use Rattle.yaml_subset.specs.Line.{marks_of, AreClean}
 use Rattle.yaml_subset.specs.Refusal.{after_line}
 
 -- the lines say these documents

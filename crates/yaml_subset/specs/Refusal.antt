@@ -1,13 +1,15 @@
 -- Where a line may stand behind a front, and why it is refused.
 use Rattle.std.specs.Prelude.{ℕ, Bool, true, false, ◌&&◌, ◌||◌, ◌==◌, nat_lt, bytes_eq, if◌then◌else◌, List, [], ◌∷◌, length, Option, Some, None, Result, Ok, Err}
+use Rattle.yaml_lines.specs.Leaf.{Leaf}
+use Rattle.yaml_lines.specs.LineParts.{Line, Name, Value, Parts, dashed, member, alone, name_in, value_in, column_of, first_of, Spelled, good, left_out, wrong}
 use Rattle.yaml_subset.specs.declared.error.YamlErr.{YamlErr}
 use Rattle.yaml_subset.specs.declared.error.YamlErr.TheVariants.{Tab, Indent, LeftOut, Repeated, Scalar}
 use Rattle.yaml_subset.specs.declared.open.Holder.{Holder}
 use Rattle.yaml_subset.specs.declared.open.Holder.TheVariants as holders
-use Rattle.yaml_subset.specs.Tree.{Leaf, What, absent, leaf, rows, Forest, empty, grows, one, append}
+use Rattle.yaml_subset.specs.Tree.{What, absent, leaf, rows, Forest, empty, grows, one, append}
 use Rattle.yaml_subset.specs.Layout.{may_hold, max_levels, nests}
 use Rattle.yaml_subset.specs.Front.{Frame, Front}
-use Rattle.yaml_subset.specs.Line.{Line, Name, Value, Parts, dashed, member, alone, name_in, value_in, column_of, first_of, Spelled, good, left_out, wrong, text_said}
+use Rattle.yaml_subset.specs.Line.{text_said}
 
 abbrev pub is_holder : Holder → Holder → Bool
 is_holder holders.File holders.File = true

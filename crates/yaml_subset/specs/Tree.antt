@@ -1,21 +1,10 @@
 -- What a file says: rows of documents, of members and of items, with the places where they were written.
 use Rattle.std.specs.Prelude.{ℕ, suc, Bool, List, [], ◌∷◌, ◌++◌}
-use Rattle.yaml_subset.specs.declared.kind.PartKind.{PartKind}
-use Rattle.yaml_subset.specs.declared.kind.PartKind.TheVariants as kinds
+use Rattle.yaml_lines.specs.declared.kind.PartKind.{PartKind}
+use Rattle.yaml_lines.specs.declared.kind.PartKind.TheVariants as kinds
+use Rattle.yaml_lines.specs.Leaf.{Scalar, Leaf}
 use Rattle.yaml_subset.specs.declared.open.Holder.{Holder}
 use Rattle.yaml_subset.specs.declared.open.Holder.TheVariants as holders
-
--- an item of a sequence that is written in brackets: a text, or empty
-pub record Scalar : Type 0 where
-  pub kind : PartKind
-  pub text : List ℕ
-
--- a value that is written in one piece
-pub record Leaf : Type 0 where
-  pub kind : PartKind
-  pub text : List ℕ
-  pub items : List Scalar
-  pub plain : Bool
 
 -- what a row has: nothing, a value that begins on a line and in a column, or rows in a column
 pub data What : Type 0 where

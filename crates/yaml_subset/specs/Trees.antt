@@ -1,7 +1,8 @@
 -- The parts of a file as trees, without the places where they were written.
 use Rattle.std.specs.Prelude.{ℕ, suc, List, [], ◌∷◌, ◌++◌}
-use Rattle.yaml_subset.specs.declared.kind.PartKind.{PartKind}
-use Rattle.yaml_subset.specs.Tree.{Scalar, What, absent, leaf, rows, Forest, empty, grows, Entry, kind_of, text_of}
+use Rattle.yaml_lines.specs.declared.kind.PartKind.{PartKind}
+use Rattle.yaml_lines.specs.Leaf.{Scalar}
+use Rattle.yaml_subset.specs.Tree.{What, absent, leaf, rows, Forest, empty, grows, Entry, kind_of, text_of}
 
 -- what a part says by itself: the line on which it begins (that of its name or its dash, if it has one), its name, which is
 -- empty but for members, what it is, and its text

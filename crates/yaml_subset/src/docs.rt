@@ -1,16 +1,16 @@
 // Documents as trees, and the walks over them.
 ghost use Rattle.std.specs.Prelude.{◌≡◌, ◌+◌, ◌<◌, ◌≤◌, ◌^◌, ℕ, List, length, bytes_eq, map, IsUtf8, IfSome};
+ghost use Rattle.yaml_lines.specs.Texts.{texts};
 ghost use Rattle.yaml_subset.specs.Docs.{IsPart, IsAfter, row_of, told_of, inner_of, later_of, IsFirst, count_of, rows_from, named, members_of, member, walked, IsAt};
 ghost use Rattle.yaml_subset.specs.Held.{node_shown};
 ghost use Rattle.yaml_subset.specs.Lawful.{count_named, AreUnnamed, MayHold, MayTell, AreOfFile};
-ghost use Rattle.yaml_subset.specs.Texts.{texts};
 ghost use Rattle.yaml_subset.specs.Trees.{Trees, tree_entries};
 
-use crate::kind::PartKind;
 use crate::node::Node;
 use crate::path_end::At;
 use crate::preorder::{Part, Preorder};
 use std::marker::Model;
+use yaml_lines::PartKind;
 
 /// A file that has been read: its documents, each with the parts in it.
 ///

@@ -1,22 +1,20 @@
 // What a line adds to what has been read.
-ghost use Rattle.std.specs.Prelude.{◌≡◌, ◌&&◌, ◌++◌, ◌∷◌, [], ℕ, List, Some, Ok, true, false, IfOk, OnOk, map, if◌then◌else◌};
-ghost use Rattle.yaml_subset.specs.Front.{Frame, Front};
-ghost use Rattle.yaml_subset.specs.Held.{Stands, node_shown, last_with, Led, Placed, Turned, OpensNames, AddsName};
-ghost use Rattle.yaml_subset.specs.Kept.{kept_count};
-ghost use Rattle.yaml_subset.specs.LineShown.{value_shown};
-ghost use Rattle.yaml_subset.specs.Refusal.{is_holder, is_absent, may_begin, is_deep, turned, may_have, misplaced, misplaced_in, at_line, with_lead, with_value, counts_as_level, leaf_said, with_leaf};
-ghost use Rattle.yaml_subset.specs.Shown.{leaf_shown, spelled_shown, item_shown};
-ghost use Rattle.yaml_subset.specs.Tree.{absent, leaf, empty, holder_kind, item_entries};
+ghost use Rattle.std.specs.Prelude.{◌≡◌, ◌&&◌, ◌++◌, ◌∷◌, [], ℕ, List, Some, true, false, IfOk, OnOk, map, if◌then◌else◌};
+ghost use Rattle.yaml_lines.specs.LineShown.{value_shown};
+ghost use Rattle.yaml_lines.specs.Shown.{leaf_shown, spelled_shown, item_shown};
+ghost use Rattle.yaml_subset.specs.Front.{Front};
+ghost use Rattle.yaml_subset.specs.Grown.{Begins, Turns, may_open, IsLed, Sets, SetsSpelled};
+ghost use Rattle.yaml_subset.specs.Held.{Stands, node_shown, last_with, Placed, OpensNames, AddsName};
+ghost use Rattle.yaml_subset.specs.Refusal.{is_holder, is_deep, misplaced, misplaced_in, counts_as_level, with_leaf};
+ghost use Rattle.yaml_subset.specs.Tree.{holder_kind, item_entries};
 
 use crate::error::YamlErr;
-use crate::kind::PartKind;
-use crate::line::Value;
 use crate::names::Names;
 use crate::node::Node;
 use crate::open::{Holder, Open, Tip};
 use crate::reader::Reader;
-use crate::value::{Item, Leaf, Spelled};
 use std::alloc::{AllocError, Global};
+use yaml_lines::{Item, Leaf, PartKind, Spelled, Value};
 
 /// A row that begins: what holds it, its column, its line and its name.
 #[derive(Drop)]
@@ -143,7 +141,7 @@ fn nests_deeper(leaf: &Spelled<Leaf>) -> bool
 impl Reader {
     // Rows begin in what the last row has.
     fn begin(&mut self, alloc: Global, row: Row) -> Result<(), AllocError>
-        ensures { OnOk result ((front : Front) → Stands self.old front → front.tip ≡ absent → Stands self.new (record { frames = record { holder = row.holder; column = row.column; before = empty; line = row.line; name = row.name.items } ∷ front.frames; tip = absent })) }
+        ensures { OnOk result (Begins self.old self.new row) }
     {
         set_last(&mut self.nodes, kind_of_holder(row.holder), Vec::new(alloc))?;
         open_names(alloc, &mut self.names, &row.name)?;
@@ -160,7 +158,7 @@ impl Reader {
 
     // The rows of which so many parts are kept take one more. Tells whether its name is taken.
     fn turn(&mut self, alloc: Global, count: usize, row: Row) -> Result<bool, AllocError>
-        ensures { IfOk result (λ repeated. (front : Front) → Stands self.old front → kept_count row.holder row.column front.frames ≡ Some count → Turned self.new repeated (turned row.holder row.column row.line row.name.items front.frames front.tip empty)) }
+        ensures { IfOk result (Turns self.old self.new count row) }
     {
         self.opened.truncate(count);
         self.names.truncate(count);
@@ -174,7 +172,7 @@ impl Reader {
 
     // Rows begin with the lead of one.
     fn lead_in(&mut self, alloc: Global, row: Row) -> Result<bool, YamlErr>
-        ensures { (front : Front) (first : ℕ) → Stands self.old front → (is_absent front.tip && may_begin front.frames row.holder row.column) ≡ true → is_deep front.frames ≡ false → Led self.new result (at_line row.line first (with_lead row.holder row.column row.line row.name.items front)) }
+        ensures { (front : Front) (first : ℕ) → Stands self.old front → may_open front row ≡ true → is_deep front.frames ≡ false → IsLed self.new result row first front }
     {
         match self.begin(alloc, row) {
             Ok(()) => Ok(false),
@@ -184,7 +182,7 @@ impl Reader {
 
     // Rows that are open go on with the lead of one.
     fn lead_on(&mut self, alloc: Global, row: Row) -> Result<bool, YamlErr>
-        ensures { (front : Front) (first : ℕ) → Stands self.old front → (is_absent front.tip && may_begin front.frames row.holder row.column) ≡ false → Led self.new result (at_line row.line first (with_lead row.holder row.column row.line row.name.items front)) }
+        ensures { (front : Front) (first : ℕ) → Stands self.old front → may_open front row ≡ false → IsLed self.new result row first front }
     {
         match self.kept(row.holder, row.column) {
             Some(count) => match self.turn(alloc, count, row) {
@@ -197,7 +195,7 @@ impl Reader {
 
     /// Takes the lead of a row, which `first` begins. Tells whether its name is taken.
     pub(crate) fn lead(&mut self, alloc: Global, row: Row, first: u8) -> Result<bool, YamlErr>
-        ensures { (front : Front) → Stands self.old front → Led self.new result (at_line row.line first (with_lead row.holder row.column row.line row.name.items front)) }
+        ensures { (front : Front) → Stands self.old front → IsLed self.new result row first front }
     {
         if self.begins_at(row.holder, row.column) {
             if self.is_full() {
@@ -213,7 +211,7 @@ impl Reader {
 
     // The last row has this value.
     fn set(&mut self, alloc: Global, line: usize, value: Leaf) -> Result<(), AllocError>
-        ensures { OnOk result ((front : Front) (column : ℕ) → Stands self.old front → front.tip ≡ absent → may_have front.frames column ≡ true → Stands self.new (record { frames = front.frames; tip = leaf line column (leaf_shown value) })) }
+        ensures { OnOk result (Sets self.old self.new line value) }
     {
         set_last(&mut self.nodes, value.kind, value.text)?;
         push_items(alloc, &mut self.nodes, self.opened.len(), line, value.items)?;
@@ -228,7 +226,7 @@ impl Reader {
         line: usize,
         leaf: Spelled<Leaf>,
     ) -> Result<(), YamlErr>
-        ensures { (front : Front) (column : ℕ) → Stands self.old front → front.tip ≡ absent → may_have front.frames column ≡ true → Placed self.new result (Ok (record { frames = front.frames; tip = leaf_said line column (spelled_shown leaf_shown leaf) })) }
+        ensures { SetsSpelled self.old self.new result line leaf }
     {
         match leaf {
             Spelled::Good(leaf) => match self.set(alloc, line, leaf) {

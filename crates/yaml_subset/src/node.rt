@@ -1,4 +1,4 @@
-use crate::kind::PartKind;
+use yaml_lines::PartKind;
 
 /// A part of a file, before what it holds.
 #[derive(Drop)]

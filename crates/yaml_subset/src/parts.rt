@@ -1,19 +1,19 @@
 // The parts of a line, one after the other.
 ghost use Rattle.std.specs.Prelude.{◌≡◌, [], Some, option_map};
+ghost use Rattle.yaml_lines.specs.LineParts.{name_in};
+ghost use Rattle.yaml_lines.specs.LineShown.{name_shown, value_shown, parts_shown};
+ghost use Rattle.yaml_lines.specs.Shown.{spelled_shown};
 ghost use Rattle.yaml_subset.specs.Front.{Front};
 ghost use Rattle.yaml_subset.specs.Held.{Stands, Led, Placed, Told};
-ghost use Rattle.yaml_subset.specs.Line.{text_said, name_in};
-ghost use Rattle.yaml_subset.specs.LineShown.{name_shown, value_shown, parts_shown};
+ghost use Rattle.yaml_subset.specs.Line.{text_said};
 ghost use Rattle.yaml_subset.specs.Refusal.{at_line, with_lead, with_both, with_leaf, with_name, with_parts};
-ghost use Rattle.yaml_subset.specs.Shown.{spelled_shown};
 
 use crate::error::YamlErr;
 use crate::grow::Row;
-use crate::line::{Name, Parts, Value};
 use crate::open::Holder;
 use crate::reader::Reader;
-use crate::value::Spelled;
 use std::alloc::Global;
+use yaml_lines::{Name, Parts, Spelled, Value};
 
 fn text_of_name(alloc: Global, text: Spelled<Vec<u8>>) -> Vec<u8>
     ensures { result.items ≡ text_said (spelled_shown (λ t. t.items) text) }

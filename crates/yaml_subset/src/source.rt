@@ -1,17 +1,18 @@
 // The lines of a file that have content, one after the other.
 ghost use Rattle.std.specs.Prelude.{◌≡◌, ◌∷◌, ◌+◌, ◌<◌, [], true, false, length, MatchOption, IfOk, OnOk, OnSome};
 ghost use Rattle.std.specs.Str.Lines.{lines as lines_of_text};
-ghost use Rattle.yaml_subset.specs.Blank.{is_mark, is_passed_over};
+ghost use Rattle.yaml_lines.specs.Blank.{is_mark, is_passed_over};
+ghost use Rattle.yaml_lines.specs.LineShown.{line_shown};
+ghost use Rattle.yaml_lines.specs.Texts.{texts};
 ghost use Rattle.yaml_subset.specs.Contents.{contents};
 ghost use Rattle.yaml_subset.specs.Left.{contents_left, line_here};
-ghost use Rattle.yaml_subset.specs.LineShown.{line_shown};
-ghost use Rattle.yaml_subset.specs.Texts.{texts};
 
-use crate::blank::{has_no_content, is_mark_line};
 use crate::left::Source;
-use crate::line::{Line, column_of_holder, count_below, cut_of_line, line_from};
-use crate::scalar::Below;
 use std::alloc::{AllocError, Global};
+use yaml_lines::{
+    Below, Line, column_of_holder, count_below, cut_of_line, has_no_content, is_mark_line,
+    line_from,
+};
 
 /// All lines.
 pub(crate) fn source_of<'a>(lines: &'a [&'a [u8]]) -> Source<'a>

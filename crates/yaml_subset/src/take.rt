@@ -1,17 +1,16 @@
 // Lines, one after the other.
 ghost use Rattle.std.specs.Prelude.{◌≡◌, ◌||◌, Some, option_map, Ok, Err, if◌then◌else◌};
+ghost use Rattle.yaml_lines.specs.LineParts.{name_in, value_in, column_of, first_of};
+ghost use Rattle.yaml_lines.specs.LineShown.{name_shown, value_shown, parts_shown, line_shown};
+ghost use Rattle.yaml_lines.specs.Shown.{leaf_shown, spelled_shown};
 ghost use Rattle.yaml_subset.specs.Front.{Front};
 ghost use Rattle.yaml_subset.specs.Held.{Stands, Placed, IsCheck};
-ghost use Rattle.yaml_subset.specs.Line.{name_in, value_in, column_of, first_of};
-ghost use Rattle.yaml_subset.specs.LineShown.{name_shown, value_shown, parts_shown, line_shown};
 ghost use Rattle.yaml_subset.specs.Refusal.{byte_left_out, name_left_out, value_left_out, first_of_two, wrong_name_in, wrong_value_in, placed, with_parts, with_start, what_left_out, unless_left_out, unless_goes_on, after_line};
-ghost use Rattle.yaml_subset.specs.Shown.{leaf_shown, spelled_shown};
 
 use crate::error::YamlErr;
-use crate::line::{Line, Name, Parts, Value};
 use crate::reader::Reader;
-use crate::value::Spelled;
 use std::alloc::Global;
+use yaml_lines::{Line, Name, Parts, Spelled, Value};
 
 fn name_byte_left_out(name: &Name) -> Option<u8>
     ensures { result ≡ name_left_out (Some (name_shown name.now)) }

@@ -5,9 +5,9 @@ ghost use Rattle.yaml_subset.specs.Docs.{IsAfter, count_of, rows_from};
 ghost use Rattle.yaml_subset.specs.Preorder.{IsPart, IsDepthAt, AreDocuments, FirstOf, OfPart};
 ghost use Rattle.yaml_subset.specs.Trees.{Trees};
 
-use crate::kind::PartKind;
 use crate::node::Node;
 use crate::preorder::{Part, Preorder};
+use yaml_lines::PartKind;
 
 fn is_deeper(node: &Node, depth: usize) -> bool
     ensures { result ≡ nat_lt depth node.now.depth }

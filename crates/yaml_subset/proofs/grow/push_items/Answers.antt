@@ -2,9 +2,9 @@ use Rattle.std.proofs.Common.{◌∷◌, ◌++◌, [], ℕ, List, sym, ap, ◌�
 use Rattle.std.specs.Prelude.{map}
 use Rattle.std.proofs.lemmas.Iterator.Consumers.{YieldsList-end}
 use Rattle.std.proofs.lemmas.Iterator.Adapters.{YieldsList-from_vec}
+use Rattle.yaml_lines.specs.Shown.{item_shown}
 use Rattle.yaml_subset.specs.Held.{node_shown}
 use Rattle.yaml_subset.specs.Tree.{Entry, item_entries}
-use Rattle.yaml_subset.specs.Shown.{item_shown}
 use Rattle.yaml_subset.proofs.Growth.{shown_append, items_append, held_append, map_same}
 use Rattle.yaml_subset.proofs.grow.push_items.Goals as goal
 

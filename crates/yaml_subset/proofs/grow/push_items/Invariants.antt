@@ -1,8 +1,8 @@
 use Rattle.std.proofs.Common.{◌≡◌, ◌++◌}
 use Rattle.std.specs.Prelude.{map}
+use Rattle.yaml_lines.specs.Shown.{item_shown}
 use Rattle.yaml_subset.specs.Held.{node_shown}
 use Rattle.yaml_subset.specs.Tree.{item_entries}
-use Rattle.yaml_subset.specs.Shown.{item_shown}
 use Rattle.yaml_subset.proofs.grow.push_items.Given as goal
 
 abbrev pub invariant-loop-item : goal.invariant-loop-item

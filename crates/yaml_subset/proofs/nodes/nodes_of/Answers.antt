@@ -1,6 +1,6 @@
 use Rattle.std.proofs.Common.{refl}
+use Rattle.yaml_lines.specs.LineShown.{line_shown}
 use Rattle.yaml_subset.specs.Left.{contents_left}
-use Rattle.yaml_subset.specs.LineShown.{line_shown}
 use Rattle.yaml_subset.proofs.Finished.{at_first, one_more, in_the_end, left_some, left_none}
 use Rattle.yaml_subset.proofs.nodes.nodes_of.Goals as goal
 

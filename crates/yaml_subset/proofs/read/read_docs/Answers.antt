@@ -1,9 +1,9 @@
 use Rattle.std.proofs.Common.{◌≡◌, List, ap, subst, ◌∙◌, true}
 use Rattle.std.specs.Str.Lines.{lines}
-use Rattle.yaml_subset.specs.Line.{Line}
+use Rattle.yaml_lines.specs.LineParts.{Line}
+use Rattle.yaml_lines.specs.Texts.{texts}
 use Rattle.yaml_subset.specs.Contents.{contents}
 use Rattle.yaml_subset.specs.Left.{contents_left}
-use Rattle.yaml_subset.specs.Texts.{texts}
 use Rattle.yaml_subset.specs.File.{without_order_mark, file_lines}
 use Rattle.yaml_subset.specs.Trees.{plain}
 use Rattle.yaml_subset.specs.ReadLines.{Holds, IsLinesCause}

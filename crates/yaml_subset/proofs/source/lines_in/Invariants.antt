@@ -1,6 +1,6 @@
 use Rattle.std.proofs.Common.{◌≡◌}
 use Rattle.std.specs.Prelude.{map}
-use Rattle.yaml_subset.specs.Texts.{texts}
+use Rattle.yaml_lines.specs.Texts.{texts}
 use Rattle.yaml_subset.proofs.source.lines_in.Given as goal
 
 abbrev pub invariant-loop-line : goal.invariant-loop-line

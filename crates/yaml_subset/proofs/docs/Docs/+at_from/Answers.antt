@@ -1,5 +1,5 @@
 use Rattle.std.proofs.Common.{◌≡◌, ◌∙◌, ap, ℕ, suc, List, [], ◌∷◌, refl, length, Bor}
-use Rattle.yaml_subset.specs.Texts.{texts}
+use Rattle.yaml_lines.specs.Texts.{texts}
 use Rattle.yaml_subset.proofs.docs.Docs.+at_from.Goals as goal
 
 texts_length : (lines : List (Bor (List ℕ))) → length (texts lines) ≡ length lines

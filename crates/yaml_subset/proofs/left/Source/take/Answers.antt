@@ -1,7 +1,8 @@
 use Rattle.std.proofs.Common.{◌+◌, ◌-◌, length, take, drop}
+use Rattle.yaml_lines.specs.LineShown.{cut_shown, line_shown}
+use Rattle.yaml_lines.proofs.Blocks.{rest_is_drop}
 use Rattle.yaml_subset.specs.Left.{no_line}
-use Rattle.yaml_subset.specs.LineShown.{cut_shown, line_shown}
-use Rattle.yaml_subset.proofs.Sources.{contents_take, rest_is_drop}
+use Rattle.yaml_subset.proofs.Sources.{contents_take}
 use Rattle.yaml_subset.proofs.left.Source.take.Goals as goal
 
 pub returns-clause-left : goal.returns-clause-left

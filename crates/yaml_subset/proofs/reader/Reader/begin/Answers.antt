@@ -1,6 +1,6 @@
 use Rattle.std.proofs.Common.{◌≡◌, ◌∷◌, ◌++◌, [], length, refl, sym, ap, ◌∙◌, arith}
 use Rattle.std.specs.Prelude.{map, bytes_eq}
-use Rattle.yaml_subset.specs.declared.kind.PartKind.TheVariants as kinds
+use Rattle.yaml_lines.specs.declared.kind.PartKind.TheVariants as kinds
 use Rattle.yaml_subset.specs.Tree.{Entry, rows, holder_kind}
 use Rattle.yaml_subset.specs.Held.{node_shown, last_with, entries_open, AreNames}
 use Rattle.yaml_subset.proofs.Known.{or_false}

@@ -1,6 +1,6 @@
 use Rattle.std.proofs.Common.{sym, ap, ◌∙◌}
 use Rattle.std.specs.Prelude.{option_map}
-use Rattle.yaml_subset.specs.LineShown.{name_shown, value_shown}
+use Rattle.yaml_lines.specs.LineShown.{name_shown, value_shown}
 use Rattle.yaml_subset.specs.Refusal.{with_leaf, repeats, ◌>>=◌}
 use Rattle.yaml_subset.proofs.Lines.{leaf_frames}
 use Rattle.yaml_subset.proofs.reader.Reader.name_and_value.Goals as goal

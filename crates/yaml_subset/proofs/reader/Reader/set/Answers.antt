@@ -1,7 +1,7 @@
 use Rattle.std.proofs.Common.{◌≡◌, ◌++◌, length, ap, ◌∙◌, arith}
+use Rattle.yaml_lines.specs.Shown.{leaf_shown}
 use Rattle.yaml_subset.specs.Tree.{absent, item_entries}
 use Rattle.yaml_subset.specs.Held.{last_with, entries_open}
-use Rattle.yaml_subset.specs.Shown.{leaf_shown}
 use Rattle.yaml_subset.proofs.Opens.{openings_length}
 use Rattle.yaml_subset.proofs.Growth.{leaf_set}
 use Rattle.yaml_subset.proofs.reader.Reader.set.Goals as goal

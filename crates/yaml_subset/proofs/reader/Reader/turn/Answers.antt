@@ -1,7 +1,7 @@
 use Rattle.std.proofs.Common.{◌≡◌, ◌∷◌, ◌++◌, ◌&&◌, ◌||◌, [], length, take, refl, sym, ap, ◌∙◌, arith}
 use Rattle.std.specs.Prelude.{map, bytes_eq}
+use Rattle.yaml_lines.specs.declared.kind.PartKind.TheVariants as kinds
 use Rattle.yaml_subset.specs.declared.open.Holder.TheVariants as holders
-use Rattle.yaml_subset.specs.declared.kind.PartKind.TheVariants as kinds
 use Rattle.yaml_subset.specs.Tree.{Entry, rows, empty, entries}
 use Rattle.yaml_subset.specs.Front.{Frame}
 use Rattle.yaml_subset.specs.Refusal.{is_holder}

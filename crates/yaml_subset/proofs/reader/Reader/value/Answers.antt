@@ -1,7 +1,7 @@
 use Rattle.std.proofs.Common.{sym, ap, subst, ◌∙◌, Result}
+use Rattle.yaml_lines.specs.LineShown.{value_shown}
 use Rattle.yaml_subset.specs.declared.error.YamlErr.{YamlErr}
 use Rattle.yaml_subset.specs.Front.{Front}
-use Rattle.yaml_subset.specs.LineShown.{value_shown}
 use Rattle.yaml_subset.specs.Refusal.{at_line, is_absent, may_have, with_value, has_column, misplaced, misplaced_in, counts_as_level, leaf_said}
 use Rattle.yaml_subset.specs.Held.{IsCause, Placed}
 use Rattle.yaml_subset.proofs.Machine.{value_begins}

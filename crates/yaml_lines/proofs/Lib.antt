@@ -1,0 +1,11 @@
+pub mod Blanks
+pub mod Words
+pub mod Escapes
+pub mod Items
+pub mod Blocks
+pub mod Branches
+pub mod Chars
+pub mod Cuts
+pub mod Spelling
+pub mod BlockTexts
+pub mod FlowTexts

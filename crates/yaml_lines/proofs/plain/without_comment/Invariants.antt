@@ -1,0 +1,14 @@
+use Rattle.std.proofs.Common.{◌≡◌, false, length}
+use Rattle.yaml_lines.specs.Found.{shifted}
+use Rattle.yaml_lines.specs.Plain.{comment_place}
+use Rattle.yaml_lines.proofs.Words.{Left}
+use Rattle.yaml_lines.proofs.plain.without_comment.Given as goal
+
+abbrev pub invariant-loop-byte : goal.invariant-loop-byte
+invariant-loop-byte l = record {
+  left : Left l.bytes l.at l.left;
+  same : shifted l.at (comment_place l.after_space l.left) ≡ comment_place false l.bytes;
+}
+
+abbrev pub decreases-loop-byte : goal.decreases-loop-byte
+decreases-loop-byte l = length l.left

@@ -1,0 +1,16 @@
+pub mod Blank
+pub mod Found
+pub mod Plain
+pub mod Quoted
+pub mod Piece
+pub mod Leaf
+pub mod LineParts
+pub mod Flow
+pub mod Shown
+pub mod ItemLength
+pub mod Gathering
+pub mod Texts
+pub mod Block
+pub mod ValueText
+pub mod LineText
+pub mod LineShown

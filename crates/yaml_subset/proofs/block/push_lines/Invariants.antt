@@ -1,7 +1,0 @@
-use Rattle.std.proofs.Common.{◌≡◌, ◌++◌, drop}
-use Rattle.yaml_subset.specs.Block.{lines_text}
-use Rattle.yaml_subset.specs.Texts.{texts}
-use Rattle.yaml_subset.proofs.block.push_lines.Given as goal
-
-abbrev pub invariant-loop-line : goal.invariant-loop-line
-invariant-loop-line l = l.text.items ++ lines_text l.indent (texts (drop l.line-index l.lines)) ≡ l.fn.text.items ++ lines_text l.indent (texts l.lines)
