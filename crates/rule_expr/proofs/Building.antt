@@ -2,16 +2,16 @@
 use Rattle.std.proofs.Common.{◌≡◌, ◌∙◌, ap, sym, subst, ℕ, ◌+◌, ◌-◌, ◌<◌, ◌≤◌, cond, List, [], ◌∷◌, ◌++◌, length, refl, arith, append_assoc, Bool, true, false, nat_lt, Result, Ok, Err}
 use Rattle.std.proofs.lemmas.Bool.Decides.{nat_tests}
 use Rattle.std.proofs.lemmas.List.{append-nil}
-use Rattle.rule_expr.specs.declared.part.Part.{Part}
-use Rattle.rule_expr.specs.declared.part.Part.TheVariants as parts
-use Rattle.rule_expr.specs.declared.part.Word.{Word}
-use Rattle.rule_expr.specs.declared.part.Word.TheVariants as words
-use Rattle.rule_expr.specs.declared.part.Call.{Call}
-use Rattle.rule_expr.specs.declared.part.Relation.{Relation}
+use Rattle.rule_value.specs.declared.part.Part.{Part}
+use Rattle.rule_value.specs.declared.part.Part.TheVariants as parts
+use Rattle.rule_value.specs.declared.part.Word.{Word}
+use Rattle.rule_value.specs.declared.part.Word.TheVariants as words
+use Rattle.rule_value.specs.declared.part.Call.{Call}
+use Rattle.rule_value.specs.declared.part.Relation.{Relation}
 use Rattle.rule_expr.specs.declared.stop.Stop.TheVariants as Stops
 use Rattle.rule_expr.specs.Parts.{part_at, name_at, behind, after_blanks, quoted}
-use Rattle.rule_expr.specs.Trees
-use Rattle.rule_expr.specs.Trees.{Level, Tree, Step, Token, mark, word, quote, spelled, levels, step_tokens, steps_tokens}
+use Rattle.rule_value.specs.Trees
+use Rattle.rule_value.specs.Trees.{Level, Tree, Step, Token, mark, word, quote, spelled, levels, step_tokens, steps_tokens}
 use Rattle.rule_expr.specs.Rules
 use Rattle.rule_expr.specs.Rules.{Leads, Stands, IsRule}
 use Rattle.rule_expr.specs.Places

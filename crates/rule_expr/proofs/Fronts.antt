@@ -1,13 +1,13 @@
 -- The parts before a refusal are the first ones of a tree.
 use Rattle.std.proofs.Common.{◌≡◌, ◌∙◌, ap, sym, ℕ, Bool, List, [], ◌∷◌, ◌++◌, refl, append_assoc}
 use Rattle.std.proofs.lemmas.List.{append-nil}
-use Rattle.rule_expr.specs.declared.part.Part.TheVariants as parts
-use Rattle.rule_expr.specs.declared.part.Word.TheVariants as words
-use Rattle.rule_expr.specs.declared.part.Call.TheVariants as calls
+use Rattle.rule_value.specs.declared.part.Part.TheVariants as parts
+use Rattle.rule_value.specs.declared.part.Word.TheVariants as words
+use Rattle.rule_value.specs.declared.part.Call.TheVariants as calls
 use Rattle.rule_expr.specs.declared.error.RuleErr.{RuleErr}
 use Rattle.rule_expr.specs.Parts.{after_blanks}
-use Rattle.rule_expr.specs.Trees
-use Rattle.rule_expr.specs.Trees.{Level, Tree, Step, Token, mark, name, word, quote, spelled, step_tokens, steps_tokens}
+use Rattle.rule_value.specs.Trees
+use Rattle.rule_value.specs.Trees.{Level, Tree, Step, Token, mark, name, word, quote, spelled, step_tokens, steps_tokens}
 use Rattle.rule_expr.specs.Rules
 use Rattle.rule_expr.specs.Rules.{Leads, Stands, IsFront}
 use Rattle.rule_expr.specs.Places.{State, Bracket}

@@ -1,24 +1,24 @@
 -- From the parts of a production to the whole.
 use Rattle.std.proofs.Common.{◌≡◌, ◌∙◌, ap, sym, subst, ℕ, zero, suc, ◌+◌, ◌≤◌, max, List, [], ◌∷◌, ◌++◌, replicate, length, refl, arith, append_assoc, Bool, true, false, Ok, ◌≢◌}
 use Rattle.std.proofs.lemmas.List.{append-nil, replicate-append-replicate}
-use Rattle.rule_expr.specs.declared.op.Op.{Op}
-use Rattle.rule_expr.specs.declared.op.Op.TheVariants as ops
-use Rattle.rule_expr.specs.declared.part.Part.{Part}
-use Rattle.rule_expr.specs.declared.part.Part.TheVariants as parts
-use Rattle.rule_expr.specs.declared.part.Word.{Word}
-use Rattle.rule_expr.specs.declared.part.Word.TheVariants as words
-use Rattle.rule_expr.specs.declared.part.Call.{Call}
-use Rattle.rule_expr.specs.declared.part.Relation.{Relation}
-use Rattle.rule_expr.specs.declared.part.Whole.{Whole}
+use Rattle.rule_value.specs.declared.op.Op.{Op}
+use Rattle.rule_value.specs.declared.op.Op.TheVariants as ops
+use Rattle.rule_value.specs.declared.part.Part.{Part}
+use Rattle.rule_value.specs.declared.part.Part.TheVariants as parts
+use Rattle.rule_value.specs.declared.part.Word.{Word}
+use Rattle.rule_value.specs.declared.part.Word.TheVariants as words
+use Rattle.rule_value.specs.declared.part.Call.{Call}
+use Rattle.rule_value.specs.declared.part.Relation.{Relation}
+use Rattle.rule_value.specs.declared.part.Whole.{Whole}
 use Rattle.std.proofs.lemmas.Bool.{true≢false}
 use Rattle.rule_expr.specs.Parts.{seen, part_at, name_at, behind, after_blanks, quoted}
-use Rattle.rule_expr.specs.Trees
-use Rattle.rule_expr.specs.Trees.{Level, Tree, Step, Token, mark, quote, spelled, levels, step_tokens, steps_tokens, flag_word}
-use Rattle.rule_expr.specs.Values.{names_of}
-use Rattle.rule_expr.specs.Codes.{code, fits, IsExpr}
+use Rattle.rule_value.specs.Trees
+use Rattle.rule_value.specs.Trees.{Level, Tree, Step, Token, mark, quote, spelled, levels, step_tokens, steps_tokens, flag_word}
+use Rattle.rule_value.specs.Values.{names_of}
+use Rattle.rule_value.specs.Codes.{code, fits, IsExpr}
 use Rattle.rule_expr.specs.Rules.{Leads, IsRule, here, on}
 use Rattle.rule_expr.specs.Reading.{Reads, Passes, ReadsStep, ReadsSteps}
-use Rattle.rule_expr.proofs.Heights.{rule_fits}
+use Rattle.rule_value.proofs.Heights.{rule_fits}
 
 pub leads_on : (text between rest : List ℕ) (first later : List Token) → Leads text first between → Leads between later rest → Leads text (first ++ later) rest
 leads_on text between rest first later here two = two

@@ -1,17 +1,17 @@
 -- The table takes each rule to its end, and each text to one end alone.
 use Rattle.std.proofs.Common.{◌≡◌, ◌∙◌, ap, sym, subst, ℕ, ◌+◌, ◌-◌, ◌≤◌, List, [], ◌∷◌, ◌++◌, length, refl, arith, Bool, true, false}
 use Rattle.std.proofs.lemmas.Bool.{true≢false}
-use Rattle.rule_expr.specs.declared.part.Part.{Part}
-use Rattle.rule_expr.specs.declared.part.Part.TheVariants as parts
-use Rattle.rule_expr.specs.declared.part.Word.{Word}
-use Rattle.rule_expr.specs.declared.part.Word.TheVariants as words
-use Rattle.rule_expr.specs.declared.part.Call.{Call}
-use Rattle.rule_expr.specs.declared.part.Relation.{Relation}
+use Rattle.rule_value.specs.declared.part.Part.{Part}
+use Rattle.rule_value.specs.declared.part.Part.TheVariants as parts
+use Rattle.rule_value.specs.declared.part.Word.{Word}
+use Rattle.rule_value.specs.declared.part.Word.TheVariants as words
+use Rattle.rule_value.specs.declared.part.Call.{Call}
+use Rattle.rule_value.specs.declared.part.Relation.{Relation}
 use Rattle.rule_expr.specs.declared.stop.Stop.{Stop}
 use Rattle.rule_expr.specs.declared.error.RuleErr.{RuleErr}
 use Rattle.rule_expr.specs.Parts.{part_at, behind, after_blanks}
-use Rattle.rule_expr.specs.Trees
-use Rattle.rule_expr.specs.Trees.{Level, Tree, Step, Token, mark, quote, spelled, levels, step_tokens, steps_tokens}
+use Rattle.rule_value.specs.Trees
+use Rattle.rule_value.specs.Trees.{Level, Tree, Step, Token, mark, quote, spelled, levels, step_tokens, steps_tokens}
 use Rattle.rule_expr.specs.Rules
 use Rattle.rule_expr.specs.Rules.{Leads, Stands, IsRule}
 use Rattle.rule_expr.specs.Refusals.{error_at}

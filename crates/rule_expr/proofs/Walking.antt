@@ -2,14 +2,14 @@
 use Rattle.std.proofs.Common.{◌≡◌, ◌∙◌, ap, sym, subst, ℕ, cond, ◌+◌, ◌≤◌, List, [], ◌∷◌, length, refl, arith, Bool, true, false, nat_lt, None, Result, Ok, Err, OnOk, IfErr}
 use Rattle.std.proofs.lemmas.Bool.{true≢false, lt-ltb, le-ltb}
 use Rattle.std.specs.Result.{IsErrAnd}
-use Rattle.rule_expr.specs.declared.part.Part.{Part}
-use Rattle.rule_expr.specs.declared.part.Part.TheVariants as parts
-use Rattle.rule_expr.specs.declared.part.Word.TheVariants as words
-use Rattle.rule_expr.specs.declared.part.Relation.{Relation}
+use Rattle.rule_value.specs.declared.part.Part.{Part}
+use Rattle.rule_value.specs.declared.part.Part.TheVariants as parts
+use Rattle.rule_value.specs.declared.part.Word.TheVariants as words
+use Rattle.rule_value.specs.declared.part.Relation.{Relation}
 use Rattle.rule_expr.specs.declared.stop.Stop.{Stop}
 use Rattle.rule_expr.specs.declared.stop.Stop.TheVariants as stops
 use Rattle.rule_expr.specs.Parts.{part_at, behind, after_blanks, quoted}
-use Rattle.rule_expr.specs.Trees.{Token, mark, quote}
+use Rattle.rule_value.specs.Trees.{Token, mark, quote}
 use Rattle.rule_expr.specs.Rules.{Leads, Stands}
 use Rattle.rule_expr.specs.Rules
 use Rattle.rule_expr.specs.Reading.{Passes}

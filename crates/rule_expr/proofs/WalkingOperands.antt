@@ -1,18 +1,18 @@
 -- Where operands and what they are made of lead, or where they stop.
 use Rattle.std.proofs.Common.{◌≡◌, ◌≢◌, ◌∙◌, ap, sym, subst, ℕ, ◌+◌, ◌-◌, ◌≤◌, List, [], ◌∷◌, length, refl, arith, Bool, true, false, not, ◌&&◌, None, Result, Ok, Err, IfOk, OnOk, IfErr}
 use Rattle.std.proofs.lemmas.Bool.{true≢false}
-use Rattle.rule_expr.specs.declared.part.Part.{Part}
-use Rattle.rule_expr.specs.declared.part.Part.TheVariants as parts
-use Rattle.rule_expr.specs.declared.part.Word.{Word}
-use Rattle.rule_expr.specs.declared.part.Word.TheVariants as words
-use Rattle.rule_expr.specs.declared.part.Call.{Call}
-use Rattle.rule_expr.specs.declared.part.Whole.{Whole}
+use Rattle.rule_value.specs.declared.part.Part.{Part}
+use Rattle.rule_value.specs.declared.part.Part.TheVariants as parts
+use Rattle.rule_value.specs.declared.part.Word.{Word}
+use Rattle.rule_value.specs.declared.part.Word.TheVariants as words
+use Rattle.rule_value.specs.declared.part.Call.{Call}
+use Rattle.rule_value.specs.declared.part.Whole.{Whole}
 use Rattle.rule_expr.specs.declared.stop.Stop.{Stop}
 use Rattle.rule_expr.specs.declared.stop.Stop.TheVariants as stops
 use Rattle.rule_expr.specs.declared.error.RuleErr.{RuleErr}
 use Rattle.rule_expr.specs.declared.error.RuleErr.TheVariants as errors
 use Rattle.rule_expr.specs.Parts.{part_at, behind, after_blanks, quoted}
-use Rattle.rule_expr.specs.Trees.{mark, quote}
+use Rattle.rule_value.specs.Trees.{mark, quote}
 use Rattle.rule_expr.specs.Rules.{Leads}
 use Rattle.rule_expr.specs.Places.{State, Place, Home, Bracket, path_end, value_end, alone, operand, after, after_asked, dot_path, dot_value, bracketed, square, open_round, open_has, event, in_round, stop, state, to, why_not, row, step, whole, after_path, tail_next, end_row, after_row, is_open, is_close, name_row, dot_row, call_row, quote_row, square_row, round_row, event_row, operand_row, word_row}
 use Rattle.rule_expr.specs.Walks.{Goes, Comes, IsRefused, stays, moves, start}

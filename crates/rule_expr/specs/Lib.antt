@@ -1,15 +1,8 @@
-pub mod Bytes
-pub mod Codes
 pub mod Parts
 pub mod Places
 pub mod Quoted
 pub mod Reading
 pub mod Refusals
 pub mod Rules
-pub mod Stacks
-pub mod Standing
-pub mod Trees
-pub mod Values
 pub mod Walking
 pub mod Walks
-pub mod Wholes

@@ -5,14 +5,14 @@ use Rattle.std.specs.Str.{bytes_eq}
 use Rattle.std.specs.Char.{is_ascii_digit, is_ascii_alphabetic}
 use Rattle.std.specs.Str.Parse.{digits_value}
 use Rattle.side_base.specs.Decimal.{digits_at}
-use Rattle.rule_expr.specs.declared.part.Part.{Part}
-use Rattle.rule_expr.specs.declared.part.Part.TheVariants as parts
-use Rattle.rule_expr.specs.declared.part.Word.{Word}
-use Rattle.rule_expr.specs.declared.part.Word.TheVariants as words
-use Rattle.rule_expr.specs.declared.part.Call.TheVariants as calls
-use Rattle.rule_expr.specs.declared.part.Relation.TheVariants as relations
-use Rattle.rule_expr.specs.declared.part.Seen.{Seen}
-use Rattle.rule_expr.specs.Wholes.{whole, is_within}
+use Rattle.rule_value.specs.declared.part.Part.{Part}
+use Rattle.rule_value.specs.declared.part.Part.TheVariants as parts
+use Rattle.rule_value.specs.declared.part.Word.{Word}
+use Rattle.rule_value.specs.declared.part.Word.TheVariants as words
+use Rattle.rule_value.specs.declared.part.Call.TheVariants as calls
+use Rattle.rule_value.specs.declared.part.Relation.TheVariants as relations
+use Rattle.rule_value.specs.declared.part.Seen.{Seen}
+use Rattle.rule_value.specs.Wholes.{whole, is_within}
 
 -- spaces, tabs and line ends
 abbrev pub is_blank : ℕ → Bool

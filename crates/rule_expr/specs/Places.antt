@@ -1,10 +1,10 @@
 -- Which part of a rule may stand where, as a table. What comes next and the brackets that are open are all that it knows of what
 -- stands before. It says where a text leaves the grammar; that it takes each rule to its end is a law.
 use Rattle.std.specs.Prelude.{ℕ, Bool, true, false, nat_lt, if◌then◌else◌, List, [], ◌∷◌, length, Option, Some, None, Result, Ok, Err}
-use Rattle.rule_expr.specs.declared.part.Part.{Part}
-use Rattle.rule_expr.specs.declared.part.Part.TheVariants as parts
-use Rattle.rule_expr.specs.declared.part.Word.{Word}
-use Rattle.rule_expr.specs.declared.part.Word.TheVariants as words
+use Rattle.rule_value.specs.declared.part.Part.{Part}
+use Rattle.rule_value.specs.declared.part.Part.TheVariants as parts
+use Rattle.rule_value.specs.declared.part.Word.{Word}
+use Rattle.rule_value.specs.declared.part.Word.TheVariants as words
 use Rattle.rule_expr.specs.declared.stop.Stop.{Stop}
 use Rattle.rule_expr.specs.declared.stop.Stop.TheVariants as stops
 use Rattle.rule_expr.specs.Parts.{part_at, behind, after_blanks, quoted, is_left_out}

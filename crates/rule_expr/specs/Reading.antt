@@ -1,9 +1,9 @@
 -- What reading a part of a rule comes to.
 use Rattle.std.specs.Prelude.{◌≡◌, ◌≤◌, ℕ, List, [], ◌∷◌, ◌++◌, length}
-use Rattle.rule_expr.specs.declared.op.Op.{Op}
-use Rattle.rule_expr.specs.Trees.{Level, Tree, Step, Token, spelled, levels, step_tokens, steps_tokens}
-use Rattle.rule_expr.specs.Values.{names_of}
-use Rattle.rule_expr.specs.Codes.{code}
+use Rattle.rule_value.specs.declared.op.Op.{Op}
+use Rattle.rule_value.specs.Trees.{Level, Tree, Step, Token, spelled, levels, step_tokens, steps_tokens}
+use Rattle.rule_value.specs.Values.{names_of}
+use Rattle.rule_value.specs.Codes.{code}
 use Rattle.rule_expr.specs.Rules.{Leads}
 
 -- The text begins with a tree of this level, in which so many brackets stand within one another at most, and `rest` follows

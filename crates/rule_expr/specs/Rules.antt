@@ -1,10 +1,10 @@
 -- Which texts are rules.
 use Rattle.std.specs.Prelude.{◌≡◌, ◌≤◌, ℕ, List, [], ◌∷◌, ◌++◌, Ok}
-use Rattle.rule_expr.specs.declared.part.Part.TheVariants as parts
-use Rattle.rule_expr.specs.declared.part.Word.{Word}
+use Rattle.rule_value.specs.declared.part.Part.TheVariants as parts
+use Rattle.rule_value.specs.declared.part.Word.{Word}
 use Rattle.rule_expr.specs.Parts.{part_at, name_at, behind, after_blanks, quoted}
-use Rattle.rule_expr.specs.Trees
-use Rattle.rule_expr.specs.Trees.{Tree, Token, mark, name, quote, spelled, levels}
+use Rattle.rule_value.specs.Trees
+use Rattle.rule_value.specs.Trees.{Tree, Token, mark, name, quote, spelled, levels}
 
 -- the text begins with the part, and `next` follows it and the blanks behind it
 abbrev pub Stands : List ℕ → Token → List ℕ → Type 0

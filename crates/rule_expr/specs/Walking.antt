@@ -1,9 +1,9 @@
 -- What reading a part of a rule comes to by the table: where it leads, or where it stops.
 use Rattle.std.specs.Prelude.{◌≡◌, ◌≢◌, ◌+◌, ℕ, Bool, true, false, not, ◌&&◌, if◌then◌else◌, List, ◌∷◌, length, None, Err}
-use Rattle.rule_expr.specs.declared.part.Part.{Part}
-use Rattle.rule_expr.specs.declared.part.Part.TheVariants as parts
-use Rattle.rule_expr.specs.declared.part.Word.{Word}
-use Rattle.rule_expr.specs.declared.part.Word.TheVariants as words
+use Rattle.rule_value.specs.declared.part.Part.{Part}
+use Rattle.rule_value.specs.declared.part.Part.TheVariants as parts
+use Rattle.rule_value.specs.declared.part.Word.{Word}
+use Rattle.rule_value.specs.declared.part.Word.TheVariants as words
 use Rattle.rule_expr.specs.declared.stop.Stop.{Stop}
 use Rattle.rule_expr.specs.declared.stop.Stop.TheVariants as stops
 use Rattle.rule_expr.specs.Parts.{part_at, behind, quoted}

@@ -3,15 +3,15 @@ ghost use Rattle.std.specs.Prelude.{◌≡◌, Bool, true, false, Option, Some, 
 ghost use Rattle.json_text.specs.declared.doc.Doc.{Doc};
 ghost use Rattle.json_text.specs.Doc.{Shows};
 ghost use Rattle.rule_expr.specs.Rules.{IsFront, IsRule};
-ghost use Rattle.rule_expr.specs.Standing.{IsEvent};
-ghost use Rattle.rule_expr.specs.Trees.{Tree, or, unary, choice, no_items};
-ghost use Rattle.rule_expr.specs.Values.{Event, Value, both, either, value, flag, number, text, null, equal, compared};
+ghost use Rattle.rule_value.specs.Standing.{IsEvent};
+ghost use Rattle.rule_value.specs.Trees.{Tree, or, unary, choice, no_items};
+ghost use Rattle.rule_value.specs.Values.{Event, Value, both, either, value, flag, number, text, null, equal, compared};
 ghost use Rattle.rule_expr.specs.Parts.{after_blanks};
 ghost use Rattle.rule_expr.specs.Places.{ended as at_end};
 ghost use Rattle.rule_expr.specs.Walks.{Comes, IsRefused, start};
-ghost use Rattle.rule_expr.specs.Wholes.{whole, whole_of};
+ghost use Rattle.rule_value.specs.Wholes.{whole, whole_of};
 ghost use Rattle.rule_expr.specs.declared.error.RuleErr.{RuleErr};
-ghost use Rattle.rule_expr.specs.declared.part.Relation.TheVariants.{Equal, Unlike};
+ghost use Rattle.rule_value.specs.declared.part.Relation.TheVariants.{Equal, Unlike};
 
 use json_text::laws::the_root_is_the_value_of_the_text;
 
@@ -52,7 +52,7 @@ pub fn nothing_is_in_the_empty_list()
 {}
 
 /// Numbers at the ends of 64 bits, and texts that spell none.
-#[tactic(auto, unfolding(crate::specs::Wholes::whole_of))]
+#[tactic(auto, unfolding(rule_value::specs::Wholes::whole_of))]
 pub fn numbers_of_texts()
     ensures least { whole_of (codes "-9223372036854775808") ≡ Some (whole true 9223372036854775808) }
     ensures below_least { whole_of (codes "-9223372036854775809") ≡ None }

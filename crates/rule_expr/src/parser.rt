@@ -1,20 +1,19 @@
 // What is left of a rule, and the parts that are read from its left.
 ghost use Rattle.std.specs.Prelude.{◌≡◌, ◌≢◌, ◌<◌, ◌≤◌, ◌++◌, ◌&&◌, not, ℕ, Bool, true, false, List, [], ◌∷◌, length, OnOk, IfOk, IfErr};
-ghost use Rattle.rule_expr.specs.declared.part.Part.TheVariants as parts;
-ghost use Rattle.rule_expr.specs.declared.part.Word.TheVariants as words;
+ghost use Rattle.rule_value.specs.declared.part.Part.TheVariants as parts;
+ghost use Rattle.rule_value.specs.declared.part.Word.TheVariants as words;
 ghost use Rattle.rule_expr.specs.declared.stop.Stop.TheVariants as stops;
 ghost use Rattle.rule_expr.specs.Parts.{after_blanks, behind, part_at};
-ghost use Rattle.rule_expr.specs.Trees.{mark, name, quote};
+ghost use Rattle.rule_value.specs.Trees.{mark, name, quote};
 ghost use Rattle.rule_expr.specs.Places.{dot_path, bracketed, why_not, is_open, is_close};
 ghost use Rattle.rule_expr.specs.Reading.{Passes, ReadsStep, ReadsSteps};
 ghost use Rattle.rule_expr.specs.Walking.{HaltsSteps, HaltsHome, WalksHome, WalksSteps, NoRound, NoSquare, Lacks, Breaks, is_end, is_close_round, is_event, is_call, is_called, begins_call, goes_on};
 
-use crate::op::{Op, Path};
-use crate::part::{Part, Word};
 use crate::place::why_not;
 use crate::quotes::{Quoted, text_in_quotes};
 use crate::seen::{after_blanks, behind, name_at, part_at};
 use crate::stop::Stop;
+use rule_value::{Op, Part, Path, Word};
 use side_base::Blob;
 use std::alloc::Global;
 

@@ -3,9 +3,9 @@ ghost use Rattle.std.specs.Prelude.{◌≡◌, length};
 ghost use Rattle.rule_expr.specs.Parts.{part_at};
 ghost use Rattle.rule_expr.specs.Places.{why_not};
 
-use crate::part::Part;
 use crate::seen::{is_left_out, part_at};
 use crate::stop::Stop;
+use rule_value::Part;
 
 /// Why nothing goes on with what stands next. `named` is whether a name may stand there.
 pub(crate) fn why_not(rest: &[u8], named: bool) -> Stop

@@ -1,17 +1,16 @@
 // Reads a rule by its grammar, from the left, and writes down the steps that compute it.
 ghost use Rattle.std.specs.Prelude.{◌≡◌, ◌≤◌, ◌+◌, ◌-◌, ◌++◌, ℕ, true, false, List, [], ◌∷◌, length, OnOk, IfErr, suc};
-ghost use Rattle.rule_expr.specs.declared.part.Part.TheVariants as parts;
-ghost use Rattle.rule_expr.specs.declared.part.Word.TheVariants as words;
+ghost use Rattle.rule_value.specs.declared.part.Part.TheVariants as parts;
+ghost use Rattle.rule_value.specs.declared.part.Word.TheVariants as words;
 ghost use Rattle.rule_expr.specs.Parts.{part_at};
-ghost use Rattle.rule_expr.specs.Trees.{or, and, rel, list, items, unary, post, round, atom};
+ghost use Rattle.rule_value.specs.Trees.{or, and, rel, list, items, unary, post, round, atom};
 ghost use Rattle.rule_expr.specs.Places.{operand, after, open_list, list_end};
 ghost use Rattle.rule_expr.specs.Reading.{Reads};
 ghost use Rattle.rule_expr.specs.Walking.{Walks, Halts, HaltsOperand, HaltsItems, HaltsRound, WalksAtom, WalksOperand, WalksRound, Went, WentItems, IsRelationOver, IsAndOver, IsOrOver, IsItemsOver, is_bang};
 
-use crate::op::Op;
 use crate::parser::Parser;
-use crate::part::{Part, Word};
 use crate::stop::Stop;
+use rule_value::{Op, Part, Word};
 
 impl<'t> Parser<'t> {
     /// `or = and , { "||" , and }`

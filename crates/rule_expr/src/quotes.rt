@@ -3,7 +3,7 @@ ghost use Rattle.std.specs.Prelude.{◌≡◌, ◌≢◌, ◌≤◌, ◌<◌, le
 ghost use Rattle.rule_expr.specs.Parts.{is_escaped};
 ghost use Rattle.rule_expr.specs.Quoted.{IsQuoted, IsQuotedFrom, turn};
 
-use crate::operand::next_of;
+use rule_value::next_of;
 use side_base::{Blob, NoMemory};
 use std::alloc::Global;
 

@@ -1,14 +1,14 @@
 ghost use Rattle.std.specs.Prelude.{◌≢◌, IfOk, IfErr};
 ghost use Rattle.rule_expr.specs.declared.error.RuleErr.TheVariants.{NoMemory};
-ghost use Rattle.rule_expr.specs.Codes.{IsExpr};
+ghost use Rattle.rule_value.specs.Codes.{IsExpr};
 ghost use Rattle.rule_expr.specs.Rules.{IsRule};
-ghost use Rattle.rule_expr.specs.Trees.{Tree, or};
+ghost use Rattle.rule_value.specs.Trees.{Tree, or};
 ghost use Rattle.rule_expr.specs.Walks.{IsRefused};
 
 use crate::error::RuleErr;
-use crate::expr::Expr;
 use crate::parser::Parser;
 use crate::stop::error_at;
+use rule_value::Expr;
 use std::alloc::Global;
 
 /// Reads a rule, in which at most 32 brackets stand within one another. A refusal is of the first place where the text leaves the
@@ -24,7 +24,7 @@ pub fn parse(alloc: Global, text: &[u8]) -> Result<Expr, RuleErr>
         Err(stop) => return Err(error_at(text.len(), stop)),
     }
     match parser.finish() {
-        Ok(ops) => Ok(Expr { ops }),
+        Ok(ops) => Ok(Expr::new(ops)),
         Err(stop) => Err(error_at(text.len(), stop)),
     }
 }

@@ -3,11 +3,10 @@ ghost use Rattle.std.specs.Prelude.{◌≡◌, ◌≢◌, ◌≤◌, ◌<◌, �
 ghost use Rattle.std.specs.List.{prefix_len};
 ghost use Rattle.side_base.specs.Decimal.{digits_at};
 ghost use Rattle.rule_expr.specs.Parts.{is_blank, is_left_out, after_blanks, keyword, is_name_byte, name_len, number_seen, one, two, mark_seen, name_seen, seen_from, seen, behind, part_at, name_at};
-ghost use Rattle.rule_expr.specs.declared.part.Part.TheVariants as parts;
+ghost use Rattle.rule_value.specs.declared.part.Part.TheVariants as parts;
 
-use crate::operand::next_of;
-use crate::part::{Call, Part, Relation, Seen, Word};
-use crate::whole::{is_within, whole};
+use rule_value::whole::{is_within, whole};
+use rule_value::{Call, Part, Relation, Seen, Word, next_of};
 use side_base::{number_of, split_digits};
 
 fn is_blank(byte: u8) -> bool

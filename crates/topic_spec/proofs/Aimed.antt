@@ -5,7 +5,7 @@ use Rattle.std.proofs.lemmas.List.Elements.{All-append, All-cons}
 use Rattle.std.proofs.lemmas.List.Quantifiers.{all_pairs_push}
 use Rattle.ledger_core.specs.declared.plan.Aim.{Aim}
 use Rattle.ledger_core.specs.Aims.{AreAims}
-use Rattle.rule_expr.specs.Values.{Event}
+use Rattle.rule_value.specs.Values.{Event}
 use Rattle.topic_spec.specs.declared.sub.Sub.{Sub}
 use Rattle.topic_spec.specs.Aiming.{aim_at, aims_from, IsAimed}
 

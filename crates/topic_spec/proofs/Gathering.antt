@@ -11,8 +11,8 @@ use Rattle.resource_spec.specs.declared.field_err.FieldErr.TheVariants.{Missing,
 use Rattle.resource_spec.specs.Document.{IsRead}
 use Rattle.resource_spec.specs.Field.{IsFieldErr}
 use Rattle.resource_spec.specs.Follow.{follow}
-use Rattle.rule_expr.specs.Standing.{IsAt}
-use Rattle.rule_expr.specs.Values.{held}
+use Rattle.rule_value.specs.Standing.{IsAt}
+use Rattle.rule_value.specs.Values.{held}
 use Rattle.topic_spec.specs.declared.draft.RuleText.{RuleText}
 use Rattle.topic_spec.specs.declared.draft.Routes.{Routes}
 use Rattle.topic_spec.specs.declared.draft.Draft.{Draft}

@@ -6,9 +6,9 @@ use Rattle.json_text.specs.declared.doc.Node.{Node}
 use Rattle.json_text.specs.declared.spot.Spot.{Spot}
 use Rattle.json_text.specs.Forest.{Forest, grows}
 use Rattle.json_text.specs.Doc.{bytes_read, IsNode, IsLastNamed, OfNode}
-use Rattle.rule_expr.specs.Values.{last_named, held}
-use Rattle.rule_expr.specs.Standing.{IsAt, IsFound}
-use Rattle.rule_expr.proofs.Membership.{found_last}
+use Rattle.rule_value.specs.Values.{last_named, held}
+use Rattle.rule_value.specs.Standing.{IsAt, IsFound}
+use Rattle.rule_value.proofs.Membership.{found_last}
 
 -- ---- values of nodes
 

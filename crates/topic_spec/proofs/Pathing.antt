@@ -2,11 +2,11 @@
 use Rattle.std.proofs.Common.{◌≡◌, ◌≢◌, inl, inr, ◌∙◌, ap, sym, subst, refl, cond, Bool, true, false, ℕ, ◌+◌, List, [], ◌∷◌, ◌++◌, append_assoc, append-nil, Option, Some, None}
 use Rattle.std.specs.Prelude.{◌&&◌, bytes_eq, Result, Ok, Err, OnOk}
 use Rattle.ledger_core.specs.declared.plan.Aim.{Aim}
-use Rattle.rule_expr.specs.declared.truth.Truth.{Truth}
-use Rattle.rule_expr.specs.Codes.{IsExpr}
-use Rattle.rule_expr.specs.Trees.{Tree, or}
-use Rattle.rule_expr.specs.Values as values
-use Rattle.rule_expr.specs.Values.{Event, Value, flag, value, truth}
+use Rattle.rule_value.specs.declared.truth.Truth.{Truth}
+use Rattle.rule_value.specs.Codes.{IsExpr}
+use Rattle.rule_value.specs.Trees.{Tree, or}
+use Rattle.rule_value.specs.Values as values
+use Rattle.rule_value.specs.Values.{Event, Value, flag, value, truth}
 use Rattle.topic_spec.specs.declared.draft.RuleText.{RuleText}
 use Rattle.topic_spec.specs.declared.draft.Draft.{Draft}
 use Rattle.topic_spec.specs.declared.sub.Rule.{Rule}

@@ -3,7 +3,7 @@ use Rattle.std.proofs.Common.{◌≡◌, ◌≢◌, inl, inr, ◌∙◌, ap, sym
 use Rattle.std.specs.Prelude.{Result, Ok, Err}
 use Rattle.rule_expr.specs.declared.error.RuleErr.{RuleErr}
 use Rattle.rule_expr.specs.declared.error.RuleErr.TheVariants as whys
-use Rattle.rule_expr.specs.declared.expr.Expr.{Expr}
+use Rattle.rule_value.specs.declared.expr.Expr.{Expr}
 use Rattle.rule_expr.specs.Walks.{IsRefused}
 use Rattle.topic_spec.specs.declared.draft.RuleText.{RuleText}
 use Rattle.topic_spec.specs.declared.sub.Rule.{Rule}

@@ -25,7 +25,7 @@ use Rattle.topic_spec.specs.Documents.{in_rules, rule_in, rules_from, rules_list
 use Rattle.topic_spec.specs.Reading.{AreRules, IsSub}
 use Rattle.topic_spec.specs.Listed as listed
 use Rattle.topic_spec.specs.Listed.{provided, kind_of, is_map, is_list, needed_in, text_in, member_of, rule_members, rule_of, routes_members, routes_or_route, draft_members, draft_of, item_draft, item_said, items_said, ListLoads, ListLoadsIf}
-use Rattle.rule_expr.specs.Values.{Event, held}
+use Rattle.rule_value.specs.Values.{Event, held}
 use Rattle.std.specs.Option.{option_or}
 use Rattle.ledger_core.specs.declared.plan.Aim.{Aim}
 use Rattle.topic_spec.specs.Aiming.{is_yes, answer, first_yes, path_of, is_to, aim_at, aims_from, aims_of, AreSubs}

@@ -7,8 +7,8 @@ use Rattle.json_text.specs.declared.spot.Spot.{Spot}
 use Rattle.json_text.specs.Forest.{Forest, empty, grows}
 use Rattle.json_text.specs.Doc.{bytes_read, IsNode, StandsAt, OfNode}
 use Rattle.resource_spec.specs.Follow.{follow}
-use Rattle.rule_expr.specs.Standing.{IsAt}
-use Rattle.rule_expr.specs.Values.{held}
+use Rattle.rule_value.specs.Standing.{IsAt}
+use Rattle.rule_value.specs.Values.{held}
 use Rattle.yaml_subset.specs.declared.preorder.Part.{Part}
 use Rattle.yaml_subset.specs.Trees.{Trees, none, tree}
 use Rattle.yaml_subset.specs.Docs.{IsPart, row_of, later_of, count_of, Begins, IsFirst}

@@ -2,12 +2,12 @@
 use Rattle.std.specs.Prelude.{◌≡◌, ◌≢◌, ℕ, ◌+◌, ⊤, ◌⊎◌, Bool, true, false, ◌&&◌, List, [], ◌∷◌, ◌++◌, bytes_eq, filter, if◌then◌else◌, Option, Some, None}
 use Rattle.std.specs.Option.{option_or}
 use Rattle.ledger_core.specs.declared.plan.Aim.{Aim}
-use Rattle.rule_expr.specs.declared.truth.Truth.{Truth}
-use Rattle.rule_expr.specs.declared.truth.Truth.TheVariants.{Yes, No, Error}
+use Rattle.rule_value.specs.declared.truth.Truth.{Truth}
+use Rattle.rule_value.specs.declared.truth.Truth.TheVariants.{Yes, No, Error}
 use Rattle.rule_expr.specs.Rules.{IsRule}
-use Rattle.rule_expr.specs.Trees.{Tree, or}
-use Rattle.rule_expr.specs.Values.{Event, value, flag}
-use Rattle.rule_expr.specs.Codes.{verdict}
+use Rattle.rule_value.specs.Trees.{Tree, or}
+use Rattle.rule_value.specs.Values.{Event, value, flag}
+use Rattle.rule_value.specs.Codes.{verdict}
 use Rattle.resource_spec.specs.Component.{Loaded}
 use Rattle.resource_spec.specs.Components.{component_named}
 use Rattle.resource_spec.specs.declared.component.ComponentKind.{ComponentKind}

@@ -8,7 +8,7 @@ use Rattle.json_text.specs.Unescape.{text_shown}
 use Rattle.resource_spec.specs.declared.field_err.FieldErr.{FieldErr}
 use Rattle.resource_spec.specs.declared.field_err.FieldErr.TheVariants as fields
 use Rattle.resource_spec.specs.Follow.{follow}
-use Rattle.rule_expr.specs.Values.{last_named, held}
+use Rattle.rule_value.specs.Values.{last_named, held}
 use Rattle.topic_spec.specs.declared.draft.RuleText.{RuleText}
 use Rattle.topic_spec.specs.declared.draft.Routes.{Routes}
 use Rattle.topic_spec.specs.declared.draft.Draft.{Draft}

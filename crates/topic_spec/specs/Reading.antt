@@ -2,11 +2,11 @@
 use Rattle.std.specs.Prelude.{◌≡◌, ℕ, ⊤, ◌⊎◌, List, [], ◌∷◌, Option, Some, None, Result, Ok, Err}
 use Rattle.rule_expr.specs.declared.error.RuleErr.{RuleErr}
 use Rattle.rule_expr.specs.declared.error.RuleErr.TheVariants as whys
-use Rattle.rule_expr.specs.declared.expr.Expr.{Expr}
-use Rattle.rule_expr.specs.Trees.{Tree, or}
+use Rattle.rule_value.specs.declared.expr.Expr.{Expr}
+use Rattle.rule_value.specs.Trees.{Tree, or}
 use Rattle.rule_expr.specs.Rules.{IsRule}
 use Rattle.rule_expr.specs.Walks.{IsRefused}
-use Rattle.rule_expr.specs.Codes.{IsExpr}
+use Rattle.rule_value.specs.Codes.{IsExpr}
 use Rattle.topic_spec.specs.declared.draft.RuleText.{RuleText}
 use Rattle.topic_spec.specs.declared.draft.Draft.{Draft}
 use Rattle.topic_spec.specs.declared.sub.Rule.{Rule}

@@ -1,8 +1,8 @@
 //! To which paths an event is delivered.
 ghost use Rattle.std.specs.Prelude.{◌≡◌, ◌++◌, ℕ, List, length, Option, option_map, OnOk, IfOk};
 ghost use Rattle.ledger_core.specs.Aims.{AreAims};
-ghost use Rattle.rule_expr.specs.Standing.{IsEvent};
-ghost use Rattle.rule_expr.specs.Values.{Event};
+ghost use Rattle.rule_value.specs.Standing.{IsEvent};
+ghost use Rattle.rule_value.specs.Values.{Event};
 ghost use Rattle.std.specs.Option.{option_or};
 ghost use Rattle.topic_spec.specs.declared.draft.Draft.{Draft};
 ghost use Rattle.topic_spec.specs.declared.draft.RuleText.{RuleText};

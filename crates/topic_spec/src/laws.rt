@@ -3,7 +3,7 @@ ghost use Rattle.std.specs.Prelude.{◌≡◌, ℕ, List, [], ◌++◌, Option, 
 ghost use Rattle.json_text.specs.Forest.{Forest};
 ghost use Rattle.yaml_subset.specs.Trees.{Trees};
 ghost use Rattle.resource_spec.specs.Component.{Loaded};
-ghost use Rattle.rule_expr.specs.Values.{Event};
+ghost use Rattle.rule_value.specs.Values.{Event};
 ghost use Rattle.topic_spec.specs.declared.draft.Draft.{Draft};
 ghost use Rattle.topic_spec.specs.declared.sub.Sub.{Sub};
 ghost use Rattle.topic_spec.specs.declared.sub_err.SubErr.{SubErr};

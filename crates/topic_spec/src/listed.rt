@@ -3,8 +3,8 @@ ghost use Rattle.std.specs.Prelude.{◌≡◌, Option, Ok, Some, None, [], codes
 ghost use Rattle.json_text.specs.Doc.{bytes_read, IsNode};
 ghost use Rattle.json_text.specs.Forest.{Forest};
 ghost use Rattle.resource_spec.specs.Document.{IsRead};
-ghost use Rattle.rule_expr.specs.Standing.{IsAt, IsFound};
-ghost use Rattle.rule_expr.specs.Values.{last_named, held};
+ghost use Rattle.rule_value.specs.Standing.{IsAt, IsFound};
+ghost use Rattle.rule_value.specs.Values.{last_named, held};
 ghost use Rattle.topic_spec.specs.Draft.{IsSaid, unless_self};
 ghost use Rattle.topic_spec.specs.Listed.{kind_of, is_null, is_list, is_map, is_text, there, member_of, as_text, text_or_none, text_in, or_missing, needed_in, rule_members, rule_of, rules_from, rules_of, routes_members, routes_or_route, routes_of, draft_members, draft_of, item_draft};
 

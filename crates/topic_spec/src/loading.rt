@@ -2,8 +2,8 @@
 ghost use Rattle.std.specs.Prelude.{◌≡◌, ◌+◌, [], length, Ok, Some, OnOk};
 ghost use Rattle.json_text.specs.Doc.{bytes_read, IsNode};
 ghost use Rattle.json_text.specs.Forest.{Forest};
-ghost use Rattle.rule_expr.specs.Standing.{IsAt, IsEvent};
-ghost use Rattle.rule_expr.specs.Values.{Event, held};
+ghost use Rattle.rule_value.specs.Standing.{IsAt, IsEvent};
+ghost use Rattle.rule_value.specs.Values.{Event, held};
 ghost use Rattle.yaml_subset.specs.Docs.{IsPart, row_of};
 ghost use Rattle.topic_spec.specs.Documents.{document_said, all_said};
 ghost use Rattle.topic_spec.specs.Listed.{item_said, items_said, ListLoads};

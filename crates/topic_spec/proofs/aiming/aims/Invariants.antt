@@ -1,8 +1,8 @@
 use Rattle.std.proofs.Common.{◌≡◌, ◌<◌, ◌++◌, List, length, drop}
 use Rattle.std.specs.List.{All, AllPairs}
 use Rattle.std.specs.Prelude.{◌≢◌}
-use Rattle.rule_expr.specs.Standing.{IsEvent}
-use Rattle.rule_expr.specs.Values.{Event}
+use Rattle.rule_value.specs.Standing.{IsEvent}
+use Rattle.rule_value.specs.Values.{Event}
 use Rattle.topic_spec.specs.declared.draft.Draft.{Draft}
 use Rattle.topic_spec.specs.Aiming.{aims_from, aims_of, AreSubs}
 use Rattle.topic_spec.proofs.Pathing.{Aiming}

@@ -1,6 +1,6 @@
 use Rattle.std.proofs.Common.{◌≡◌, ℕ, List, Option, drop}
-use Rattle.rule_expr.specs.Standing.{IsEvent}
-use Rattle.rule_expr.specs.Values.{Event}
+use Rattle.rule_value.specs.Standing.{IsEvent}
+use Rattle.rule_value.specs.Values.{Event}
 use Rattle.topic_spec.specs.declared.draft.RuleText.{RuleText}
 use Rattle.topic_spec.specs.Aiming.{first_yes}
 use Rattle.topic_spec.specs.Reading.{AreRules}

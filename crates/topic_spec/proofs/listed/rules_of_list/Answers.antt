@@ -1,7 +1,7 @@
 use Rattle.std.proofs.Common.{[], sym, subst, refl}
 use Rattle.std.specs.Prelude.{IfSome}
 use Rattle.json_text.specs.Doc.{bytes_read, IsNode}
-use Rattle.rule_expr.specs.Values.{held}
+use Rattle.rule_value.specs.Values.{held}
 use Rattle.topic_spec.specs.Listed.{rules_from}
 use Rattle.topic_spec.proofs.Gathering.{GoingRules, rules_start, rules_next, rules_stop, rules_end}
 use Rattle.topic_spec.proofs.listed.rules_of_list.Goals as goal

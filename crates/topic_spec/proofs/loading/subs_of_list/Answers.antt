@@ -1,7 +1,7 @@
 use Rattle.std.proofs.Common.{[], sym, subst, length}
 use Rattle.std.specs.Prelude.{IfSome, Ok, Err}
 use Rattle.json_text.specs.Doc.{bytes_read, IsNode}
-use Rattle.rule_expr.specs.Values.{held}
+use Rattle.rule_value.specs.Values.{held}
 use Rattle.topic_spec.specs.Listed.{item_said, items_said}
 use Rattle.topic_spec.specs.Loading.{Loads, IsStep}
 use Rattle.topic_spec.proofs.Steps.{GoingItems, items_start, items_next, items_stop, items_end}

@@ -2,8 +2,8 @@ use Rattle.std.proofs.Common.{length, []}
 use Rattle.std.specs.Prelude.{IfSome}
 use Rattle.json_text.specs.Forest.{Forest}
 use Rattle.json_text.specs.Doc.{bytes_read, IsNode, values_kept}
-use Rattle.rule_expr.specs.Standing.{IsAt}
-use Rattle.rule_expr.specs.Values.{held}
+use Rattle.rule_value.specs.Standing.{IsAt}
+use Rattle.rule_value.specs.Values.{held}
 use Rattle.topic_spec.specs.Listed.{items_said}
 use Rattle.topic_spec.specs.Loading.{Loads}
 use Rattle.topic_spec.proofs.Steps.{GoingItems, nodes_left}

@@ -1,8 +1,8 @@
 use Rattle.std.proofs.Common.{rules, ◌∙◌, ap, sym, subst, refl, length, arith, true}
 use Rattle.std.proofs.lemmas.List.{append-nil}
-use Rattle.rule_expr.specs.declared.part.Part.TheVariants as parts
+use Rattle.rule_value.specs.declared.part.Part.TheVariants as parts
 use Rattle.rule_expr.specs.Parts.{part_at}
-use Rattle.rule_expr.specs.Trees
+use Rattle.rule_value.specs.Trees
 use Rattle.rule_expr.specs.Reading.{Reads}
 use Rattle.rule_expr.specs.Places.{operand, open_list}
 use Rattle.rule_expr.specs.Walking.{Halts, HaltsOperand, HaltsItems, HaltsRound, WalksAtom, Went, WentItems, IsRelationOver, IsAndOver, IsOrOver, is_named_call}

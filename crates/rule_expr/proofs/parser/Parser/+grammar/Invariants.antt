@@ -1,9 +1,9 @@
 use Rattle.std.proofs.Common.{◌≡◌, ◌≤◌, ◌+◌, ◌*◌, ℕ, List, ◌++◌, replicate, length}
-use Rattle.rule_expr.specs.declared.op.Op.{Op}
-use Rattle.rule_expr.specs.declared.op.Op.TheVariants as ops
-use Rattle.rule_expr.specs.declared.part.Part.TheVariants as parts
-use Rattle.rule_expr.specs.Trees
-use Rattle.rule_expr.specs.Trees.{mark}
+use Rattle.rule_value.specs.declared.op.Op.{Op}
+use Rattle.rule_value.specs.declared.op.Op.TheVariants as ops
+use Rattle.rule_value.specs.declared.part.Part.TheVariants as parts
+use Rattle.rule_value.specs.Trees
+use Rattle.rule_value.specs.Trees.{mark}
 use Rattle.rule_expr.specs.Reading.{Reads, Passes}
 use Rattle.rule_expr.specs.Walking.{Went, WentItems, WalksAtom, WalksBangs, WalksOperand, IsRelationOver, IsAndOver, IsOrOver}
 use Rattle.rule_expr.proofs.parser.Parser.+grammar.Given as goal

@@ -1,7 +1,0 @@
-use Rattle.std.proofs.Common.{arith}
-use Rattle.rule_expr.proofs.Stacks.{pushed}
-use Rattle.rule_expr.proofs.stack.Stack.push.Goals as goal
-
-pub returns-clause-values : goal.returns-clause-values
-returns-clause-values c =
-    pushed c.args.self.now.values c.args.self.now.height c.args.value (omega (arith, c.args.self.now.size, c.requires))

@@ -1,8 +1,0 @@
--- Values that stand one on the other.
-use Rattle.std.specs.Prelude.{List, take, reverse}
-use Rattle.rule_expr.specs.declared.value.Value.{Value}
-use Rattle.rule_expr.specs.declared.stack.Stack.{Stack}
-
--- the last one first
-abbrev pub stacked : Stack → List Value
-stacked stack = reverse (take stack.height stack.values)

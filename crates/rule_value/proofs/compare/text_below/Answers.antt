@@ -1,0 +1,11 @@
+use Rattle.std.proofs.Common.{◌∙◌, ap, sym, subst, Some}
+use Rattle.json_text.specs.Forest.{grows}
+use Rattle.rule_value.specs.Values.{text, below, comes_before}
+use Rattle.rule_value.specs.Standing.{Is, IsToldAt}
+use Rattle.rule_value.proofs.compare.text_below.Goals as goal
+
+pub returns-in-Told : goal.returns-in-Told
+returns-in-Told c meant is =
+    let told : IsToldAt c.args.doc.now c.in-Told.node meant = subst (λ own. Is c.args.doc.now own meant) c.in-Told.is is in
+    let same = c.told.ensures ∙ c.text_bytes.ensures (grows told.spot told.children told.later) told.stands in
+    ap Some (c.comes_before-in-Told.ensures ∙ ap (comes_before c.args.one) same) ∙ ap (below (text c.args.one)) (sym told.is)
