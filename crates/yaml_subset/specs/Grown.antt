@@ -6,7 +6,7 @@ use Rattle.yaml_lines.specs.Shown.{leaf_shown, spelled_shown}
 use Rattle.yaml_subset.specs.declared.error.YamlErr.{YamlErr}
 use Rattle.yaml_subset.specs.declared.grow.Row.{Row}
 use Rattle.yaml_subset.specs.declared.reader.Reader.{Reader}
-use Rattle.yaml_subset.specs.Tree.{What, absent, leaf, empty}
+use Rattle.yaml_subset.specs.Tree.{absent, leaf, empty}
 use Rattle.yaml_subset.specs.Front.{Frame, Front}
 use Rattle.yaml_subset.specs.Refusal.{is_absent, may_begin, turned, may_have, at_line, with_lead, leaf_said}
 use Rattle.yaml_subset.specs.Held.{Stands, Led, Placed, Turned}

@@ -1,5 +1,5 @@
 -- What a file says: rows of documents, of members and of items, with the places where they were written.
-use Rattle.std.specs.Prelude.{ℕ, suc, Bool, List, [], ◌∷◌, ◌++◌}
+use Rattle.std.specs.Prelude.{ℕ, suc, List, [], ◌∷◌, ◌++◌}
 use Rattle.yaml_lines.specs.declared.kind.PartKind.{PartKind}
 use Rattle.yaml_lines.specs.declared.kind.PartKind.TheVariants as kinds
 use Rattle.yaml_lines.specs.Leaf.{Scalar, Leaf}
