@@ -1,9 +1,6 @@
 use Rattle.std.proofs.Common.{◌≡◌, ◌∙◌, sym, subst, refl}
-use Rattle.json_text.specs.declared.doc.Doc.{Doc}
-use Rattle.json_text.specs.declared.doc.Node.{Node}
 use Rattle.json_text.specs.Forest.{empty, one}
-use Rattle.json_text.specs.Doc.{Shows, StandsAt}
-use Rattle.rule_value.specs.Values.{Event}
+use Rattle.json_text.specs.Doc.{StandsAt}
 use Rattle.rule_expr.proofs.laws.a_document_shows_an_event.Goals as goal
 
 pub returns : goal.returns
