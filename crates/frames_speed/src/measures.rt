@@ -38,7 +38,7 @@ fn work(desk: Desk<'_>, part: Part, piece: &[u8], behind: usize, times: u32) -> 
 }
 
 /// Measures a part of a row by so many requests, and writes what one of them costs.
-pub fn tell<R: Clock + Eprint>(
+pub(crate) fn tell<R: Clock + Eprint>(
     rt: &R,
     desk: Desk<'_>,
     row: &Row,

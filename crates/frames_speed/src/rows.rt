@@ -4,23 +4,23 @@ use std::alloc::Global;
 
 /// A row of what is measured: requests with this head and so many bytes of content, of which so many come together.
 #[derive(Clone, Copy)]
-pub struct Row {
-    pub name: &'static str,
-    pub head: &'static [u8],
-    pub content: usize,
-    pub group: u32,
+pub(crate) struct Row {
+    pub(crate) name: &'static str,
+    pub(crate) head: &'static [u8],
+    pub(crate) content: usize,
+    pub(crate) group: u32,
 }
 
 /// How far the work with a request goes.
 #[derive(Clone, Copy)]
-pub struct Part {
-    pub name: &'static str,
+pub(crate) struct Part {
+    pub(crate) name: &'static str,
     /// A framer is fed, and gives it; else `httparse` alone reads its head.
-    pub is_framed: bool,
+    pub(crate) is_framed: bool,
     /// Its route is found.
-    pub is_routed: bool,
+    pub(crate) is_routed: bool,
     /// A response is written.
-    pub is_answered: bool,
+    pub(crate) is_answered: bool,
 }
 
 const GET: &[u8] = b"GET /v1.0/state/statestore/a HTTP/1.1\r\nHost: a\r\n\r\n";
@@ -34,7 +34,7 @@ const SAVE_16384: &[u8] =
     b"POST /v1.0/state/statestore HTTP/1.1\r\nHost: a\r\nContent-Length: 16408\r\n\r\n";
 
 /// The rows that are measured, unless an argument names one of them.
-pub const ROWS: &[Row] = &[
+pub(crate) const ROWS: &[Row] = &[
     Row {
         name: "get",
         head: GET,
@@ -74,7 +74,7 @@ pub const ROWS: &[Row] = &[
 ];
 
 /// The parts that are measured, unless an argument names one of them.
-pub const PARTS: &[Part] = &[
+pub(crate) const PARTS: &[Part] = &[
     Part {
         name: "heads",
         is_framed: false,
@@ -102,7 +102,7 @@ pub const PARTS: &[Part] = &[
 ];
 
 /// The name of one of these rows, where a word is one.
-pub fn row_name(rows: &[Row], word: &str) -> Option<&'static str> {
+pub(crate) fn row_name(rows: &[Row], word: &str) -> Option<&'static str> {
     for row in rows {
         if row.name == word {
             return Some(row.name);
@@ -112,7 +112,7 @@ pub fn row_name(rows: &[Row], word: &str) -> Option<&'static str> {
 }
 
 /// The name of one of these parts, where a word is one.
-pub fn part_name(parts: &[Part], word: &str) -> Option<&'static str> {
+pub(crate) fn part_name(parts: &[Part], word: &str) -> Option<&'static str> {
     for part in parts {
         if part.name == word {
             return Some(part.name);
@@ -130,7 +130,7 @@ fn push_request(bytes: &mut Vec<u8>, row: &Row) -> Result<(), NoMemory> {
 }
 
 /// The requests of a row that come together, one behind the other.
-pub fn together(alloc: Global, row: &Row) -> Result<Vec<u8>, NoMemory> {
+pub(crate) fn together(alloc: Global, row: &Row) -> Result<Vec<u8>, NoMemory> {
     let mut bytes = Vec::new(alloc);
     for _ in 0..row.group {
         push_request(&mut bytes, row)?;

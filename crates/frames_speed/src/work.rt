@@ -12,10 +12,10 @@ const READ: usize = 16_384;
 
 /// What the work takes beside a framer: routers, and the response that is written.
 #[derive(Clone, Copy)]
-pub struct Desk<'a> {
-    pub alloc: Global,
-    pub routers: &'a Routers,
-    pub response: &'a Response,
+pub(crate) struct Desk<'a> {
+    pub(crate) alloc: Global,
+    pub(crate) routers: &'a Routers,
+    pub(crate) response: &'a Response,
 }
 
 fn push_type(alloc: Global, fields: &mut Fields) -> Result<(), NoMemory> {
@@ -27,7 +27,7 @@ fn push_type(alloc: Global, fields: &mut Fields) -> Result<(), NoMemory> {
 }
 
 /// A response with the content of a get of 100 bytes.
-pub fn response(alloc: Global) -> Result<Response, NoMemory> {
+pub(crate) fn response(alloc: Global) -> Result<Response, NoMemory> {
     let mut response = Response {
         status: 200,
         fields: Fields::new(alloc),
@@ -89,7 +89,7 @@ fn count_given(desk: Desk<'_>, part: Part, framer: &mut Framer, out: &mut Blob) 
 }
 
 /// With how many of the requests of a piece the work is done.
-pub fn count_framed(
+pub(crate) fn count_framed(
     desk: Desk<'_>,
     part: Part,
     framer: &mut Framer,
@@ -114,7 +114,7 @@ fn head_len(bytes: &[u8], headers: &mut [HeaderSpan]) -> usize {
 }
 
 /// How many heads `httparse` finds in a piece, with as many bytes behind each, which it leaves.
-pub fn count_heads(piece: &[u8], behind: usize, headers: &mut [HeaderSpan]) -> u64 {
+pub(crate) fn count_heads(piece: &[u8], behind: usize, headers: &mut [HeaderSpan]) -> u64 {
     let mut count: u64 = 0;
     let mut rest = piece;
     for _ in 0..u64::MAX {
