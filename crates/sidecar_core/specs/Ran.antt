@@ -1,17 +1,12 @@
 -- A state call over the objects: the events of its attempts, at the places of its store and its breaker.
 use Rattle.std.specs.Prelude.{◌≡◌, ◌⊎◌, ℕ, List, map, Some, Result, unwrap_or}
-use Rattle.turn_cell.specs.declared.entry.Entry.{Entry}
-use Rattle.turn_cell.specs.declared.object.Object.{Ghosts}
-use Rattle.turn_cell.specs.Growth.{Grew}
-use Rattle.turn_cell.specs.Sitting.{Begun, Sitting}
+use Rattle.turn_cell.specs.Sitting.{Sitting}
 use Rattle.turn_cell.specs.declared.error.ApiErr.{ApiErr}
 use Rattle.retry_core.specs.declared.policy.Bound.{Bound}
 use Rattle.state_core.specs.declared.command.Cmd.{Cmd}
 use Rattle.state_core.specs.History.{Step}
 use Rattle.policy_run.specs.Event.{Event}
-use Rattle.breaker_core.specs.Course.{Step as BreakerStep}
 use Rattle.policy_run.specs.Attempts.{Attempts}
-use Rattle.policy_run.specs.Effects.{Effects, Times}
 use Rattle.policy_run.specs.declared.outcome.Outcome.{Outcome}
 use Rattle.state_api.specs.declared.call.StateAnswer.{StateAnswer}
 use Rattle.state_api.specs.declared.running.Ran.{Ran}
@@ -32,12 +27,3 @@ pub record StoreRan (place : ℕ) (bound : Bound) (cmd : Cmd) (events : List Doi
 -- the seat of the store at this place shows the count, or that of the breaker that is bound
 abbrev pub IsShown : {O C R O' C' R' : Type 0} → ℕ → Bound → List (Sitting O C R) → List (Sitting O' C' R') → ℕ → Type 0
 IsShown place bound stores breakers count = ShowsAt place count stores ⊎ ((k : ℕ) × (bound.breaker ≡ Some k) × ShowsAt k count breakers)
-
--- A state call came to this by attempts that had these effects
-abbrev pub RunsBy : Bound → Cmd → Result Ran ApiErr → (List Step → Type 0) → (List BreakerStep → Type 0) → Times → (List ℕ → Type 0) → Type 0
-RunsBy bound cmd result did held clock drawn = (events : List (Event Step)) × (outcome : Outcome StateAnswer (Unit {0}))
-    × Attempts bound (λ limit. Makes cmd) outcome events × (result ≡ ran_of outcome) × Effects events did held clock.before clock.after drawn
-
--- by these steps a seat of the cell went on
-abbrev pub Grows : {O C R : Type 0} → Ghosts O C R → Begun O → Sitting O C R → Sitting O C R → List (Entry C R) → Type 0
-Grows object cell seat seat' steps = Grew object cell.first seat steps seat'

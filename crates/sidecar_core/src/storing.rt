@@ -6,9 +6,9 @@ ghost use Rattle.turn_cell.specs.Passes.{EachSeated};
 ghost use Rattle.state_core.specs.Taken.{IsTaken};
 ghost use Rattle.policy_run.specs.Effects.{AreNone, Draws, times};
 ghost use Rattle.state_api.specs.Moment.{IsSame};
-ghost use Rattle.state_api.specs.Ran.{IsAnswer};
+ghost use Rattle.state_api.specs.Ran.{Grows, IsAnswer, RunsBy};
 ghost use Rattle.sidecar_core.specs.Pass.{RunsStore};
-ghost use Rattle.sidecar_core.specs.Ran.{Grows, IsShown, RunsBy, StoreRan};
+ghost use Rattle.sidecar_core.specs.Ran.{IsShown, StoreRan};
 
 use crate::kinds::ObjectKinds;
 use crate::{Objects, Pass};

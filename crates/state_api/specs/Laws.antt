@@ -111,3 +111,8 @@ pub record AreKeyed (prefix : Prefix) (items : List Item) : Type 0 where
 pub record AreOf (prefix : Prefix) (raws : List RawItem) (items : List Item) : Type 0 where
   pub keys : map (λ (item : Item). item.key) items ≡ map (λ (raw : RawItem). front_of prefix ++ raw.key) raws
   pub values : map (λ (item : Item). item.value) items ≡ map (λ (raw : RawItem). raw.value) raws
+
+-- where a request has these items, at most 1,024 and with nothing wrong in the words of any, it means a save of such items, in their order
+abbrev pub SavesFineItems : Prefix → Request → List ℕ → List RawItem → Type 0
+SavesFineItems prefix request store raws =
+    HasItems request raws → length raws ≤ 1024 → All IsFine raws → (items : List Item) × AsksSave prefix request store items × AreOf prefix raws items

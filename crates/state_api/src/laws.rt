@@ -1,5 +1,5 @@
 //! What holds of the definitions that the contracts cite, as functions whose contract is the law.
-ghost use Rattle.std.specs.Prelude.{◌≡◌, ◌≤◌, ◌<◌, List, ℕ, length, Result, All};
+ghost use Rattle.std.specs.Prelude.{◌≡◌, ◌<◌, List, ℕ, length, Result};
 ghost use Rattle.side_base.specs.declared.message.Request.{Request};
 ghost use Rattle.api_routes.specs.declared.route.Route.{Route};
 ghost use Rattle.state_core.specs.declared.command.Prefix.{Prefix};
@@ -13,7 +13,7 @@ ghost use Rattle.state_api.specs.Moment.{IsSame};
 ghost use Rattle.state_api.specs.Ran.{IsAnswer};
 ghost use Rattle.state_api.specs.Response.{IsCut, response_of};
 ghost use Rattle.state_api.specs.Asked.{Asks};
-ghost use Rattle.state_api.specs.Laws.{AreKeyed, AreOf, AsksSave, HasItems, IsFaultySave, IsFine, IsOfWords, RefusesSave};
+ghost use Rattle.state_api.specs.Laws.{AreKeyed, AsksSave, HasItems, IsFaultySave, IsOfWords, RefusesSave, SavesFineItems};
 
 use json_text::laws::a_text_has_one_tree;
 
@@ -48,7 +48,7 @@ pub fn a_save_is_refused_for_its_first_faulty_item()
 /// order; where an item has a fault, that of the first such item refuses the save; and more items than 1,024 refuse it, whatever their
 /// words are.
 pub fn a_save_is_refused_for_its_items_alone()
-    ensures fine { (prefix : Prefix) (request : Request) (store : List ℕ) (raws : List RawItem) → HasItems request raws → length raws ≤ 1024 → All IsFine raws → (items : List Item) × AsksSave prefix request store items × AreOf prefix raws items }
+    ensures fine { (prefix : Prefix) (request : Request) (store : List ℕ) (raws : List RawItem) → SavesFineItems prefix request store raws }
     ensures faulty { (prefix : Prefix) (request : Request) (store : List ℕ) (what : What) → IsFaultySave request what → RefusesSave prefix request store what }
     ensures many { (prefix : Prefix) (request : Request) (store : List ℕ) (raws : List RawItem) → HasItems request raws → 1024 < length raws → RefusesSave prefix request store TooMany }
 {}

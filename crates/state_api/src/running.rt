@@ -1,19 +1,10 @@
-ghost use Rattle.std.specs.Prelude.{◌≡◌, ℕ, List, Err, Some, is_some, IfOk, ◌⊎◌};
-ghost use Rattle.rand_core.specs.Stream.{next_u64};
-ghost use Rattle.side_world.specs.Moments.{Drawn};
+ghost use Rattle.std.specs.Prelude.{◌≡◌, ℕ, Err, Some, is_some, IfOk, ◌⊎◌};
 ghost use Rattle.retry_core.specs.Bound.{IsWithinLimit};
 ghost use Rattle.turn_cell.specs.Sitting.{IsSeatOf};
-ghost use Rattle.turn_cell.specs.Growth.{Grew};
-ghost use Rattle.state_core.specs.History.{Step};
 ghost use Rattle.state_core.specs.Taken.{IsTaken};
-ghost use Rattle.policy_run.specs.Event.{Event};
-ghost use Rattle.policy_run.specs.Effects.{Effects, clocked};
-ghost use Rattle.policy_run.specs.Attempts.{Attempts};
-ghost use Rattle.policy_run.specs.declared.outcome.Outcome.{Outcome as OutcomeOf};
-ghost use Rattle.state_api.specs.declared.call.StateAnswer.{StateAnswer as AnswerData};
+ghost use Rattle.policy_run.specs.Effects.{Draws, Runs, times};
 ghost use Rattle.state_api.specs.Moment.{IsSame};
-ghost use Rattle.state_api.specs.Call.{Makes};
-ghost use Rattle.state_api.specs.Ran.{ran_of, IsAnswer};
+ghost use Rattle.state_api.specs.Ran.{ran_of, Grows, IsAnswer, RunsBy};
 
 use crate::{StateAnswer, StoreCall};
 use keeper_core::Keeper;
@@ -51,7 +42,7 @@ pub fn run<K: Keeper, G: Guard, C: Clock, R: Rng, W: Wait>(
     requires seat { IsSeatOf cell.now seat.old }
     requires taken { IsTaken cmd.old }
     requires guard { G.ready guard.old }
-    ensures ran { (events : List (Event Step)) × (outcome : OutcomeOf AnswerData (Unit {0})) × Attempts bound.now (λ limit. Makes cmd.old) outcome events × (result ≡ ran_of outcome) × Effects events (λ xs. Grew ⟦<Store<K> as Object>⟧ cell.now.first seat.old xs seat.new) (λ xs. G.held guard.old xs guard.new) (clocked C.Clock clock.old) (clocked C.Clock clock.new) (λ ws. Drawn next_u64 (R.stream rng.old) ws (R.stream rng.new)) }
+    ensures ran { RunsBy bound.now cmd.old result (Grows ⟦<Store<K> as Object>⟧ cell.now seat.old seat.new) (Runs G.held guard.old guard.new) (times C.Clock clock.old clock.new) (Draws R.stream rng.old rng.new) }
     ensures answer { IfOk result (IsAnswer cmd.old) }
     ensures same { IsSame cmd.old cmd.new }
     ensures there { G.there guard.new ≡ G.there guard.old }
