@@ -75,3 +75,13 @@ pub record IsSentAlike (again sent : Sent) : Type 0 where
 -- no member is null
 abbrev pub AreNotNull : List Attribute → Type 0
 AreNotNull members = (name : List ℕ) → value_in name members ≢ Some (codes "null")
+
+-- an event that is sent again, and becomes the other one, keeps its members in it
+abbrev pub KeepsMembersAgain : Sent → Sent → List ℕ → List ℕ → List ℕ → List ℕ → ℕ → ℕ → Type 0
+KeepsMembersAgain sent again id next event other now later =
+    (one : IsSentAgain sent again id now event) (two : IsWrapped again next later other) → KeepsMembers again one.wrapped.event_is.members two.event_is.members
+
+-- where it is sent alike, and no member is null, it becomes the same bytes
+abbrev pub StaysAgain : Sent → Sent → List ℕ → List ℕ → List ℕ → List ℕ → ℕ → ℕ → Type 0
+StaysAgain sent again id next event other now later =
+    (one : IsSentAgain sent again id now event) → IsWrapped again next later other → IsSentAlike again sent → AreNotNull one.wrapped.event_is.members → other ≡ event

@@ -3,7 +3,7 @@ ghost use Rattle.std.specs.Prelude.{◌≡◌, ℕ, List};
 ghost use Rattle.cloud_events.specs.declared.sent.Sent.{Sent};
 ghost use Rattle.cloud_events.specs.declared.sent.EventErr.{EventErr};
 ghost use Rattle.cloud_events.specs.declared.sent.EventErr.TheVariants.{NoMemory as no_memory};
-ghost use Rattle.cloud_events.specs.Laws.{AreNotNull, AreTexts, IsReadAs, IsSentAgain, IsSentAlike, KeepsMembers};
+ghost use Rattle.cloud_events.specs.Laws.{AreTexts, IsReadAs, IsSentAgain, KeepsMembersAgain, StaysAgain};
 ghost use Rattle.cloud_events.specs.Wrapped.{IsRefused, IsWrapped};
 
 /// A body that becomes an event has no cause of refusal, so that `wrap` refuses exactly what it has to.
@@ -27,11 +27,11 @@ pub fn a_body_becomes_one_event()
 /// as absent; beside those it has only the trace fields that it lacked.
 pub fn an_event_is_accepted_again()
     ensures accepted { (sent again : Sent) (id event : List ℕ) (now : ℕ) (error : EventErr) → IsSentAgain sent again id now event → IsRefused again error → error ≡ no_memory }
-    ensures kept { (sent again : Sent) (id next event other : List ℕ) (now later : ℕ) (one : IsSentAgain sent again id now event) (two : IsWrapped again next later other) → KeepsMembers again one.wrapped.event_is.members two.event_is.members }
+    ensures kept { (sent again : Sent) (id next event other : List ℕ) (now later : ℕ) → KeepsMembersAgain sent again id next event other now later }
 {}
 
 /// An event that is sent again to the same topic, with no trace field that was not there, becomes the same bytes, unless a member
 /// is null.
 pub fn an_event_sent_again_stays()
-    ensures { (sent again : Sent) (id next event other : List ℕ) (now later : ℕ) (one : IsSentAgain sent again id now event) → IsWrapped again next later other → IsSentAlike again sent → AreNotNull one.wrapped.event_is.members → other ≡ event }
+    ensures { (sent again : Sent) (id next event other : List ℕ) (now later : ℕ) → StaysAgain sent again id next event other now later }
 {}
