@@ -25,8 +25,8 @@ impl Present {
     ghost use Rattle.side_base.specs.declared.moment.TheConstants.{MOMENT_LIMIT};
     ghost use Rattle.retry_core.specs.BreakerPolicy.{IsWithinLimit};
     ghost use Rattle.breaker_core.specs.declared.command.BreakerCmd.TheVariants.{Admit, Report};
-    ghost use Rattle.breaker_core.specs.Course.{Generation, Step, begun, over_in, phase_after, found, counts_of, is_good, says_good, led_to, added, reply_in};
-    ghost use Rattle.breaker_core.specs.Present.{shown, shown_of, HasAtMost, IsSmall, WithReport};
+    ghost use Rattle.breaker_core.specs.Course.{Generation, begun, over_in, phase_after, found, reply_in};
+    ghost use Rattle.breaker_core.specs.Present.{shown, shown_of, HasAtMost, IsSmall, WithReport, IsReported, IsLedTo};
 
     /// A generation that begins at `start`.
     pub(crate) fn begun(generation: u64, phase: Phase, start: u64) -> Self
@@ -149,7 +149,7 @@ impl Present {
         requires moment { now < MOMENT_LIMIT }
         ensures few { (most : ℕ) → HasAtMost most now self → HasAtMost (most + 1) now result.1 }
         ensures reply { (g : Generation) (gs : List Generation) (moment : ℕ) → self ≡ shown g (length gs) → result.0 ≡ reply_in policy.now g.phase g.entries (length gs) (Report generation moment good) }
-        ensures after { (g : Generation) (gs : List Generation) (seat moment : ℕ) → self ≡ shown g (length gs) → Some result.1 ≡ shown_of (added policy.now now (record { seat = seat; cmd = Report generation moment good; reply = result.0; mark = 0 }) (g ∷ gs)) }
+        ensures after { IsReported policy.now now generation good self result }
     {
         if generation != self.generation {
             let stale = BreakerReply::Stale {
@@ -188,7 +188,7 @@ impl Present {
     fn led_to(&self, policy: &BreakerPolicy, now: u64, good: bool) -> Option<Phase>
         requires policy { IsWithinLimit policy.now }
         requires moment { now < MOMENT_LIMIT }
-        ensures { (entries : List Step) (entry : Step) → self.now.counts ≡ counts_of entries → self.now.good ≡ count_by is_good entries → entry.reply ≡ BreakerReply.Counted → says_good entry.cmd ≡ good → result ≡ led_to policy.now now self.now.phase entries entry }
+        ensures { IsLedTo policy.now now good self.now result }
     {
         let opened = Phase::Open {
             until: now + policy.timeout_ms,

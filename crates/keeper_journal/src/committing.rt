@@ -18,7 +18,7 @@ impl<D: Disk> Keeper for JournalKeeper<D> {
     ghost use Rattle.disk_journal.specs.Moments.{AtEachMoment};
     ghost use Rattle.keeper_journal.specs.History.{IsWithOneAtMost};
     ghost use Rattle.keeper_journal.specs.JournalKeeper.{rows_in, next_in, journal_in, disk_in, size_in, limit_in, size_with};
-    ghost use Rattle.keeper_journal.specs.Kept.{Kept, IsUndone};
+    ghost use Rattle.keeper_journal.specs.Kept.{Kept, IsUndone, IsTooLong};
     ghost use Rattle.keeper_journal.specs.Run.{Leads, leads_on};
 
     ghost rows = { rows_in };
@@ -72,7 +72,7 @@ impl<D: Disk> Keeper for JournalKeeper<D> {
 
         // A commit that is too long is refused, and no other is. A torn journal is repaired first; where it is not torn, nothing changes.
         ensures full { (len : ℕ) → result ≡ Err (KeepErr.Full len) → (len ≡ size_with (size_in self.old) changes.list) × (limit_in self.old < len) }
-        ensures too_long { limit_in self.old < size_with (size_in self.old) changes.list → (result ≡ Err (KeepErr.Full (size_with (size_in self.old) changes.list))) ⊎ ((result ≡ Err KeepErr.Failed) × (torn_of (journal_in self.old) ≡ true)) }
+        ensures too_long { limit_in self.old < size_with (size_in self.old) changes.list → IsTooLong (torn_of (journal_in self.old)) (size_with (size_in self.old) changes.list) result }
         ensures repaired { (len : ℕ) → result ≡ Err (KeepErr.Full len) → (commits : List Changes) (doubt : Option Changes) → Kept D.Disk self.old commits doubt → Kept D.Disk self.new commits None }
         ensures mended { (len : ℕ) → result ≡ Err (KeepErr.Full len) → torn_of (journal_in self.new) ≡ false }
         ensures refused { (len : ℕ) → result ≡ Err (KeepErr.Full len) → torn_of (journal_in self.old) ≡ false → self.new ≡ self.old }

@@ -9,10 +9,11 @@ use std::sync::{Arc, Wait};
 /// A port of 127.0.0.1 at which any number of connections wait for any number of workers.
 ///
 /// A connection, as its acceptors give it, is a stretch of a TCP connection: from a moment at which something is there to read
-/// until one at which, between two requests, nothing more is. Then it waits at the door again, and takes no worker's time. One
-/// that says nothing for 60 seconds is closed, and so is one for which a worker waits more than 30 seconds, and a millisecond for
-/// each byte, within a request: more than 100 milliseconds, and one for each 1,024 bytes, where all workers wait for such peers and
-/// something else is ready for one of them.
+/// until one at which, between two requests, nothing more is. Then it waits at the door again, and takes no worker's time. How long a
+/// peer may keep one of them is bounded ([`DoorLimits`]): one that says nothing for 60 seconds between two requests is closed, and so
+/// is one for which a worker waits more than 30 seconds, and a millisecond for each byte, within a request. Where peers hold all
+/// workers and something else is ready for one of them, these are 100 milliseconds, and one for each 1,024 bytes, and a second at
+/// most in all, also for a peer that sends without a pause.
 #[derive(Drop)]
 pub struct TcpDoor {
     door: Arc<Door>,

@@ -16,8 +16,9 @@ use Rattle.state_core.specs.declared.reply.Reply.{Reply}
 use Rattle.state_core.specs.Reply.{held}
 use Rattle.state_core.specs.Written.{stores, done_or, IsCommitted}
 use Rattle.state_core.specs.declared.batch.Batch.{Batch}
+use Rattle.state_core.specs.declared.command.Item.{Item}
 use Rattle.state_core.specs.declared.command.Op.{Op}
-use Rattle.state_core.specs.Current.{live_at, version_of}
+use Rattle.state_core.specs.Current.{live_at, version_of, is_current}
 use Rattle.state_core.specs.Write.{Write, upserts, numbered}
 use Rattle.state_core.specs.Judged.{version_in, passes, key_of, write_of, judged_in}
 
@@ -47,6 +48,11 @@ pub record IsBatch (rows : Rows) (next moment : ℕ) (writes : List Write) (batc
   pub changes : changes_of batch ≡ numbered next writes
   pub next_is : batch.next ≡ next + upserts writes
   pub versions : (key : List ℕ) → version_in rows next moment writes key ≡ unwrap_or (version_at batch key) (version_of (live_at rows moment key))
+
+-- whether an item is current for the version that its key has after any writes of which this is the batch
+abbrev pub IsPassing : Rows → ℕ → ℕ → Batch → Item → Bool → Type 0
+IsPassing rows next moment batch item passed =
+    (writes : List Write) → IsBatch rows next moment writes batch → passed ≡ is_current item.mode item.etag (version_in rows next moment writes item.key)
 
 -- one more change
 pub record HasAdded (old new : Batch) (last : Pending) : Type 0 where

@@ -4,7 +4,7 @@ ghost use Rattle.keeper_core.specs.Rows.{Rows};
 ghost use Rattle.state_core.specs.Write.{Write};
 ghost use Rattle.state_core.specs.Judged.{version_in};
 ghost use Rattle.state_core.specs.Current.{is_current};
-ghost use Rattle.state_core.specs.Batch.{IsBatch, HasAdded, HasPut, HasRemoved, JudgesNext, version_at, changes_of, last_of};
+ghost use Rattle.state_core.specs.Batch.{IsBatch, IsPassing, HasAdded, HasPut, HasRemoved, JudgesNext, version_at, changes_of, last_of};
 ghost use Rattle.state_core.specs.Pending.{change_of, key_of, version_of};
 ghost use Rattle.state_core.specs.Taken.{IsTtl};
 ghost use Rattle.state_core.specs.Current.{until_of};
@@ -166,7 +166,7 @@ fn version_in<K: Keeper>(keeper: &K, batch: &Batch<'_>, key: &str, moment: u64) 
 
 /// Whether an item is current for what its key has after the changes. That is looked up only where it decides.
 fn passes<K: Keeper>(keeper: &K, batch: &Batch<'_>, item: &Item, moment: u64) -> bool
-    ensures { (writes : List Write) → IsBatch (K.rows keeper.now) (K.next keeper.now) moment writes batch.now → result ≡ is_current item.now.mode item.now.etag (version_in (K.rows keeper.now) (K.next keeper.now) moment writes item.now.key) }
+    ensures { IsPassing (K.rows keeper.now) (K.next keeper.now) moment batch.now item.now result }
 {
     if is_current_for_all(item.mode, &item.etag) {
         return true;

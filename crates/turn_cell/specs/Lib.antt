@@ -4,3 +4,4 @@ pub mod Passes
 pub mod Play
 pub mod Rule
 pub mod Sitting
+pub mod Stepping

@@ -3,8 +3,9 @@
 /// A history is a list of entries, the oldest first, from a first object. The members of a trait's contract say what a step is,
 /// and which object stands for which history; the cell gives all threads one history of such steps.
 pub trait Object: Drop {
-    ghost use Rattle.std.specs.Prelude.{◌≡◌, ℕ, ◌+◌, ◌^◌, ◌<◌, List, [], ◌∷◌, ◌++◌, length};
+    ghost use Rattle.std.specs.Prelude.{◌≡◌, ℕ, ◌+◌, ◌^◌, ◌<◌, List, [], length};
     ghost use Rattle.turn_cell.specs.declared.entry.Entry.{Entry};
+    ghost use Rattle.turn_cell.specs.Stepping.{MakesStep};
 
     /// What a caller asks.
     type Cmd;
@@ -33,7 +34,7 @@ pub trait Object: Drop {
     fn apply(&mut self, cmd: &Self::Cmd) -> Self::Reply
         requires room { used self.old < 2 ^ 62 }
         requires ready { (first : Self) × (history : List (Entry Self.Cmd Self.Reply)) × stands first history self.old × takes first cmd.now }
-        ensures step { (first : Self) (history : List (Entry Self.Cmd Self.Reply)) (seat : ℕ) → stands first history self.old → takes first cmd.now → (let entry : Entry Self.Cmd Self.Reply = record { seat = seat; cmd = cmd.now; reply = result; mark = mark self.new } in steps first history entry × stands first (history ++ entry ∷ []) self.new) }
+        ensures step { MakesStep takes steps stands self.old self.new cmd.now result (mark self.new) }
         ensures used { used self.new ≡ used self.old + 1 };
 
     /// How many steps the object has made.
