@@ -4,10 +4,10 @@ use Rattle.side_world.specs.declared.clock.Tick.{Tick}
 use Rattle.side_world.specs.declared.clock.Tick.TheVariants as tick
 use Rattle.side_world.specs.declared.link.LinkCall.{LinkCall}
 use Rattle.turn_cell.specs.declared.entry.Entry.{Entry}
-use Rattle.actor_turns.specs.declared.command.TurnsCmd.{TurnsCmd}
-use Rattle.actor_turns.specs.declared.reply.TurnsReply.{TurnsReply}
-use Rattle.cron_bind.specs.declared.command.TicksCmd.{TicksCmd}
-use Rattle.cron_bind.specs.declared.reply.TicksReply.{TicksReply}
+use Rattle.sidecar_core.specs.declared.turns.TurnsCmd.{TurnsCmd}
+use Rattle.sidecar_core.specs.declared.turns.TurnsReply.{TurnsReply}
+use Rattle.sidecar_core.specs.declared.ticks.TicksCmd.{TicksCmd}
+use Rattle.sidecar_core.specs.declared.ticks.TicksReply.{TicksReply}
 use Rattle.state_core.specs.History.{Step as StoreStep}
 use Rattle.ledger_core.specs.Message.{Step as LedgerStep}
 use Rattle.breaker_core.specs.Course.{Step as BreakerStep}

@@ -3,6 +3,7 @@ use Rattle.std.specs.Prelude.{◌≡◌, ◌<◌, ℕ, All, Bool, true, false, L
 use Rattle.std.specs.Option.{ForSome}
 use mathlib.Core.Option.{some}
 use lib.ListN.{get_elem?}
+use Rattle.retry_core.specs.declared.policy.Bound.{Bound}
 use Rattle.resource_spec.specs.declared.component.ComponentKind.{ComponentKind}
 use Rattle.resource_spec.specs.declared.component.ComponentKind.TheVariants as kinds
 use Rattle.resource_spec.specs.Component.{Loaded, key_prefix_of, kind_name}
@@ -63,6 +64,10 @@ sub_note_of sub = record { pubsub = sub.pubsub; topic = sub.topic; dead = sub.de
 abbrev pub sub_notes_of : Config → List SubscriptionNote
 sub_notes_of config = map sub_note_of config.subs
 
+-- the breaker that is bound, if one is, is one of so many
+abbrev pub HasBreakerOf : ℕ → Bound → Type 0
+HasBreakerOf count bound = ForSome bound.breaker (λ place. place < count)
+
 -- the breaker that is bound to each of these stores is one of those of the policies
 abbrev pub HaveBreakers : Config → List Site → Type 0
-HaveBreakers config sites = All (λ site. ForSome site.bound.breaker (λ place. place < length config.policies.breakers)) sites
+HaveBreakers config sites = All (λ site. HasBreakerOf (length config.policies.breakers) site.bound) sites

@@ -1,6 +1,5 @@
-use actor_turns::{TurnsCmd, TurnsReply};
+use crate::{TicksCmd, TicksReply, TurnsCmd, TurnsReply};
 use breaker_core::{BreakerCmd, BreakerReply};
-use cron_bind::{TicksCmd, TicksReply};
 use ledger_core::{LedgerCmd, LedgerReply};
 use meta_api::{NotesCmd, NotesReply};
 use side_world::LinkCall;

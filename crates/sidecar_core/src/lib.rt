@@ -6,7 +6,8 @@
 //! - `responding` answers a request by its route: `state_request` at a store, where `storing` makes the call, and `note_request` at the book of
 //!   metadata; `refusing` has the responses that need no object. `delivering` makes deliveries, and counts them.
 //! - `desk` answers the requests of connections, and `connection` serves one.
-//! - `doing` has what is done for a request, as events, and `kinds` what the objects are, as contracts see them.
+//! - `doing` has what is done for a request, as events, and `kinds` what the objects are, as contracts see them. `turns` and `ticks` are what
+//!   the turns of actors and the ticks of cron components are asked and answer, which are objects still to come.
 #![tactic(auto)]
 
 mod closing;
@@ -28,6 +29,8 @@ mod site;
 mod starting;
 mod state_request;
 mod storing;
+mod ticks;
+mod turns;
 
 pub use config::Config;
 pub use connection::serve_connection;
@@ -41,3 +44,5 @@ pub use shared::Shared;
 pub use site::StoreSite;
 pub use starting::count_of_stores;
 pub use storing::run_store;
+pub use ticks::{TicksCmd, TicksReply};
+pub use turns::{TurnsCmd, TurnsReply};

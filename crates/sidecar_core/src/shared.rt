@@ -1,9 +1,8 @@
 ghost use Rattle.std.specs.Prelude.{◌≡◌, ◌<◌, ℕ, length};
-ghost use Rattle.std.specs.Option.{ForSome};
 ghost use mathlib.Core.Option.{some};
 ghost use lib.ListN.{get_elem?};
 ghost use Rattle.sidecar_core.specs.Site.{Site};
-ghost use Rattle.sidecar_core.specs.Sites.{sites_of, notes_of, pubsubs_of, sub_notes_of};
+ghost use Rattle.sidecar_core.specs.Sites.{sites_of, notes_of, pubsubs_of, sub_notes_of, HasBreakerOf};
 
 use crate::{Config, Objects, StoreSite};
 use api_routes::{Route, RouteErr, Routers};
@@ -31,7 +30,7 @@ pub struct Shared<K: Keeper> {
     ghost stores: { length objects.stores.items ≡ length sites.items },
     ghost ledgers: { length objects.ledgers.items ≡ length (pubsubs_of config.components) },
     ghost breakers: { length objects.breakers.items ≡ length config.policies.breakers },
-    ghost bounds: { (k : ℕ) (site : Site) → get_elem? sites.items k ≡ some site → ForSome site.bound.breaker (λ place. place < length config.policies.breakers) },
+    ghost bounds: { (k : ℕ) (site : Site) → get_elem? sites.items k ≡ some site → HasBreakerOf (length config.policies.breakers) site.bound },
 }
 
 impl<K: Keeper> Shared<K> {

@@ -9,7 +9,7 @@ ghost use Rattle.ledger_core.specs.Ledger.{plans_of};
 ghost use Rattle.breaker_core.specs.Breaker.{policy_of};
 ghost use Rattle.meta_api.specs.Notes.{pairs_of};
 ghost use Rattle.sidecar_core.specs.Plans.{plan_of, plans_in};
-ghost use Rattle.sidecar_core.specs.Sites.{HaveBreakers, is_store, is_pubsub, notes_of, note_of, pubsubs_of, site_of, sites_of, stores_of, sub_note_of, sub_notes_of};
+ghost use Rattle.sidecar_core.specs.Sites.{HasBreakerOf, HaveBreakers, is_store, is_pubsub, notes_of, note_of, pubsubs_of, site_of, sites_of, stores_of, sub_note_of, sub_notes_of};
 ghost use Rattle.sidecar_core.specs.Did.{IsPassOf, IsLone, IsSoundPass};
 ghost use Rattle.sidecar_core.specs.Pass.{cells_of, seats_of};
 ghost use Rattle.sidecar_core.specs.Started.{IsStarted, IsRoomFor};
@@ -121,7 +121,7 @@ fn add_site(
 /// A store, as requests find it.
 fn site_for(config: &Config, component: &Component) -> Result<StoreSite, NoMemory>
     ensures exact { IfOk result (λ site. site ≡ site_of config.now component.now) }
-    ensures bound { IfOk result (λ site. ForSome site.bound.breaker (λ place. place < length config.now.policies.breakers)) }
+    ensures bound { IfOk result (λ site. HasBreakerOf (length config.now.policies.breakers) site.bound) }
 {
     let name = component.name();
     let text = copied(component.key_prefix(&config.app))?;

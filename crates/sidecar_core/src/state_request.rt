@@ -1,6 +1,5 @@
 //! Requests of the state API, at the store of their name.
 ghost use Rattle.std.specs.Prelude.{◌≡◌, ◌<◌, ℕ, length, Some, Err};
-ghost use Rattle.std.specs.Option.{ForSome};
 ghost use Rattle.turn_cell.specs.declared.error.ApiErr.TheVariants as error;
 ghost use Rattle.state_core.specs.Taken.{IsTaken};
 ghost use Rattle.state_api.specs.Asked.{IsState};
@@ -11,6 +10,7 @@ ghost use Rattle.sidecar_core.specs.Pass.{DoesUncalled, cells_of, seats_of};
 ghost use Rattle.sidecar_core.specs.Exchange.{AtSite, AtStore, Called, FaultGives, store_in};
 ghost use Rattle.sidecar_core.specs.Ran.{IsShown};
 ghost use Rattle.sidecar_core.specs.Shown.{StoreShows};
+ghost use Rattle.sidecar_core.specs.Sites.{HasBreakerOf};
 
 use crate::given::given;
 use crate::kinds::ObjectKinds;
@@ -76,7 +76,7 @@ fn at_site<K: Keeper, C: Clock, R: Rng, W: Wait>(
 ) -> Result<Response, ApiErr>
     requires pass { IsPassOf (cells_of shared.now.objects) (seats_of pass.old) }
     requires place { place < length shared.now.objects.stores.items }
-    requires breaker { ForSome site.now.bound.breaker (λ k. k < length shared.now.objects.breakers.items) }
+    requires breaker { HasBreakerOf (length shared.now.objects.breakers.items) site.now.bound }
     requires state { IsState route.now }
     ensures does { DoesUncalled ⟦<Store<K> as ObjectKinds>⟧.kinds C.Clock R.stream shared.now.objects pass.old pass.new clock.old clock.new rng.old rng.new (AtSite place site.now request.now route.now) result }
     ensures shows { (count : ℕ) → result ≡ Err (error.Exhausted count) → IsShown place site.now.bound pass.new.stores.items pass.new.breakers.items count }
@@ -101,7 +101,7 @@ fn call<K: Keeper, C: Clock, R: Rng, W: Wait>(
     requires pass { IsPassOf (cells_of shared.now.objects) (seats_of pass.old) }
     requires place { place < length shared.now.objects.stores.items }
     requires limits { IsWithinLimit bound.now }
-    requires breaker { ForSome bound.now.breaker (λ k. k < length shared.now.objects.breakers.items) }
+    requires breaker { HasBreakerOf (length shared.now.objects.breakers.items) bound.now }
     requires taken { IsTaken cmd.old }
     requires cut { IsCut cmd.old }
     ensures does { DoesUncalled ⟦<Store<K> as ObjectKinds>⟧.kinds C.Clock R.stream shared.now.objects pass.old pass.new clock.old clock.new rng.old rng.new (Called place bound.now cmd.old) result }

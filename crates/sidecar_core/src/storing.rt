@@ -1,5 +1,4 @@
 ghost use Rattle.std.specs.Prelude.{◌≡◌, ◌<◌, ◌⊎◌, ℕ, length, Some, None, is_some, Err, IfOk};
-ghost use Rattle.std.specs.Option.{ForSome};
 ghost use Rattle.retry_core.specs.Bound.{IsWithinLimit};
 ghost use Rattle.turn_cell.specs.Sitting.{IsSeatOf};
 ghost use Rattle.turn_cell.specs.Passes.{EachSeated};
@@ -9,6 +8,7 @@ ghost use Rattle.state_api.specs.Moment.{IsSame};
 ghost use Rattle.state_api.specs.Ran.{Grows, IsAnswer, RunsBy};
 ghost use Rattle.sidecar_core.specs.Pass.{RunsStore};
 ghost use Rattle.sidecar_core.specs.Ran.{IsShown, StoreRan};
+ghost use Rattle.sidecar_core.specs.Sites.{HasBreakerOf};
 
 use crate::kinds::ObjectKinds;
 use crate::{Objects, Pass};
@@ -37,7 +37,7 @@ pub fn run_store<K: Keeper, C: Clock, R: Rng, W: Wait>(
 ) -> Result<Ran, ApiErr>
     requires limits { IsWithinLimit bound.now }
     requires place { place < length objects.now.stores.items }
-    requires breaker { ForSome bound.now.breaker (λ k. k < length objects.now.breakers.items) }
+    requires breaker { HasBreakerOf (length objects.now.breakers.items) bound.now }
     requires stores { EachSeated objects.now.stores.items pass.old.stores.items }
     requires breakers { EachSeated objects.now.breakers.items pass.old.breakers.items }
     requires taken { IsTaken cmd.old }

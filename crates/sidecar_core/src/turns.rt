@@ -1,3 +1,17 @@
+// The turns of actors: what the line of callers of each actor is asked, and what it answers. The line itself, an object, is not built yet.
+use side_base::Text;
+
+/// What the turns of actors are asked. A ticket is a place in the line of its actor, and is open until it is left.
+#[derive(Debug, Drop)]
+pub enum TurnsCmd {
+    /// Takes a ticket for an actor, behind all open tickets of it.
+    Join { actor: Text },
+    /// Whether it is this ticket's turn.
+    Look { ticket: u64 },
+    /// Gives a ticket back.
+    Leave { ticket: u64 },
+}
+
 /// What the turns of actors answer.
 #[derive(Clone, Copy, Debug, PartialEq, Eq)]
 pub enum TurnsReply {
