@@ -25,7 +25,7 @@ impl Present {
     ghost use Rattle.side_base.specs.declared.moment.TheConstants.{MOMENT_LIMIT};
     ghost use Rattle.retry_core.specs.BreakerPolicy.{IsWithinLimit};
     ghost use Rattle.breaker_core.specs.declared.command.BreakerCmd.TheVariants.{Admit, Report};
-    ghost use Rattle.breaker_core.specs.Course.{Generation, begun, over_in, phase_after, found, reply_in};
+    ghost use Rattle.breaker_core.specs.Course.{Generation, begun, over_in, phase_after, found, added, reply_in};
     ghost use Rattle.breaker_core.specs.Present.{shown, shown_of, HasAtMost, IsSmall, WithReport, IsReported, IsLedTo};
 
     /// A generation that begins at `start`.
