@@ -1,7 +1,7 @@
 -- Bytes in order up to a place are UTF-8 up to the last whole character before it.
 use Rattle.std.proofs.Common.{take-add, false, ◌≡◌, inl, inr, ℕ, zero, suc, ◌+◌, ◌-◌, ◌<◌, ◌≤◌, List, [], ◌∷◌, length, take, drop, get_or, slice_index, refl, sym, ap, ap₂, subst, ◌∙◌, arith, length-drop}
-use Rattle.std.proofs.lemmas.Str.{IsUtf8-from_ascii, IsUtf8-append}
-use Rattle.std.proofs.lemmas.List.{get_or-take, get_or_past, length-take-le, take-take, drop-drop}
+use Rattle.std.proofs.lemmas.Str.{IsUtf8-from_ascii, IsUtf8-append, IsUtf8-drop, IsCharBoundary-from_take}
+use Rattle.std.proofs.lemmas.List.{get_or-take, get_or_past, length-take-le, take-take, drop-drop, drop-take}
 use Rattle.std.proofs.lemmas.Simd.{get_or-chunk}
 use Rattle.std.proofs.lemmas.Bool.{cases_lt, leb-false}
 use Rattle.std.specs.Simd.Lanes.{chunk}
@@ -127,3 +127,22 @@ text_more bytes start more low high before behind =
     let rest : drop 3 (take (length bytes - (start - 3)) (drop (start - 3) bytes)) ≡ drop start bytes = ap (drop 3) (rest_is_drop bytes (start - 3)) ∙ drop-drop 3 (start - 3) bytes ∙ ap (λ n. drop n bytes) place in
     let sum : start + (more - 3) ≡ start - 3 + more = omega (arith, low, high) in
     subst (λ n. IsUtf8 (take n bytes)) sum (subst IsUtf8 (sym (take-add start (more - 3) bytes)) (IsUtf8-append (take start bytes) (take (more - 3) (drop start bytes)) before (subst (λ l. IsUtf8 (take (more - 3) l)) rest behind)))
+
+-- what follows a text within a longer one
+pub text_behind : (bytes : List ℕ) (n m : ℕ) → n + m ≤ length bytes → IsUtf8 (take n bytes) → IsUtf8 (take (n + m) bytes) → IsUtf8 (take m (drop n bytes))
+text_behind bytes n m room short long =
+    let within : n ≤ length (take (n + m) bytes) = omega (arith, length-take-le (n + m) bytes room) in
+    let front : IsUtf8 (take n (take (n + m) bytes)) = subst IsUtf8 (sym (take-take n (n + m) bytes (omega arith))) short in
+    subst IsUtf8 (drop-take n m bytes) (IsUtf8-drop (take (n + m) bytes) n long (IsCharBoundary-from_take (take (n + m) bytes) n long within front))
+
+-- where at most m bytes behind a text of n bytes are a text, no front of more than n + m bytes is one
+pub longest_behind : (bytes : List ℕ) (n m : ℕ) → n ≤ length bytes → IsUtf8 (take n bytes) → ((j : ℕ) → j ≤ length (drop n bytes) → IsUtf8 (take j (drop n bytes)) → j ≤ m) → (k : ℕ) → k ≤ length bytes → IsUtf8 (take k bytes) → k ≤ n + m
+longest_behind bytes n m room short most k within long = elim (cases_lt n k) [
+  | inl more ↦ (
+      let j = k - n in
+      let sum : n + j ≡ k = omega (arith, more) in
+      let behind : IsUtf8 (take j (drop n bytes)) = text_behind bytes n j (omega (arith, sum, within)) short (subst (λ i. IsUtf8 (take i bytes)) (sym sum) long) in
+      omega (arith, sum, most j (omega (arith, within, length-drop n bytes)) behind)
+      )
+  | inr less ↦ omega (arith, less)
+]

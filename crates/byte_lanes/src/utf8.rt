@@ -19,11 +19,12 @@ const FOUR: u8 = 0xf0;
 /// How many bytes before one tell whether it may stand there.
 const BEFORE: usize = 3;
 
-/// How many bytes in front are UTF-8 (RFC 3629, section 4); all of them where all are.
+/// The length of the longest front that is UTF-8 (RFC 3629, section 4).
 pub fn utf8_len(bytes: &[u8]) -> usize
     ensures within { result ≤ length bytes.now }
     ensures utf8 { IsUtf8 (take result bytes.now) }
     ensures all { IsUtf8 bytes.now → result ≡ length bytes.now }
+    ensures most { (k : ℕ) → k ≤ length bytes.now → IsUtf8 (take k bytes.now) → k ≤ result }
 {
     match first_above(bytes, 0) {
         Some(place) => {
@@ -150,6 +151,7 @@ fn utf8_by_chars(bytes: &[u8]) -> usize
     ensures within { result ≤ length bytes.now }
     ensures utf8 { IsUtf8 (take result bytes.now) }
     ensures all { IsUtf8 bytes.now → result ≡ length bytes.now }
+    ensures most { (k : ℕ) → k ≤ length bytes.now → IsUtf8 (take k bytes.now) → k ≤ result }
 {
     match from_utf8(bytes) {
         Ok(_) => bytes.len(),
