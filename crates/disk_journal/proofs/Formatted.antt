@@ -5,7 +5,7 @@ use Rattle.std.proofs.lemmas.List.Elements.{All-nil}
 use Rattle.side_world.specs.Disk.{overwritten}
 use Rattle.disk_journal.specs.Image.{header, end_of, IsImage}
 
-pub formatted : (old new : List ℕ) → length old ≡ 0 → new ≡ overwritten 0 (83 ∷ 73 ∷ 68 ∷ 69 ∷ 74 ∷ 78 ∷ 76 ∷ 50 ∷ 0 ∷ 0 ∷ 0 ∷ 0 ∷ 0 ∷ 0 ∷ 0 ∷ 0 ∷ 0 ∷ []) old → new ≡ header ++ 0 ∷ []
+pub formatted : (old new : List ℕ) → length old ≡ 0 → new ≡ overwritten 0 (header ++ 0 ∷ []) old → new ≡ header ++ 0 ∷ []
 unfolding header
 formatted [] new none written = written
 formatted (x ∷ old) new none written = absurd (omega (arith, none))
