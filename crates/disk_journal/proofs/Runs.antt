@@ -1,5 +1,5 @@
 -- Runs of calls on anything that holds items on a disk.
-use Rattle.std.proofs.Common.{◌≡◌, inl, inr, ℕ, suc, List, [], ◌∷◌, ◌++◌, take, Option, Some, None, Result, Ok, Err, OnOk, OnErr, refl, sym, subst, arith, append_assoc}
+use Rattle.std.proofs.Common.{◌≡◌, inl, inr, ℕ, suc, List, [], ◌∷◌, ◌++◌, take, Option, Some, None, Result, Ok, Err, OnOk, OnErr, sym, subst, arith, append_assoc}
 use Rattle.std.proofs.lemmas.List.{append-nil}
 use Rattle.side_world.specs.declared.disk.Disk.{Ghosts}
 use Rattle.disk_journal.specs.AnyRun.{item_of, acknowledged, OfRun, HoldsAsBefore, IsCall, Leads, IsLeftByRun, LeavesWhatWasMade}
@@ -68,8 +68,11 @@ module _ {D S X : Type 0} (disking : Ghosts D) (disk : S → D) (Holds : S → L
     moments : (items : List X) (doubt : Option X) → Holds old items doubt → AtEachMoment disking (disk old) (disk new) (Most items)
     moments items doubt holds = weaker disking (disk old) (disk new) (λ bytes. WithOneAtMost (Says bytes) items doubt item) (Most items) (λ bytes. at_most_one (Says bytes) items doubt item) (any_moment items doubt holds)
 
+    pub made_call : ((items : List X) (doubt : Option X) → Holds old items doubt → Holds new (items ++ item ∷ []) None) → IsCall disking disk Holds Says old new (Some item)
+    made_call made = record { holds = λ items doubt holds. (None, made items doubt holds); moments = moments }
+
     pub acknowledged_call : {R E : Type 0} (result : Result R E) → ((items : List X) (doubt : Option X) → Holds old items doubt → OnOk result (Holds new (items ++ item ∷ []) None)) → OnOk result (IsCall disking disk Holds Says old new (Some item))
-    acknowledged_call (Ok x) made = record { holds = λ items doubt holds. (None, made items doubt holds); moments = moments }
+    acknowledged_call (Ok x) made = made_call made
     acknowledged_call (Err e) made = tt
 
     pub undone_call : ((items : List X) (doubt : Option X) → Holds old items doubt → HoldsAsBefore Holds new items doubt item) → IsCall disking disk Holds Says old new None
@@ -84,10 +87,6 @@ module _ {D S X : Type 0} (disking : Ghosts D) (disk : S → D) (Holds : S → L
     pub refused_call : {R E : Type 0} (result : Result R E) → ((items : List X) (doubt : Option X) → Holds old items doubt → OnErr result (HoldsAsBefore Holds new items doubt item)) → OnErr result (IsCall disking disk Holds Says old new None)
     refused_call (Ok x) undone = tt
     refused_call (Err e) undone = undone_call undone
-
-  -- a call that leads from one state to another
-  pub led : (old new : S) (answer : Option X) → IsCall disking disk Holds Says old new answer → Leads disking disk Holds Says old (answer ∷ []) new
-  led old new answer call = (new, call, refl)
 
   -- what is held behind some calls
   pub held_behind : (first last : S) (answers : List (Option X)) (items : List X) (doubt : Option X) → Leads disking disk Holds Says first answers last → Holds first items doubt → (then : Option X) × Holds last (items ++ acknowledged answers) then

@@ -1,4 +1,4 @@
--- Some items, and at most one more of which a crash may leave something or nothing.
+-- What is so of some items, or of them and at most one more.
 use Rattle.std.specs.Prelude.{◌⊎◌, ◌≤◌, List, [], ◌∷◌, ◌++◌, length, Option, Some, None}
 
 module _ {X : Type 0} where

@@ -1,8 +1,8 @@
-use Rattle.std.proofs.Common.{◌≡◌, ◌⊎◌, inl, inr, ◌<◌, ◌^◌, ℕ, Some, None, Ok, refl, sym, ap, ◌∙◌, subst}
+use Rattle.std.proofs.Common.{◌≡◌, ◌⊎◌, inl, inr, ◌<◌, ◌^◌, ℕ, Some, None, refl, sym, ap, ◌∙◌, subst}
 use Rattle.keeper_core.specs.Rows.{IsCounted}
 use Rattle.keeper_core.specs.Changes.{after_changes, VersionsAreBelow}
 use Rattle.disk_journal.proofs.Crashes.{started, weaker}
-use Rattle.disk_journal.proofs.Runs.{acknowledged_call, undone_call}
+use Rattle.disk_journal.proofs.Runs.{made_call, undone_call}
 use Rattle.keeper_journal.specs.Body.{IsBodyOf}
 use Rattle.keeper_journal.specs.History.{IsHistory, IsWithOneAtMost}
 use Rattle.keeper_journal.specs.JournalKeeper.{disk_in}
@@ -120,7 +120,7 @@ returns-clause-any_moment g c = λ commits doubt kept.
 
 pub returns-in-Ok-store-clause-leads : goal.returns-in-Ok-store-clause-leads
 returns-in-Ok-store-clause-leads g c =
-    (_, acknowledged_call g.D.Disk disk_in (Kept g.D.Disk) IsHistory _ _ c.args.changes (returns-in-Ok-store-clause-any_moment g c) {R = Unit {0}} {E = Unit {0}} (Ok tt) (returns-in-Ok-store-clause-kept g c), refl)
+    (_, made_call g.D.Disk disk_in (Kept g.D.Disk) IsHistory _ _ c.args.changes (returns-in-Ok-store-clause-any_moment g c) (returns-in-Ok-store-clause-kept g c), refl)
 
 pub returns-clause-leads_nowhere : goal.returns-clause-leads_nowhere
 returns-clause-leads_nowhere g c =
