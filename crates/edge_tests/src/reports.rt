@@ -1,4 +1,4 @@
-use crate::scene::{Given, Scene, connect, next_of, piece_of};
+use crate::scene::{Given, Scene, connect, next_of, piece_of, serve_to_the_end};
 use net_edge::{DoorLimits, TcpAcceptor, TcpDoor};
 use side_world::{Accepted, Acceptor, Sink, Source};
 use std::io::{self, Write};
@@ -62,15 +62,6 @@ fn what_comes_while_a_worker_serves_is_not_lost(rt: HostRuntime) -> Result<(), F
     assert_eq!(rt; next_of(&mut other), Given::Conn(7));
     assert_eq!(rt; piece_of(&mut client)?, 6);
     Ok(())
-}
-
-/// Serves until the door is shut.
-fn serve_to_the_end<R: Wait + AllocGlobal>(worker: &mut TcpAcceptor<R>) {
-    for _ in 0..100_000u32 {
-        if matches!(next_of(worker), Given::Closed | Given::Failed) {
-            return;
-        }
-    }
 }
 
 /// How many bytes a client is answered to a request in two halves and then to two more, at a door that is shut afterwards.

@@ -90,6 +90,15 @@ pub(crate) fn next_of<R: Wait + AllocGlobal>(acceptor: &mut TcpAcceptor<R>) -> G
     }
 }
 
+/// Serves until the door is shut.
+pub(crate) fn serve_to_the_end<R: Wait + AllocGlobal>(worker: &mut TcpAcceptor<R>) {
+    for _ in 0..100_000u32 {
+        if matches!(next_of(worker), Given::Closed | Given::Failed) {
+            return;
+        }
+    }
+}
+
 /// What an acceptor gives after all its waits for nothing.
 fn next_but_idle<R: Wait + AllocGlobal>(acceptor: &mut TcpAcceptor<R>) -> Given {
     for _ in 0..ASKED {

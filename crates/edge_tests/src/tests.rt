@@ -1,4 +1,4 @@
-use crate::scene::{Given, Scene, connect, next_of, piece_of};
+use crate::scene::{Given, Scene, connect, next_of, piece_of, serve_to_the_end};
 use net_edge::{DoorLimits, TcpAcceptor, TcpDoor};
 use side_world::Acceptor;
 use std::io::{self, Write};
@@ -6,7 +6,7 @@ use std::net::{Net, TcpListener, TcpStream};
 use std::process::Abort;
 use std::sync::Wait;
 use std::test::Fail;
-use std::thread::{for_each_mut, join, sleep};
+use std::thread::{Threads, for_each_mut, join, sleep};
 use std::time::{Clock, Duration};
 
 /// Limits of a door that is soon out of patience.
@@ -108,15 +108,6 @@ fn there_are_more_connections_than_places(rt: HostRuntime) -> Result<(), Fail> {
     Ok(())
 }
 
-/// Serves until the door is shut.
-fn serve_to_the_end<R: Wait + AllocGlobal>(worker: &mut TcpAcceptor<R>) {
-    for _ in 0..100_000u32 {
-        if matches!(next_of(worker), Given::Closed | Given::Failed) {
-            return;
-        }
-    }
-}
-
 /// Connects so many clients, each of which sends half a request.
 fn send_halves<R: Net<Listener = TcpListener, Stream = TcpStream> + AllocGlobal>(
     rt: &R,
@@ -201,18 +192,44 @@ fn answered_beside_floods<R: Net<Listener = TcpListener, Stream = TcpStream> + C
     piece_of(&mut whole)
 }
 
-/// Clients that hold workers, beside which one more is answered.
-#[derive(Clone, Copy)]
-enum Slow {
-    /// So many that have sent half a request.
-    Halves(u32),
-    /// Four that go on sending.
-    Drips,
-    /// Four that send as much as is taken.
-    Floods,
+/// How many bytes four clients are answered in all that send as much as is taken for two seconds, and then the end of a request each.
+fn answered_after_floods<R: Net<Listener = TcpListener, Stream = TcpStream> + Clock + AllocGlobal>(
+    rt: &R,
+    port: u16,
+) -> io::Result<usize> {
+    let mut floods = send_halves(rt, port, 4)?;
+    for flooding in floods.iter_mut() {
+        flooding.set_nonblocking(true)?;
+    }
+    for _ in 0..2_000u32 {
+        for flooding in floods.iter_mut() {
+            flood(flooding, 200);
+        }
+        sleep(rt, Duration::from_millis(1));
+    }
+    let mut all = 0usize;
+    for flooding in floods.iter_mut() {
+        flooding.set_nonblocking(false)?;
+        flooding.write_all(b"rest.")?;
+        all = all.saturating_add(piece_of(flooding)?);
+    }
+    Ok(all)
 }
 
-/// How many bytes one client more is answered beside slow ones at a door that is shut afterwards.
+/// Clients that hold workers.
+#[derive(Clone, Copy)]
+enum Slow {
+    /// So many that have sent half a request, beside one more.
+    Halves(u32),
+    /// Four that go on sending, beside one more.
+    Drips,
+    /// Four that send as much as is taken, beside one more.
+    Floods,
+    /// The same, and nobody else.
+    FloodsAlone,
+}
+
+/// How many bytes the one client more is answered, or those where there is none, at a door that is shut afterwards.
 fn answered_at<R: Net<Listener = TcpListener, Stream = TcpStream> + Clock + AllocGlobal>(
     rt: &R,
     door: &TcpDoor,
@@ -223,13 +240,24 @@ fn answered_at<R: Net<Listener = TcpListener, Stream = TcpStream> + Clock + Allo
         Slow::Halves(count) => answered_beside_halves(rt, port, count),
         Slow::Drips => answered_beside_drips(rt, port),
         Slow::Floods => answered_beside_floods(rt, port),
+        Slow::FloodsAlone => answered_after_floods(rt, port),
     };
     door.shut();
     answered
 }
 
-#[test]
-fn four_half_requests_leave_a_worker_to_a_fifth_client(rt: HostRuntime) -> Result<(), Fail> {
+/// The same at a door of the program's limits that four workers serve.
+fn answered_by_four<
+    R: Threads
+        + Net<Listener = TcpListener, Stream = TcpStream>
+        + Clock
+        + Wait
+        + AllocGlobal
+        + Copy
+        + Drop
+        + Send
+        + Sync,
+>(rt: R, slow: Slow) -> io::Result<usize> {
     let door = TcpDoor::open(&rt, 0)?;
     let port = door.port()?;
     let mut workers = Vec::new(rt.alloc());
@@ -239,43 +267,26 @@ fn four_half_requests_leave_a_worker_to_a_fifth_client(rt: HostRuntime) -> Resul
     let (_, answered) = join(
         &rt,
         || for_each_mut(&rt, &mut workers, 4, &|_, worker| serve_to_the_end(worker)),
-        || answered_at(&rt, &door, port, Slow::Halves(4)),
+        || answered_at(&rt, &door, port, slow),
     );
-    assert_eq!(rt; answered?, 6);
+    answered
+}
+
+#[test]
+fn four_half_requests_leave_a_worker_to_a_fifth_client(rt: HostRuntime) -> Result<(), Fail> {
+    assert_eq!(rt; answered_by_four(rt, Slow::Halves(4))?, 6);
     Ok(())
 }
 
 #[test]
 fn sixty_half_requests_leave_a_worker_to_another_client(rt: HostRuntime) -> Result<(), Fail> {
-    let door = TcpDoor::open(&rt, 0)?;
-    let port = door.port()?;
-    let mut workers = Vec::new(rt.alloc());
-    for _ in 0..4u32 {
-        workers.push(door.acceptor(rt)?)?;
-    }
-    let (_, answered) = join(
-        &rt,
-        || for_each_mut(&rt, &mut workers, 4, &|_, worker| serve_to_the_end(worker)),
-        || answered_at(&rt, &door, port, Slow::Halves(60)),
-    );
-    assert_eq!(rt; answered?, 6);
+    assert_eq!(rt; answered_by_four(rt, Slow::Halves(60))?, 6);
     Ok(())
 }
 
 #[test]
 fn four_slow_requests_leave_a_worker_to_a_fifth_client(rt: HostRuntime) -> Result<(), Fail> {
-    let door = TcpDoor::open(&rt, 0)?;
-    let port = door.port()?;
-    let mut workers = Vec::new(rt.alloc());
-    for _ in 0..4u32 {
-        workers.push(door.acceptor(rt)?)?;
-    }
-    let (_, answered) = join(
-        &rt,
-        || for_each_mut(&rt, &mut workers, 4, &|_, worker| serve_to_the_end(worker)),
-        || answered_at(&rt, &door, port, Slow::Drips),
-    );
-    assert_eq!(rt; answered?, 6);
+    assert_eq!(rt; answered_by_four(rt, Slow::Drips)?, 6);
     Ok(())
 }
 
@@ -283,18 +294,35 @@ fn four_slow_requests_leave_a_worker_to_a_fifth_client(rt: HostRuntime) -> Resul
 fn four_requests_without_an_end_leave_a_worker_to_a_fifth_client(
     rt: HostRuntime,
 ) -> Result<(), Fail> {
-    let door = TcpDoor::open(&rt, 0)?;
-    let port = door.port()?;
-    let mut workers = Vec::new(rt.alloc());
-    for _ in 0..4u32 {
-        workers.push(door.acceptor(rt)?)?;
-    }
-    let (_, answered) = join(
-        &rt,
-        || for_each_mut(&rt, &mut workers, 4, &|_, worker| serve_to_the_end(worker)),
-        || answered_at(&rt, &door, port, Slow::Floods),
-    );
-    assert_eq!(rt; answered?, 6);
+    assert_eq!(rt; answered_by_four(rt, Slow::Floods)?, 6);
+    Ok(())
+}
+
+#[test]
+fn steady_senders_keep_their_workers_where_nobody_else_wants_one(
+    rt: HostRuntime,
+) -> Result<(), Fail> {
+    assert_eq!(rt; answered_by_four(rt, Slow::FloodsAlone)?, 24);
+    Ok(())
+}
+
+#[test]
+fn half_a_request_does_not_hold_up_other_work_that_was_heard_of(
+    rt: HostRuntime,
+) -> Result<(), Fail> {
+    let limits = DoorLimits {
+        patience_ms: 600_000,
+        ..short()
+    };
+    let door = TcpDoor::open_within(&rt, 0, limits)?;
+    let mut worker = door.acceptor(rt)?;
+    let halves = send_halves(&rt, door.port()?, 1)?;
+    worker.wake();
+    assert_eq!(rt; next_of(&mut worker), Given::Idle);
+    worker.wake();
+    assert_eq!(rt; next_of(&mut worker), Given::Conn(4));
+    assert_eq!(rt; next_of(&mut worker), Given::Idle);
+    drop(halves);
     Ok(())
 }
 

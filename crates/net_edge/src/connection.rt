@@ -10,7 +10,8 @@ use std::os::fd::AsRawFd;
 /// How often a peer is looked for within one read or write.
 const LOOKS: u32 = 100_000;
 
-/// How many pieces of unread input are read before a connection is closed, so that the peer gets the last response and no reset.
+/// How many pieces of unread input are read before a connection is closed, so that the peer gets the last response and no reset. One
+/// of which more is there at that moment than these 65,536 bytes, or that sends more afterwards, may get the reset first.
 const PIECES_DROPPED: u32 = 16;
 
 /// Reads what is there; `None` where nothing is yet. No bytes are the end of the input.

@@ -81,7 +81,8 @@ enum Admission {
 }
 
 impl Door {
-    ghost use Rattle.std.specs.Prelude.{◌≡◌, IfOk};
+    ghost use Rattle.std.specs.Prelude.{◌≡◌, ◌≤◌, ◌↔◌, ◌⊎◌, min, pos, true, IfOk};
+    ghost use Rattle.net_edge.specs.Patience.{left_alone, left_while_pressed};
 
     /// A door at this port of 127.0.0.1.
     pub(crate) fn open<R: Net<Listener = TcpListener, Stream = TcpStream> + AllocGlobal>(
@@ -93,6 +94,7 @@ impl Door {
     {
         let listener = TcpListener::bind(rt, SocketAddrV4::new(Ipv4Addr::LOCALHOST, port))?;
         listener.set_nonblocking(true)?;
+        // Where it fails, as many may wait as std lets wait.
         libc::net::listen(listener.as_raw_fd(), BACKLOG);
         let set = ReadySet::new()?;
         let bell = Bell::new()?;
@@ -290,18 +292,27 @@ impl Door {
     }
 
     /// Whether a peer that has sent within requests for so many milliseconds counts among those that hold a worker.
-    pub(crate) fn is_long(&self, ms: u64) -> bool {
+    pub(crate) fn is_long(&self, ms: u64) -> bool
+        ensures { result ≡ true ↔ self.now.limits.pressed_ms ≤ ms }
+    {
         ms >= self.limits.pressed_ms
     }
 
     /// Whether a peer that has sent within requests for so many milliseconds has to leave its worker to others now.
-    pub(crate) fn is_too_long(&self, ms: u64) -> bool {
+    pub(crate) fn is_too_long(&self, ms: u64) -> bool
+        ensures { result ≡ true → self.now.limits.held_ms ≤ ms }
+    {
         ms >= self.limits.held_ms && self.is_pressed()
     }
 
-    /// The peer of the worker with this bit has sent for long.
-    pub(crate) fn begin_hold(&self, worker: u64) {
-        self.held.fetch_or(worker, Ordering::SeqCst);
+    /// The peer of the worker with this bit has sent for long, and its connection is no longer reported, so that what it sends
+    /// wants no other worker: `false` where that wasn't done, and the peer doesn't count yet.
+    pub(crate) fn begin_hold(&self, worker: u64, stream: &TcpStream) -> bool {
+        let is_mute = self.places.mute(&self.set, stream.as_raw_fd());
+        if is_mute {
+            self.held.fetch_or(worker, Ordering::SeqCst);
+        }
+        is_mute
     }
 
     /// It no longer holds the worker.
@@ -310,16 +321,10 @@ impl Door {
     }
 
     /// For how many milliseconds a peer may be waited for before another look; 0 where its time is over.
-    pub(crate) fn patience(&self, pace: &Pace) -> i32 {
-        let limits = &self.limits;
-        let left = if self.is_pressed() {
-            limits
-                .pressed_ms
-                .saturating_sub(pace.owed_while_pressed())
-                .min(limits.held_ms.saturating_sub(pace.waited()))
-        } else {
-            limits.patience_ms.saturating_sub(pace.owed())
-        };
+    pub(crate) fn patience(&self, pace: &Pace) -> i32
+        ensures { (result ≡ pos (min (left_while_pressed self.now.limits pace.now) 50)) ⊎ (result ≡ pos (min (left_alone self.now.limits pace.now) 50)) }
+    {
+        let left = self.limits.left(pace, self.is_pressed());
         left.min(LOOK_MS as u64) as i32
     }
 
@@ -329,6 +334,12 @@ impl Door {
             return true;
         }
         let taken = self.waiting.load(Ordering::SeqCst) | self.held.load(Ordering::SeqCst);
-        u64::from(taken.count_ones()) >= self.workers.load(Ordering::SeqCst) && self.set.has_ready()
+        u64::from(taken.count_ones()) >= self.workers.load(Ordering::SeqCst) && self.is_wanted()
+    }
+
+    /// Whether something wants a worker: other work, of which the bell may tell no longer, or what the set has ready. Where a pause
+    /// of accepting is over and no worker has looked since, those who wait to connect are among that only from now on.
+    fn is_wanted(&self) -> bool {
+        self.has_other_work.load(Ordering::SeqCst) || self.resume().is_err() || self.set.has_ready()
     }
 }

@@ -1,3 +1,6 @@
+ghost use Rattle.std.specs.Prelude.{◌≤◌};
+
+use crate::pace::Pace;
 use libc::types::rlimit;
 use libc::{RLIMIT_NOFILE, getrlimit};
 
@@ -16,19 +19,24 @@ pub struct DoorLimits {
     pub idle_ms: u64,
     /// The same where there is no room for a new one.
     pub crowded_ms: u64,
-    /// A worker waits so long for the rest of a request, and so long for a peer that doesn't read.
+    /// In one stretch a worker waits so long for the rest of requests, and so long for a peer that doesn't read; each byte that comes
+    /// then, or is taken, gives a millisecond of that back.
     pub patience_ms: u64,
-    /// The same where peers hold all workers, and another connection, or other work, wants one of them, and where all workers end.
+    /// The same where peers hold all workers, and another connection, or other work, wants one of them, and where all workers end;
+    /// there it takes 1,024 bytes to give one back.
     pub pressed_ms: u64,
-    /// The most of a worker's time that a peer then has without a moment between two requests, whatever it sends or takes.
+    /// The most of a worker's time that a peer then has for what it sends without a moment between two requests, and once more for
+    /// what it takes, whatever its bytes are worth. The answers to what one read asked for come on top.
     pub held_ms: u64,
 }
 
 impl DoorLimits {
-    ghost use Rattle.std.specs.Prelude.{◌≡◌};
+    ghost use Rattle.std.specs.Prelude.{◌≡◌, ◌≤◌, true, false};
+    ghost use Rattle.net_edge.specs.Patience.{left_alone, left_while_pressed};
 
     /// The limits of the program.
     pub fn standard() -> Self
+        ensures places { result.places ≤ 16384 }
         ensures idle { result.idle_ms ≡ 60000 }
         ensures crowded { result.crowded_ms ≡ 1000 }
         ensures patience { result.patience_ms ≡ 30000 }
@@ -44,10 +52,26 @@ impl DoorLimits {
             held_ms: 1_000,
         }
     }
+
+    /// For how many milliseconds more a peer of this pace is waited for, where something else wants its worker and where not.
+    pub(crate) fn left(&self, pace: &Pace, is_pressed: bool) -> u64
+        ensures pressed { is_pressed ≡ true → result ≡ left_while_pressed self.now pace.now }
+        ensures alone { is_pressed ≡ false → result ≡ left_alone self.now pace.now }
+    {
+        if is_pressed {
+            self.pressed_ms
+                .saturating_sub(pace.owed_while_pressed())
+                .min(self.held_ms.saturating_sub(pace.waited()))
+        } else {
+            self.patience_ms.saturating_sub(pace.owed())
+        }
+    }
 }
 
 /// As many places as the process may have descriptors, but for some.
-fn places() -> usize {
+fn places() -> usize
+    ensures { result ≤ 16384 }
+{
     let mut limit = rlimit {
         rlim_cur: 0,
         rlim_max: 0,

@@ -94,17 +94,17 @@ impl Places {
         place.stream = Some(stream);
     }
 
-    /// Has a connection that is served no longer reported, until it is put back. A place at which another works is passed over.
-    pub(crate) fn mute(&self, set: &ReadySet, fd: RawFd) {
+    /// Has a connection that is served no longer reported, until it is put back: `false` where that wasn't done, since another
+    /// works at its place.
+    pub(crate) fn mute(&self, set: &ReadySet, fd: RawFd) -> bool {
         let Some(at) = place_of(fd, self.places.len()) else {
-            return;
+            return false;
         };
         if let Some(mut place) = self.places[at as usize].try_lock() {
             place.was_missed = true;
-            if set.arm(fd, number_of(place.turn, at), When::Never).is_err() {
-                return;
-            }
+            return set.arm(fd, number_of(place.turn, at), When::Never).is_ok();
         }
+        false
     }
 
     /// The connection that a report of the set speaks of, which is no longer at its place. A report of an earlier connection gives

@@ -3,7 +3,8 @@ use std::hash::BuildHasher;
 use std::io;
 use std::random::RandomSource;
 
-/// Numbers that nobody can predict who doesn't know the keys that the system gave: no two runs have the same.
+/// Numbers that nobody can predict who doesn't know the keys that the system gave. They are hashes of 64 bits, so that two runs have the
+/// same one only as likely as two such hashes are equal.
 #[derive(Drop)]
 pub(crate) struct StartNumbers {
     keys: RandomState,

@@ -17,8 +17,8 @@ const LOOKS: u32 = 1_000;
 /// A worker's place at a door: it gives a connection on which something is there to read, whichever worker served it last. It
 /// tells no answers.
 ///
-/// A connection whose stretch ended between two requests goes back to the door, and any other is closed. Only a door that can't
-/// be waited at any more is a fault.
+/// A connection whose stretch ended between two requests goes back to the door, unless all workers end, and any other is closed.
+/// Only a door that can't be waited at any more is a fault.
 #[derive(Drop)]
 pub struct TcpAcceptor<R> {
     rt: R,
@@ -111,6 +111,15 @@ impl<R: Wait + AllocGlobal> TcpAcceptor<R> {
         Ok(Next::Idle)
     }
 
+    /// Puts a connection back to the door. Where all workers end, it is closed, so that its peer reads the last response.
+    fn let_rest(&self, stream: Arc<TcpStream>, is_awaited: bool) {
+        if self.door.is_ending() {
+            part_with(&stream);
+        } else {
+            self.door.let_rest(&self.rt, stream, is_awaited);
+        }
+    }
+
     /// A connection, for its source and its sink.
     fn shared(
         &self,
@@ -176,7 +185,7 @@ impl<R: Wait + AllocGlobal> Acceptor for TcpAcceptor<R> {
     fn end(&mut self, source: TcpSource, sink: TcpSink) {
         let is_awaited = source.is_awaited();
         match after_stretch(source, sink, &mut self.spare) {
-            Ok(stream) => self.door.let_rest(&self.rt, stream, is_awaited),
+            Ok(stream) => self.let_rest(stream, is_awaited),
             Err(stream) => part_with(&stream),
         }
     }

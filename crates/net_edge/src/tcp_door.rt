@@ -6,14 +6,20 @@ use std::io;
 use std::net::{Net, TcpListener, TcpStream};
 use std::sync::{Arc, Wait};
 
-/// A port of 127.0.0.1 at which any number of connections wait for any number of workers.
+/// A port of 127.0.0.1 at which connections wait for up to 64 workers.
 ///
 /// A connection, as its acceptors give it, is a stretch of a TCP connection: from a moment at which something is there to read
-/// until one at which, between two requests, nothing more is. Then it waits at the door again, and takes no worker's time. How long a
-/// peer may keep one of them is bounded ([`DoorLimits`]): one that says nothing for 60 seconds between two requests is closed, and so
-/// is one for which a worker waits more than 30 seconds, and a millisecond for each byte, within a request. Where peers hold all
-/// workers and something else is ready for one of them, these are 100 milliseconds, and one for each 1,024 bytes, and a second at
-/// most in all, also for a peer that sends without a pause.
+/// until one at which, between two requests, nothing more is, or it is others' turn, after 64 reads or 100 milliseconds. Then it waits
+/// at the door again, and takes no worker's time.
+///
+/// It has as many connections as the process may have descriptors, less 64, and 16,384 at most. One that comes beyond that is closed at
+/// once, and so is what has idled for a second then; for 100 milliseconds none is accepted.
+///
+/// How long a peer may keep a worker is bounded ([`DoorLimits`]): one that says nothing for 60 seconds between two requests is closed,
+/// and so is one for which a worker has waited for 30 seconds in one stretch, of which each byte that came then gave a millisecond
+/// back. Where peers hold all workers and something else wants one of them, these are 100 milliseconds, of which 1,024 bytes give
+/// one back, and a second at most for what it sends, also without a pause, and a second for what it takes, beside the answers to what
+/// one read asked for.
 #[derive(Drop)]
 pub struct TcpDoor {
     door: Arc<Door>,

@@ -17,7 +17,8 @@ const LOOKS_AT_ONCE: u32 = 64;
 const MS_AT_ONCE: u64 = 100;
 
 /// What the peer of a connection sends in one stretch: from a moment at which something is there until one at which, between
-/// two requests, nothing more is. It tells no content.
+/// two requests, nothing more is, or it is others' turn: after 64 looks, or 100 milliseconds, or where all workers end. It tells no
+/// content.
 ///
 /// Between two requests, of which `between` tells it, a read answers 0 where nothing is there: without a look where the last read
 /// left nothing, since what comes later is reported anew. Within a request it waits, and answers 0 where it has waited too long in
@@ -151,13 +152,12 @@ impl TcpSource {
     {
         let ms = self.lasted();
         if !self.is_counted && self.door.is_long(ms) {
-            self.is_counted = true;
-            self.door.begin_hold(self.worker);
+            self.is_counted = self.door.begin_hold(self.worker, &self.stream);
         }
         self.door.is_too_long(ms)
     }
 
-    /// Whether others have their turn before it is looked at once more between two requests.
+    /// Whether others have their turn, or all workers end, before it is looked at once more between two requests.
     fn has_had_its_turn(&mut self) -> bool
         ensures is_between { self.new.is_between ≡ self.old.is_between }
         ensures does_not_rest { self.new.rests ≡ self.old.rests }
@@ -166,7 +166,8 @@ impl TcpSource {
     {
         let looks = self.looks;
         self.looks = looks.saturating_add(1);
-        looks >= LOOKS_AT_ONCE || looks > 0 && self.lasted() >= MS_AT_ONCE
+        looks >= LOOKS_AT_ONCE
+            || looks > 0 && (self.door.is_ending() || self.lasted() >= MS_AT_ONCE)
     }
 
     /// What comes next; `None` where the stretch ends between two requests.
