@@ -1,5 +1,8 @@
 //! The words of JSON (RFC 8259, sections 3, 6 and 7), byte by byte: how far a number, a string or a literal goes and what it means, the text
 //! that a string spells, and a text written as a string.
+//!
+//! - `scan` passes over one word, for readers of whole texts.
+//! - `laws` has what holds of the definitions that the contracts cite.
 #![tactic(auto)]
 
 mod copies;

@@ -2,7 +2,7 @@
 //!
 //! - `serving` is what one worker works with, `due` what it has to do next, and `working` makes a work of it; `ending` says how it goes on after a connection or a
 //!   turn.
-//! - `opening` makes the workers, `meeting` takes them back, and `server` does both around their run; `end` is how that ended.
+//! - `opening` makes the workers, `running` runs them, and `meeting` takes them back; `server` does one after the other, and `end` is how that ended.
 #![tactic(auto)]
 
 mod due;

@@ -25,7 +25,8 @@ use std::thread::Threads;
 /// Serves on a port of the outside, with one worker for each of these generators of random words, fewer than 65,535, until each worker has ended; `pass` is that of the
 /// root seats of cells that have just begun, and is alone before and afterwards.
 ///
-/// A worker ends where a shutdown was asked for, which stops all others too, where its acceptor is closed or has failed, or where a cell is exhausted.
+/// A worker ends where a shutdown was asked for, where its acceptor has failed, or where a cell is exhausted, and each of these stops all others too; and where
+/// its acceptor is closed, which stops no other.
 pub fn serve<
     K: Keeper + Send,
     O: Outside,

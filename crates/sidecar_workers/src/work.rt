@@ -63,14 +63,19 @@ pub trait Work {
     ghost use Rattle.sidecar_workers.specs.declared.work.Owed.TheVariants as owed;
     ghost use Rattle.sidecar_workers.specs.Works.{Tells, owed_after, exit_of_got, exit_of_served, exit_of_turned};
 
+    // The call that must come next.
     ghost owes: { Self → Owed };
 
+    // Whether a `serve` or a `turn` has ended the work.
     ghost is_over: { Self → Bool };
 
+    // The fact that its calls keep, from one state of the work to a later one.
     ghost keeps: { Self → Self → Type 0 };
 
+    // What holds where an answer of the work has ended its worker so.
     ghost exits: { Exit → Self → Type 0 };
 
+    // Its calls in order with their answers, where the work tells them.
     ghost calls: { Self → Option (List Call) };
 
     /// Waits for a connection, for a while.
@@ -101,7 +106,9 @@ pub trait Work {
         ensures exit { IfSome (exit_of_turned result) (λ e. exits e self.new) }
         ensures calls { Tells (calls self.old) (call.Turn result) (calls self.new) };
 
+    // The fact holds where nothing was called.
     ghost stays: { (x : Self) → keeps x x };
 
+    // The fact of calls, and that of those behind them, give the fact of all.
     ghost chains: { (x y z : Self) → keeps x y → keeps y z → keeps x z };
 }
