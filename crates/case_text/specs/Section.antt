@@ -1,5 +1,5 @@
 -- What the sections of a case say.
-use Rattle.std.specs.Prelude.{◌≡◌, ◌⊎◌, ◌^◌, ℕ, nat_lt, bytes_eq, codes, if◌then◌else◌, List, [], Option, Some, option_map, find}
+use Rattle.std.specs.Prelude.{◌≡◌, ◌⊎◌, ◌^◌, ℕ, zero, suc, nat_lt, bytes_eq, codes, if◌then◌else◌, List, [], ◌∷◌, ◌++◌, Option, option_map, unwrap_or, find}
 use Rattle.std.specs.Str.Parse.{digits_value}
 use Rattle.side_base.specs.Decimal.{digits_at}
 use Rattle.case_text.specs.Escape.{undone}
@@ -18,6 +18,29 @@ small number = if nat_lt number (2 ^ 32) then number else 0
 abbrev pub number_at : List ℕ → ℕ
 number_at text = small (digits_value 10 (digits_at text))
 
--- What the text of a section says, without the empty lines at its end; `no escape` where it says nothing or memory lacks, and nothing where memory lacks for that too
-abbrev pub IsTextOf : List ℕ → List ℕ → Type 0
-IsTextOf text said = (undone Outside (without_blank text) ≡ Some said) ⊎ (said ≡ codes "no escape") ⊎ (said ≡ [])
+-- what bytes say; `no escape` where they say nothing
+abbrev pub said_in : List ℕ → List ℕ
+said_in bytes = unwrap_or (undone Outside bytes) (codes "no escape")
+
+-- what the text of a section says, without the empty lines at its end
+abbrev pub said_of : Section → List ℕ
+said_of section = said_in (without_blank section.text.now)
+
+-- how often it stands where sections are joined: the number in the section's name, or once
+abbrev pub times_of : List ℕ → ℕ
+times_of [] = 1
+times_of (byte ∷ name) = number_at (byte ∷ name)
+
+unfoldable pub repeated : ℕ → List ℕ → List ℕ
+repeated zero text = []
+repeated (suc times) text = text ++ repeated times text
+
+-- what the sections of a word say, one behind the other
+unfoldable pub joined_of : List ℕ → List Section → List ℕ
+joined_of word [] = []
+joined_of word (section ∷ sections) =
+    (if bytes_eq section.word.now word then repeated (times_of section.name.now) (said_of section) else []) ++ joined_of word sections
+
+-- these bytes, or nothing, where memory lacks
+abbrev pub IsOrLacks : List ℕ → List ℕ → Type 0
+IsOrLacks bytes said = (said ≡ bytes) ⊎ (said ≡ [])

@@ -13,7 +13,7 @@ mod section;
 pub use escape::unescaped;
 pub use lines::Lines;
 pub use piece::{Piece, pieces, without_blank_end};
-pub use section::{Section, joined, name_in, number_in, sections, text_of};
+pub use section::{Section, joined, joined_text, name_in, number_in, said, sections, text_of};
 
 /// What the line of a case begins with.
 pub const CASE: &[u8] = b"== ";

@@ -1,6 +1,6 @@
 // The sections of a case, and what they say.
-ghost use Rattle.std.specs.Prelude.{◌≡◌, option_map};
-ghost use Rattle.case_text.specs.Section.{name_of, number_at, IsTextOf};
+ghost use Rattle.std.specs.Prelude.{◌≡◌, ◌++◌, option_map, IfOk, OnOk};
+ghost use Rattle.case_text.specs.Section.{name_of, number_at, said_in, said_of, times_of, repeated, joined_of, IsOrLacks};
 
 use crate::SECTION;
 use crate::escape::unescaped;
@@ -63,23 +63,27 @@ pub fn number_in(text: &str) -> u32
     u32::try_from(number_of(digits)).unwrap_or(0)
 }
 
-/// The text of a section without the empty lines at its end, its escapes undone. Where a backslash begins none it is `no escape`, and where
-/// memory lacks as well: such a case differs.
-pub fn text_of(alloc: Global, section: &Section<'_>) -> Blob
-    ensures { IsTextOf section.now.text.now result }
+/// What bytes say, their escapes undone; `no escape` where a backslash begins none, so that such a case differs.
+pub fn said(alloc: Global, bytes: &[u8]) -> Result<Blob, NoMemory>
+    ensures { IfOk result (λ text. text ≡ said_in bytes.now) }
 {
-    match unescaped(alloc, without_blank_end(section.text)) {
-        Ok(Some(text)) => text,
-        _ => {
-            let mut text = Blob::new(alloc);
-            let _ = text.push(b"no escape");
-            text
-        }
+    match unescaped(alloc, bytes)? {
+        Some(text) => Ok(text),
+        None => Blob::from_bytes(alloc, b"no escape"),
     }
 }
 
+/// The text of a section without the empty lines at its end, its escapes undone; nothing where memory lacks.
+pub fn text_of(alloc: Global, section: &Section<'_>) -> Blob
+    ensures { IsOrLacks (said_of section.now) result }
+{
+    said(alloc, without_blank_end(section.text)).unwrap_or(Blob::new(alloc))
+}
+
 // How often the text of a section stands: the number in its name, or once.
-fn times_of(section: &Section<'_>) -> u32 {
+fn times_of(section: &Section<'_>) -> u32
+    ensures { result ≡ times_of section.now.name.now }
+{
     if section.name.is_empty() {
         1
     } else {
@@ -87,20 +91,41 @@ fn times_of(section: &Section<'_>) -> u32 {
     }
 }
 
-fn add_times(all: &mut Blob, text: &Blob, times: u32) {
-    for _ in 0..times {
-        let _ = all.push(text.bytes());
+fn add_times(all: &mut Blob, text: &[u8], times: u32) -> Result<(), NoMemory>
+    ensures { OnOk result (all.new ≡ all.old ++ repeated times text.now) }
+{
+    let mut left = times;
+    while left > 0 {
+        all.push(text)?;
+        left -= 1;
     }
+    Ok(())
 }
 
-/// What the sections of this word say, one behind the other, each as many times as the number in its name says. A part that finds no memory
-/// is left out.
-pub fn joined(alloc: Global, sections: &[Section<'_>], word: &str) -> Blob {
+// Adds what a section says, as many times as its name says.
+fn add_section(all: &mut Blob, alloc: Global, section: &Section<'_>) -> Result<(), NoMemory>
+    ensures { OnOk result (all.new ≡ all.old ++ repeated (times_of section.now.name.now) (said_of section.now)) }
+{
+    let text = said(alloc, without_blank_end(section.text))?;
+    add_times(all, text.bytes(), times_of(section))
+}
+
+/// What the sections of this word say, one behind the other, each as many times as the number in its name says.
+pub fn joined(alloc: Global, sections: &[Section<'_>], word: &str) -> Result<Blob, NoMemory>
+    ensures { IfOk result (λ all. all ≡ joined_of word.now sections.now) }
+{
     let mut all = Blob::new(alloc);
     for section in sections {
         if section.word == word {
-            add_times(&mut all, &text_of(alloc, section), times_of(section));
+            add_section(&mut all, alloc, section)?;
         }
     }
-    all
+    Ok(all)
+}
+
+/// The same, and nothing where memory lacks.
+pub fn joined_text(alloc: Global, sections: &[Section<'_>], word: &str) -> Blob
+    ensures { IsOrLacks (joined_of word.now sections.now) result }
+{
+    joined(alloc, sections, word).unwrap_or(Blob::new(alloc))
 }

@@ -4,11 +4,11 @@ use Rattle.side_world.specs.declared.disk.Disk.{Ghosts}
 use Rattle.disk_journal.specs.Image.{IsImage, IsRecorded, IsFile, IsWithOrWithout}
 use Rattle.disk_journal.specs.Moments.{Shows, AtEachMoment}
 use Rattle.disk_journal.specs.Staging.{HasBegun, IsInDoubt}
-use Rattle.disk_journal.proofs.Crashes.{started, joined, weaker, shows_weaker}
+use Rattle.disk_journal.proofs.Crashes.{IsNow, started, joined, weaker, shows_weaker}
 use Rattle.disk_journal.proofs.Images.{without, with_one, with_or_without}
 
 module _ {D : Type 0} (disking : Ghosts D) (bodies : List (List ℕ)) (body : List ℕ) where
-  pub refused_moments : (disk : D) → ((c : List ℕ) → disking.left_since disk (disking.moment disk) c → disking.leaves disk c) → Shows disking disk (IsFile bodies None) → AtEachMoment disking disk disk (IsWithOrWithout bodies body)
+  pub refused_moments : (disk : D) → IsNow disking disk → Shows disking disk (IsFile bodies None) → AtEachMoment disking disk disk (IsWithOrWithout bodies body)
   refused_moments disk only_now shows = started disking disk (IsWithOrWithout bodies body) only_now (λ bytes c is left. inl (shows.left bytes c is left))
 
   pub stage_moments : (old new : D) (begun : List ℕ) → HasBegun disking old new bodies begun → AtEachMoment disking old new (IsWithOrWithout bodies body)

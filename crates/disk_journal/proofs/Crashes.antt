@@ -10,8 +10,15 @@ told_before None now x untold is = absurd (cc (untold refl, is))
 told_before (Some y) now x untold is = (y, refl)
 
 module _ {D : Type 0} (disking : Ghosts D) where
+  -- since this moment there is no other
+  abbrev pub IsNow : D → Type 0
+  IsNow disk = (c : List ℕ) → disking.left_since disk (disking.moment disk) c → disking.leaves disk c
+
+  abbrev pub OnlyNow : Type 0
+  OnlyNow = (disk : D) → IsNow disk
+
   -- before the first call
-  pub started : (old : D) (P : List ℕ → Type 0) → ((c : List ℕ) → disking.left_since old (disking.moment old) c → disking.leaves old c) → Leaves disking old P → AtEachMoment disking old old P
+  pub started : (old : D) (P : List ℕ → Type 0) → IsNow old → Leaves disking old P → AtEachMoment disking old old P
   started old P only_now left = record {
     later = omega arith;
     told = λ bytes is. (bytes, is);

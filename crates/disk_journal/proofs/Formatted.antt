@@ -1,11 +1,11 @@
 -- An empty file is written.
-use Rattle.std.proofs.Common.{◌≡◌, ℕ, ◌+◌, ◌^◌, ◌<◌, List, [], ◌∷◌, ◌++◌, length, sym, ◌∙◌, ap, arith, refl}
+use Rattle.std.proofs.Common.{◌≡◌, ℕ, ◌^◌, ◌<◌, List, [], ◌∷◌, ◌++◌, length, sym, ◌∙◌, ap, arith}
 use Rattle.std.proofs.lemmas.List.{append-nil}
 use Rattle.std.proofs.lemmas.List.Elements.{All-nil}
 use Rattle.side_world.specs.Disk.{overwritten}
-use Rattle.disk_journal.specs.Image.{header, end_of, IsImage}
+use Rattle.disk_journal.specs.Image.{header, IsImage}
 
-pub formatted : (old new : List ℕ) → length old ≡ 0 → new ≡ overwritten 0 (83 ∷ 73 ∷ 68 ∷ 69 ∷ 74 ∷ 78 ∷ 76 ∷ 50 ∷ 0 ∷ 0 ∷ 0 ∷ 0 ∷ 0 ∷ 0 ∷ 0 ∷ 0 ∷ 0 ∷ []) old → new ≡ header ++ 0 ∷ []
+pub formatted : (old new : List ℕ) → length old ≡ 0 → new ≡ overwritten 0 (header ++ 0 ∷ []) old → new ≡ header ++ 0 ∷ []
 unfolding header
 formatted [] new none written = written
 formatted (x ∷ old) new none written = absurd (omega (arith, none))
@@ -19,8 +19,3 @@ empty_image bytes is = record {
   lengths = All-nil (λ b. length b < 2 ^ 64);
   bytes_are = is ∙ ap (λ z. z ++ 0 ∷ []) (sym (append-nil header));
 }
-
--- its gate stands behind the header
-pub end_of-none : 17 ≡ end_of [] + 1
-unfolding header
-end_of-none = refl

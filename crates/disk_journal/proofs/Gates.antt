@@ -5,14 +5,14 @@ use Rattle.side_world.specs.declared.disk.Disk.{Ghosts}
 use Rattle.disk_journal.specs.Image.{end_of, IsRecorded, IsFile}
 use Rattle.disk_journal.specs.Moments.{Leaves, Shows, AtEachMoment}
 use Rattle.disk_journal.specs.Staging.{IsInDoubt}
-use Rattle.disk_journal.proofs.Crashes.{started, goes_on, write_leaves, write_reads, sync_leaves}
+use Rattle.disk_journal.proofs.Crashes.{IsNow, started, goes_on, write_leaves, write_reads, sync_leaves}
 use Rattle.disk_journal.proofs.Writes.{torn_gate, written_gate}
 
 doubt_kept : (bodies : List (List ℕ)) (body : List ℕ) (at : ℕ) → at ≡ end_of bodies → (d c : List ℕ) → IsFile bodies (Some body) d → Torn at 1 d c → IsFile bodies (Some body) c
 doubt_kept bodies body at place d c was torn = torn_gate d bodies was.0 body was.1 at place c torn
 
 module _ {D : Type 0} (disking : Ghosts D) (old new : D) (bodies : List (List ℕ)) (body : List ℕ) where
-  module _ (at : ℕ) (place : at ≡ end_of bodies) (only_now : (c : List ℕ) → disking.left_since old (disking.moment old) c → disking.leaves old c) (shows : Shows disking old (IsFile bodies (Some body)))
+  module _ (at : ℕ) (place : at ≡ end_of bodies) (only_now : IsNow disking old) (shows : Shows disking old (IsFile bodies (Some body)))
       (untold : disking.contents old ≡ None → disking.contents new ≡ None)
       (crash : ComesOf (Torn at 1) (disking.leaves old) (disking.leaves new))
       (time : GoesOn (disking.moment old) (disking.moment new) (disking.left_since old) (disking.left_since new) (disking.leaves new)) where

@@ -6,7 +6,7 @@ use Rattle.side_world.specs.declared.disk.Disk.{Ghosts}
 use Rattle.disk_journal.specs.Image.{end_of, IsImage, IsFile}
 use Rattle.disk_journal.specs.Moments.{Leaves, Shows, AtEachMoment}
 use Rattle.disk_journal.specs.Staging.{IsBegun, HasBegun}
-use Rattle.disk_journal.proofs.Crashes.{started, goes_on, write_leaves, write_reads, sync_leaves, synced}
+use Rattle.disk_journal.proofs.Crashes.{IsNow, started, goes_on, write_leaves, write_reads, sync_leaves, synced}
 use Rattle.disk_journal.proofs.Writes.{image_begins, begun_is_image, torn_behind, written_behind, recorded}
 
 -- an image keeps its bodies under a write behind its gate
@@ -45,7 +45,7 @@ module _ {D : Type 0} (disking : Ghosts D) where
       moments = moments (λ before after. after ≡ overwritten at piece before) becomes;
     }
 
-  pub begins : (disk : D) (bodies : List (List ℕ)) → ((c : List ℕ) → disking.left_since disk (disking.moment disk) c → disking.leaves disk c) → Shows disking disk (IsFile bodies None) → HasBegun disking disk disk bodies []
+  pub begins : (disk : D) (bodies : List (List ℕ)) → IsNow disking disk → Shows disking disk (IsFile bodies None) → HasBegun disking disk disk bodies []
   begins disk bodies only_now shows = record {
     read = λ bytes is. image_begins bytes bodies (shows.read bytes is);
     left = shows.left;

@@ -1,6 +1,7 @@
 -- What the file of a journal says.
-use Rattle.std.specs.Prelude.{◌≡◌, ◌≢◌, ◌⊎◌, ◌<◌, ◌^◌, ℕ, List, [], ◌∷◌, ◌++◌, length, All, Option, Some, None}
+use Rattle.std.specs.Prelude.{◌≡◌, ◌≢◌, ◌<◌, ◌^◌, ℕ, List, [], ◌∷◌, ◌++◌, length, All, Option, Some, None}
 use Rattle.std.specs.Int.{w64, to_le_bytes}
+use Rattle.disk_journal.specs.OneMore.{WithDoubt}
 
 -- the 16 bytes that each file begins with: SIDEJNL2, and 8 zeros
 unfoldable pub header : List ℕ
@@ -49,7 +50,7 @@ pub record IsRecorded (bytes : List ℕ) (bodies : List (List ℕ)) (gate : ℕ)
 
 -- a file of these bodies, or of these and one more
 abbrev pub IsWithOrWithout : List (List ℕ) → List ℕ → List ℕ → Type 0
-IsWithOrWithout bodies body bytes = IsImage bytes bodies ⊎ IsImage bytes (bodies ++ body ∷ [])
+IsWithOrWithout bodies body bytes = WithDoubt (IsImage bytes) bodies (Some body)
 
 -- a file of these bodies; where one more is in doubt, a whole record of it stands behind them, and its gate may hold any byte
 abbrev pub IsFile : List (List ℕ) → Option (List ℕ) → List ℕ → Type 0

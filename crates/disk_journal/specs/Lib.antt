@@ -1,6 +1,8 @@
+pub mod AnyRun
 pub mod Image
 pub mod Journal
 pub mod Moments
+pub mod OneMore
 pub mod Parsing
 pub mod Records
 pub mod Refusal

@@ -8,7 +8,7 @@ use crate::writing::sync;
 use side_world::Disk;
 
 /// What a file of no bodies has: the header, and a closed gate.
-const EMPTY: [u8; 17] = *b"SIDEJNL2\0\0\0\0\0\0\0\0\0";
+pub(crate) const EMPTY: [u8; 17] = *b"SIDEJNL2\0\0\0\0\0\0\0\0\0";
 
 /// Makes an empty disk a journal of no bodies. Takes no memory.
 ///

@@ -1,10 +1,11 @@
 //! What holds of every journal, as functions whose contract is the law.
 ghost use Rattle.std.specs.Prelude.{◌≡◌, false, ℕ, List, ◌++◌, Option, Some, None, Err, IfOk, IfErr, OnOk, OnErr};
 ghost use Rattle.side_world.specs.Faults.{Rose};
+ghost use Rattle.disk_journal.specs.AnyRun.{acknowledged};
 ghost use Rattle.disk_journal.specs.Image.{IsImage};
 ghost use Rattle.disk_journal.specs.Journal.{disk_of, limit_of, torn_of};
 ghost use Rattle.disk_journal.specs.Refusal.{IsNoJournal};
-ghost use Rattle.disk_journal.specs.Run.{acknowledged, IsCall, AreOfRun, LeavesWhatWasMade, AfterACrash};
+ghost use Rattle.disk_journal.specs.Run.{IsCall, AreOfRun, LeavesWhatWasMade, AfterACrash};
 ghost use Rattle.disk_journal.specs.declared.error.JournalErr.TheVariants.{NotAJournal};
 ghost use Rattle.disk_journal.specs.declared.journal.Journal.{Journal};
 

@@ -6,11 +6,10 @@ ghost use Rattle.disk_journal.specs.Refusal.{IsNoJournal, IsCutShort};
 ghost use Rattle.disk_journal.specs.declared.error.JournalErr.TheVariants.{Failed, NotAJournal, Full};
 
 use crate::JournalErr;
+use crate::formatting::EMPTY;
 
 /// How many bytes stand before the first gate.
 pub(crate) const HEADER_BYTES: usize = 16;
-
-const HEADER: [u8; HEADER_BYTES] = *b"SIDEJNL2\0\0\0\0\0\0\0\0";
 
 /// What stands at the place of a gate.
 pub(crate) enum Found<'b> {
@@ -30,14 +29,14 @@ pub(crate) fn gate_of(bytes: &[u8]) -> Result<u64, JournalErr>
     ensures not_failed { result ≡ Err Failed → ⊥ }
     ensures not_full { (len : ℕ) → result ≡ Err (Full len) → ⊥ }
 {
-    if bytes.len() < HEADER.len() {
+    if bytes.len() < HEADER_BYTES {
         let at = bytes.len() as u64;
         return Err(JournalErr::NotAJournal { at });
     }
-    if let Some(at) = first_difference(bytes, &HEADER) {
+    if let Some(at) = first_difference(bytes, &EMPTY[..HEADER_BYTES]) {
         return Err(JournalErr::NotAJournal { at: at as u64 });
     }
-    gate_behind(&bytes[HEADER.len()..])
+    gate_behind(&bytes[HEADER_BYTES..])
 }
 
 /// The place of the closed gate behind the records in `behind`, which stands behind the header.
@@ -49,7 +48,7 @@ fn gate_behind(behind: &[u8]) -> Result<u64, JournalErr>
     ensures not_failed { result ≡ Err Failed → ⊥ }
     ensures not_full { (len : ℕ) → result ≡ Err (Full len) → ⊥ }
 {
-    let mut end = HEADER.len() as u64;
+    let mut end = HEADER_BYTES as u64;
     let mut rest = behind;
     loop {
         match found_in(rest) {

@@ -1,16 +1,8 @@
 // What the sections of a case say.
 
-use case_text::{Section, name_in, number_in, unescaped, without_blank_end};
+use case_text::{Section, name_in, said};
 use side_base::{Blob, Field, Fields, NoMemory, Sequence, Text};
 use std::alloc::Global;
-
-/// What bytes say, their escapes undone.
-pub(crate) fn said(alloc: Global, bytes: &[u8]) -> Result<Blob, NoMemory> {
-    match unescaped(alloc, bytes)? {
-        Some(said) => Ok(said),
-        None => Blob::from_bytes(alloc, b"no escape"),
-    }
-}
 
 /// Whether a word is one of these, with a space between each.
 pub(crate) fn is_among(words: &str, word: &str) -> bool {
@@ -25,38 +17,6 @@ pub(crate) fn has(sections: &[Section<'_>], word: &str) -> bool {
 /// What stands behind the first section's word, its escapes undone; nothing without one.
 pub(crate) fn named(alloc: Global, sections: &[Section<'_>], word: &str) -> Result<Blob, NoMemory> {
     said(alloc, name_in(sections, word).unwrap_or("").as_bytes())
-}
-
-// How often the text of a section stands.
-fn times_of(section: &Section<'_>) -> u32 {
-    if section.name.is_empty() {
-        1
-    } else {
-        number_in(section.name)
-    }
-}
-
-fn add_times(all: &mut Blob, text: &Blob, times: u32) -> Result<(), NoMemory> {
-    for _ in 0..times {
-        all.push(text.bytes())?;
-    }
-    Ok(())
-}
-
-/// The texts of the sections of this word, one behind the other, each as often as its name says.
-pub(crate) fn joined(
-    alloc: Global,
-    sections: &[Section<'_>],
-    word: &str,
-) -> Result<Blob, NoMemory> {
-    let mut all = Blob::new(alloc);
-    for section in sections {
-        if section.word == word {
-            let text = said(alloc, without_blank_end(section.text))?;
-            add_times(&mut all, &text, times_of(section))?;
-        }
-    }
-    Ok(all)
 }
 
 // The field of this name and value.

@@ -1,7 +1,7 @@
 // Responses as they are written, and requests that end a connection.
 
-use crate::given::{fields, has, joined};
-use case_text::{Lines, Section, name_in, number_in};
+use crate::given::{fields, has};
+use case_text::{Lines, Section, joined, name_in, number_in};
 use http_frames::{closes, push_response};
 use side_base::{Blob, Method, NoMemory, Request, Response};
 use std::alloc::Global;

@@ -1,9 +1,9 @@
 // Targets, their routes and queries.
 
-use crate::given::{has, named, said};
+use crate::given::{has, named};
 use crate::sets::{is_method, method_of, push_allow};
 use api_routes::{Methods, Route, RouteErr, Routers, is_shutdown, query_of};
-use case_text::{Lines, Section, name_in};
+use case_text::{Lines, Section, name_in, said};
 use side_base::{Blob, Method, NoMemory};
 use std::alloc::Global;
 

@@ -1,7 +1,7 @@
 // What a framer gives for a stream.
 
-use crate::given::{has, joined, named};
-use case_text::{Lines, Section, name_in, number_in};
+use crate::given::{has, named};
+use case_text::{Lines, Section, joined, name_in, number_in};
 use http_frames::{FrameErr, Framer, Step, closes};
 use itoa::Buffer;
 use side_base::{Blob, NoMemory, Request};

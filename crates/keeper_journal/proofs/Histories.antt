@@ -10,10 +10,10 @@ use Rattle.keeper_journal.specs.Body.{IsBodyOf}
 use Rattle.keeper_journal.specs.History.{rows_after, rows_of, next_after, next_of, MayFollow, SayFrom, Say, IsFaultyAt}
 use Rattle.disk_journal.specs.Records.{HasLeft, GivesNext}
 use Rattle.disk_journal.specs.declared.records.Walk.{Walk}
+use Rattle.disk_journal.proofs.Images.{end_of-nil, end_of-push, end_of-front}
 use Rattle.keeper_journal.specs.Following.{Follows, SaysNoneAfter, HasReplayed}
 use Rattle.keeper_journal.specs.declared.following.Replay.{Replay}
 use Rattle.keeper_journal.proofs.Bodies.{same_body}
-use Rattle.keeper_journal.proofs.Files.{end-first, end-more, end-front}
 
 pub say_more : (next : ℕ) (bodies : List (List ℕ)) (commits : List Changes) (body : List ℕ) (commit : Changes) → SayFrom next bodies commits → IsBodyOf body commit → MayFollow (next_after next commits) commit
     → SayFrom next (bodies ++ body ∷ []) (commits ++ commit ∷ [])
@@ -101,7 +101,7 @@ pub record ReplayedSoFar (all rest : List (List ℕ)) (replay : Replay) (at : �
   pub gate : at ≡ end_of before
 
 pub replayed_none : (all : List (List ℕ)) (replay : Replay) → replay.table.rows ≡ empty → replay.next ≡ 1 → ReplayedSoFar all all replay 16
-replayed_none all replay rows next = record { before = []; commits = []; bodies_are = refl; say = tt; rows = rows; next = next; gate = sym end-first }
+replayed_none all replay rows next = record { before = []; commits = []; bodies_are = refl; say = tt; rows = rows; next = next; gate = sym end_of-nil }
 
 pub replayed_more : (all rest after : List (List ℕ)) (body : List ℕ) (old new : Replay) (at : ℕ) → ReplayedSoFar all rest old at → rest ≡ body ∷ after → Follows body old new → ReplayedSoFar all after new (at + (9 + length body))
 replayed_more all rest after body old new at so_far is follows =
@@ -113,14 +113,14 @@ replayed_more all rest after body old new at so_far is follows =
       say = say_more 1 so_far.before so_far.commits body follows.commit so_far.say follows.says may;
       rows = follows.rows ∙ ap (λ (r : Rows). after_changes r follows.commit.list) so_far.rows ∙ sym (rows-more empty so_far.commits follows.commit);
       next = follows.next ∙ sym (next-more 1 so_far.commits follows.commit);
-      gate = omega (arith, so_far.gate, end-more so_far.before body);
+      gate = omega (arith, so_far.gate, end_of-push so_far.before body);
     }
 
 -- each gate's place is a number of 64 bits where the last is
 pub gates_fit : (all rest after : List (List ℕ)) (body : List ℕ) (replay : Replay) (at : ℕ) → ReplayedSoFar all rest replay at → rest ≡ body ∷ after → end_of all < 2 ^ 64 → at + (9 + length body) < 2 ^ 64
 gates_fit all rest after body replay at so_far is fits =
     let whole : all ≡ (so_far.before ++ body ∷ []) ++ after = so_far.bodies_are ∙ ap (λ (r : List (List ℕ)). so_far.before ++ r) is ∙ sym (append_assoc so_far.before (body ∷ []) after) in
-    omega (arith, ap end_of whole, end-front (so_far.before ++ body ∷ []) after, end-more so_far.before body, so_far.gate, fits)
+    omega (arith, ap end_of whole, end_of-front (so_far.before ++ body ∷ []) after, end_of-push so_far.before body, so_far.gate, fits)
 
 pub is_faulty : (all rest after : List (List ℕ)) (body : List ℕ) (replay : Replay) (at : ℕ) → ReplayedSoFar all rest replay at → rest ≡ body ∷ after → SaysNoneAfter replay.next body → IsFaultyAt all at
 is_faulty all rest after body replay at so_far is none = record {

@@ -9,13 +9,15 @@ use Rattle.keeper_core.specs.declared.changes.Change.{Change}
 use Rattle.keeper_core.specs.declared.changes.Changes.{Changes}
 use Rattle.disk_journal.specs.Image.{IsImage, IsFile}
 use Rattle.disk_journal.specs.Journal.{Holds, limit_of}
+use Rattle.disk_journal.specs.OneMore.{WithOneMore, WithDoubt}
 use Rattle.disk_journal.specs.declared.journal.Journal.{Journal}
+use Rattle.disk_journal.proofs.Images.{with_doubt}
+use Rattle.disk_journal.proofs.Runs.{with_any}
 use Rattle.keeper_journal.specs.Body.{IsBodyOf}
-use Rattle.keeper_journal.specs.History.{Say, MayFollow, next_of, IsHistory, HasOneMore, IsWithOneAtMost}
+use Rattle.keeper_journal.specs.History.{Say, MayFollow, next_of, IsHistory, IsWithOneAtMost}
 use Rattle.keeper_journal.specs.Kept.{SaysDoubt, KeptAs}
 use Rattle.keeper_journal.specs.Storing as storing
 use Rattle.keeper_journal.specs.declared.journal_keeper.JournalKeeper.{JournalKeeper}
-use Rattle.keeper_journal.proofs.Files.{with_doubt}
 use Rattle.keeper_journal.proofs.Histories.{say_more, rows-more, next-more}
 
 one_more : (bodies : List (List ℕ)) (body : List ℕ) (commits : List Changes) (commit : Changes) (bytes : List ℕ) → Say bodies commits → IsBodyOf body commit → MayFollow (next_of commits) commit
@@ -23,7 +25,7 @@ one_more : (bodies : List (List ℕ)) (body : List ℕ) (commits : List Changes)
 one_more bodies body commits commit bytes say is may image = record { bodies = bodies ++ body ∷ []; image = image; say = say_more 1 bodies commits body commit say is may }
 
 doubted_more : (bodies : List (List ℕ)) (doubted : Option (List ℕ)) (commits : List Changes) (doubt : Option Changes) (bytes : List ℕ) → Say bodies commits → SaysDoubt (next_of commits) doubted doubt
-    → storing.HasOneMore bodies doubted bytes → HasOneMore commits doubt bytes
+    → WithOneMore (IsImage bytes) bodies doubted → WithOneMore (IsHistory bytes) commits doubt
 doubted_more bodies None commits None bytes say in_doubt h = h
 doubted_more bodies None commits (Some commit) bytes say in_doubt h = absurd h
 doubted_more bodies (Some body) commits None bytes say in_doubt h = absurd in_doubt
@@ -37,21 +39,23 @@ says_commits bodies doubted body commits doubt commit bytes say in_doubt is may 
 says_commits bodies doubted body commits doubt commit bytes say in_doubt is may (inr (inl old)) = inr (inl (doubted_more bodies doubted commits doubt bytes say in_doubt old))
 says_commits bodies doubted body commits doubt commit bytes say in_doubt is may (inr (inr new)) = inr (inr (one_more bodies body commits commit bytes say is may new))
 
-pub kept_file : (bodies : List (List ℕ)) (doubted : Option (List ℕ)) (commits : List Changes) (doubt : Option Changes) (bytes : List ℕ) → Say bodies commits → SaysDoubt (next_of commits) doubted doubt
-    → IsFile bodies doubted bytes → IsHistory bytes commits ⊎ HasOneMore commits doubt bytes
-kept_file bodies doubted commits doubt bytes say in_doubt file = elim (with_doubt bytes bodies doubted file) [
-  | inl same ↦ inl (record { bodies = bodies; image = same; say = say })
-  | inr old ↦ inr (doubted_more bodies doubted commits doubt bytes say in_doubt old)
-]
+-- and so with the one in doubt or without it
+says_doubt : (bodies : List (List ℕ)) (doubted : Option (List ℕ)) (commits : List Changes) (doubt : Option Changes) (bytes : List ℕ) → Say bodies commits → SaysDoubt (next_of commits) doubted doubt
+    → storing.IsWithDoubt bodies doubted bytes → WithDoubt (IsHistory bytes) commits doubt
+says_doubt bodies doubted commits doubt bytes say in_doubt (inl same) = inl (record { bodies = bodies; image = same; say = say })
+says_doubt bodies doubted commits doubt bytes say in_doubt (inr old) = inr (doubted_more bodies doubted commits doubt bytes say in_doubt old)
 
-pub kept_says : (bodies : List (List ℕ)) (doubted : Option (List ℕ)) (commits : List Changes) (doubt : Option Changes) (commit : Changes) (bytes : List ℕ) → Say bodies commits → SaysDoubt (next_of commits) doubted doubt
-    → IsFile bodies doubted bytes → IsWithOneAtMost commits doubt commit bytes
-kept_says bodies doubted commits doubt commit bytes say in_doubt file = elim (kept_file bodies doubted commits doubt bytes say in_doubt file) [ inl same ↦ inl same | inr old ↦ inr (inl old) ]
+pub kept_file : (bodies : List (List ℕ)) (doubted : Option (List ℕ)) (commits : List Changes) (doubt : Option Changes) (bytes : List ℕ) → Say bodies commits → SaysDoubt (next_of commits) doubted doubt
+    → IsFile bodies doubted bytes → WithDoubt (IsHistory bytes) commits doubt
+kept_file bodies doubted commits doubt bytes say in_doubt file = says_doubt bodies doubted commits doubt bytes say in_doubt (with_doubt bytes bodies doubted file)
 
 pub doubt_says : (bodies : List (List ℕ)) (doubted : Option (List ℕ)) (commits : List Changes) (doubt : Option Changes) (commit : Changes) (bytes : List ℕ) → Say bodies commits → SaysDoubt (next_of commits) doubted doubt
     → storing.IsWithDoubt bodies doubted bytes → IsWithOneAtMost commits doubt commit bytes
-doubt_says bodies doubted commits doubt commit bytes say in_doubt (inl same) = inl (record { bodies = bodies; image = same; say = say })
-doubt_says bodies doubted commits doubt commit bytes say in_doubt (inr old) = inr (inl (doubted_more bodies doubted commits doubt bytes say in_doubt old))
+doubt_says bodies doubted commits doubt commit bytes say in_doubt is = with_any (IsHistory bytes) commits doubt commit (says_doubt bodies doubted commits doubt bytes say in_doubt is)
+
+pub kept_says : (bodies : List (List ℕ)) (doubted : Option (List ℕ)) (commits : List Changes) (doubt : Option Changes) (commit : Changes) (bytes : List ℕ) → Say bodies commits → SaysDoubt (next_of commits) doubted doubt
+    → IsFile bodies doubted bytes → IsWithOneAtMost commits doubt commit bytes
+kept_says bodies doubted commits doubt commit bytes say in_doubt file = doubt_says bodies doubted commits doubt commit bytes say in_doubt (with_doubt bytes bodies doubted file)
 
 -- a journal with what another held, whose doubt is over or stays
 module _ {D : Type 0} (disking : Ghosts D) (old new : Journal D disking) (rows : Rows) (next : ℕ) (commits : List Changes) (doubt : Option Changes) (kept : KeptAs disking old rows next commits doubt) where

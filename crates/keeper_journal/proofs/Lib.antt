@@ -1,11 +1,9 @@
 pub mod Bodies
 pub mod Fields
-pub mod Files
 pub mod Histories
 pub mod Keeping
 pub mod Lengths
 pub mod Loop
-pub mod Moments
 pub mod Openings
 pub mod Runs
 pub mod Stored

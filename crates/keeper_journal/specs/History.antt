@@ -1,10 +1,11 @@
 -- Commits in order, the bodies that say them, and the rows that they leave.
-use Rattle.std.specs.Prelude.{◌≡◌, ◌⊎◌, ◌≤◌, ℕ, ◌^◌, List, [], ◌∷◌, ◌++◌, Option, Some, None}
+use Rattle.std.specs.Prelude.{◌≡◌, ◌⊎◌, ◌≤◌, ℕ, ◌^◌, List, [], ◌∷◌, ◌++◌, Option}
 use Rattle.std.specs.FinMap.{empty}
 use Rattle.keeper_core.specs.Rows.{Rows}
 use Rattle.keeper_core.specs.Changes.{after_changes, VersionsAreBelow}
 use Rattle.keeper_core.specs.declared.changes.Changes.{Changes}
 use Rattle.disk_journal.specs.Image.{IsImage, end_of}
+use Rattle.disk_journal.specs.OneMore.{WithOneAtMost}
 use Rattle.disk_journal.specs.Refusal.{IsNoJournal}
 use Rattle.keeper_journal.specs.Body.{IsBodyOf}
 
@@ -72,11 +73,6 @@ pub record IsFaultyFile (bytes : List ℕ) (at : ℕ) : Type 0 where
 abbrev pub IsRefusedAt : List ℕ → ℕ → Type 0
 IsRefusedAt bytes at = IsNoJournal bytes at ⊎ IsFaultyFile bytes at
 
--- a file of these commits and of one more, where there is one
-abbrev pub HasOneMore : List Changes → Option Changes → List ℕ → Type 0
-HasOneMore commits None bytes = ⊥
-HasOneMore commits (Some commit) bytes = IsHistory bytes (commits ++ commit ∷ [])
-
 -- a file of these commits, or of them and of one of two others
 abbrev pub IsWithOneAtMost : List Changes → Option Changes → Changes → List ℕ → Type 0
-IsWithOneAtMost commits doubt commit bytes = IsHistory bytes commits ⊎ HasOneMore commits doubt bytes ⊎ HasOneMore commits (Some commit) bytes
+IsWithOneAtMost commits doubt commit bytes = WithOneAtMost (IsHistory bytes) commits doubt commit

@@ -5,6 +5,7 @@ use Rattle.keeper_core.specs.declared.changes.Changes.{Changes}
 use Rattle.keeper_core.specs.declared.keeper.KeepErr.{KeepErr}
 use Rattle.keeper_core.specs.declared.keeper.KeepErr.TheVariants.{Full, Failed}
 use Rattle.keeper_core.specs.Rows.{Rows}
+use Rattle.disk_journal.specs.AnyRun.{HoldsAsBefore}
 use Rattle.disk_journal.specs.Journal.{Holds}
 use Rattle.disk_journal.specs.declared.journal.Journal.{Journal}
 use Rattle.keeper_journal.specs.Body.{IsBodyOf}
@@ -36,7 +37,7 @@ Kept disking keeper commits doubt = KeptAs disking keeper.journal (rows_in keepe
 
 -- after a commit that was not made: it keeps what it kept, and in doubt is what was, or nothing, or that commit
 abbrev pub IsUndone : {D : Type 0} (disking : Ghosts D) → JournalKeeper D disking → List Changes → Option Changes → Changes → Type 0
-IsUndone disking keeper commits doubt commit = Kept disking keeper commits doubt ⊎ Kept disking keeper commits None ⊎ Kept disking keeper commits (Some commit)
+IsUndone disking = HoldsAsBefore (Kept disking)
 
 -- the answer to a commit with which the file would have this length, which is too long: that length, unless the journal was torn and its repair failed
 abbrev pub IsTooLong : Bool → ℕ → Result (Unit {0}) KeepErr → Type 0

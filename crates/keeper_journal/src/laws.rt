@@ -2,8 +2,9 @@
 ghost use Rattle.std.specs.Prelude.{◌≡◌, ◌≤◌, ◌<◌, ◌^◌, ℕ, List, ◌++◌, Option, Some, None, Err, IfOk, IfErr, OnOk, OnErr};
 ghost use Rattle.side_world.specs.Faults.{Rose};
 ghost use Rattle.keeper_core.specs.Changes.{VersionsAreBelow};
-ghost use Rattle.keeper_core.specs.Commits.{acknowledged, HasMade};
+ghost use Rattle.keeper_core.specs.Commits.{HasMade};
 ghost use Rattle.keeper_core.specs.declared.changes.Changes.{Changes};
+ghost use Rattle.disk_journal.specs.AnyRun.{acknowledged};
 ghost use Rattle.disk_journal.specs.declared.error.JournalErr.TheVariants.{NotAJournal};
 ghost use Rattle.keeper_journal.specs.Body.{IsBodyOf};
 ghost use Rattle.keeper_journal.specs.History.{IsHistory, IsRefusedAt};

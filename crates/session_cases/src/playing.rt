@@ -2,7 +2,7 @@
 
 use crate::given::words;
 use crate::world::{Made, world};
-use case_text::{Lines, Piece, Section, joined, name_in, sections, text_of};
+use case_text::{Lines, Piece, Section, joined_text, name_in, sections, text_of};
 use itoa::Buffer;
 use side_base::Text;
 use sidecar_cli::sidecar_main;
@@ -52,8 +52,8 @@ fn compare_each(alloc: Global, lines: &mut Lines, sections: &[Section<'_>], worl
 // Compares what was written, and the status.
 fn compare_all(alloc: Global, sections: &[Section<'_>], world: &Made, status: u8) -> Lines {
     let mut lines = Lines::new(alloc);
-    let output = joined(alloc, sections, "output");
-    let note = joined(alloc, sections, "note");
+    let output = joined_text(alloc, sections, "output");
+    let note = joined_text(alloc, sections, "note");
     let wanted = name_in(sections, "status").unwrap_or("0");
     let mut buffer = Buffer::new();
     lines.compare("output", output.bytes(), world.sink.bytes());

@@ -1,7 +1,7 @@
 // The world of a case, in memory.
 
 use crate::given::{places, sizes};
-use case_text::{Section, joined, text_of};
+use case_text::{Section, joined_text, text_of};
 use side_base::{Moment, Places, Sequence, Text};
 use side_memory::{
     MemoryClock, MemoryFiles, MemoryLink, MemoryOutside, MemorySink, MemorySource, Numbers, Sizes,
@@ -58,7 +58,7 @@ fn outside(alloc: Global, sections: &[Section<'_>]) -> MemoryOutside {
 }
 
 fn source(alloc: Global, sections: &[Section<'_>]) -> MemorySource {
-    let input = joined(alloc, sections, "input");
+    let input = joined_text(alloc, sections, "input");
     let failing = places(alloc, sections, "source-fails");
     MemorySource::new(input, sizes(alloc, sections), failing)
 }

@@ -5,7 +5,7 @@ ghost use Rattle.state_api.specs.Response.{IsCut};
 
 use crate::given::{first_word, text, text_in};
 use api_routes::Route;
-use case_text::{Section, joined, name_in, text_of};
+use case_text::{Section, joined_text, name_in, text_of};
 use side_base::{Blob, Field, Fields, Method, Request, Text};
 use state_api::{StateErr, command};
 use state_core::{Cmd, Prefix};
@@ -14,7 +14,7 @@ use std::alloc::Global;
 // The key of a request: the words behind it, and what the sections of keys say.
 fn key_of(alloc: Global, sections: &[Section<'_>], words: &str) -> Text {
     let mut key = text(alloc, words);
-    let _ = key.push(text_in(alloc, joined(alloc, sections, "key").bytes()).as_str());
+    let _ = key.push(text_in(alloc, joined_text(alloc, sections, "key").bytes()).as_str());
     key
 }
 
@@ -60,7 +60,7 @@ fn request_of(alloc: Global, sections: &[Section<'_>]) -> Request {
         target: target(alloc, sections),
         minor: 1,
         fields: fields(alloc, sections),
-        body: joined(alloc, sections, "body"),
+        body: joined_text(alloc, sections, "body"),
     }
 }
 

@@ -8,7 +8,7 @@ use crate::noted::noted;
 use crate::replied::replied;
 use crate::response_text::told;
 use api_error::no_memory_response;
-use case_text::{Lines, Piece, Section, joined, name_in, sections, text_of};
+use case_text::{Lines, Piece, Section, joined_text, name_in, sections, text_of};
 use meta_api::health;
 use side_base::Text;
 use state_api::{StateErr, malformed_response};
@@ -59,7 +59,7 @@ fn answer<W: Wait>(rt: &W, alloc: Global, sections: &[Section<'_>], section: &Se
         "error" => error(
             alloc,
             section.name,
-            joined(alloc, sections, "message").bytes(),
+            joined_text(alloc, sections, "message").bytes(),
         ),
         "no-memory" => text_in(alloc, no_memory_response()),
         _ => Text::from_static(alloc, "no such section\n"),
@@ -69,7 +69,7 @@ fn answer<W: Wait>(rt: &W, alloc: Global, sections: &[Section<'_>], section: &Se
 // What is wanted of a section.
 fn wanted(alloc: Global, sections: &[Section<'_>], section: &Section<'_>) -> Text {
     match section.word {
-        "command" => text_in(alloc, joined(alloc, sections, "command").bytes()),
+        "command" => text_in(alloc, joined_text(alloc, sections, "command").bytes()),
         "refused" => {
             let mut lines = Lines::new(alloc);
             lines.add(MALFORMED);

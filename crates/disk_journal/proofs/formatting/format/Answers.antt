@@ -6,6 +6,7 @@ use Rattle.disk_journal.proofs.OnResult.{on_ok}
 use Rattle.disk_journal.proofs.formatting.format.Goals as goal
 
 pub returns-in-Ok-clause-formatted : goal.returns-in-Ok-clause-formatted
+unfolding header
 returns-in-Ok-clause-formatted g c =
     let empty = g.met.D.Disk.as_long c.args.disk.now in
     let reads = write_reads g.D.Disk c.args.disk.now c.write_at.new.self (λ bytes. length bytes ≡ 0) (λ bytes. bytes ≡ header ++ 0 ∷ []) _ c.write_at.ensures.untold c.in-Ok.ensures.written (λ d c' none written. formatted d c' none written) (λ bytes is. sym (empty bytes is) ∙ c.requires) in

@@ -1,7 +1,6 @@
 use Rattle.std.proofs.Common.{⊎_elim}
 use Rattle.disk_journal.specs.Journal.{torn_of}
-use Rattle.disk_journal.proofs.Calls.{idle_call, repair_call}
-use Rattle.disk_journal.proofs.Runs.{true_or_false}
+use Rattle.disk_journal.proofs.Calls.{idle_call, repair_call, true_or_false}
 use Rattle.disk_journal.proofs.laws.repair_in_a_run.Goals as goal
 
 pub returns-clause-nothing : goal.returns-clause-nothing

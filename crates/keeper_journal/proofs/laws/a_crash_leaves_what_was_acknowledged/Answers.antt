@@ -1,9 +1,9 @@
-use Rattle.std.proofs.Common.{◌++◌}
-use Rattle.keeper_core.specs.Commits.{acknowledged}
-use Rattle.keeper_journal.proofs.Runs.{kept_behind, run_moments}
+use Rattle.disk_journal.proofs.Runs.{leaves_what_was_made}
+use Rattle.keeper_journal.specs.History.{IsHistory}
+use Rattle.keeper_journal.specs.JournalKeeper.{disk_in}
+use Rattle.keeper_journal.specs.Kept.{Kept}
+use Rattle.keeper_journal.proofs.Runs.{leaves_kept}
 use Rattle.keeper_journal.proofs.laws.a_crash_leaves_what_was_acknowledged.Goals as goal
 
 pub returns : goal.returns
-returns g c first mid last front back commits doubt before behind kept =
-    let held = kept_behind g.D.Disk first mid front commits doubt before kept in
-    run_moments g.D.Disk g.met.D.Disk.only_now mid last back (commits ++ acknowledged front) held.0 behind held.1
+returns g c = leaves_what_was_made g.D.Disk disk_in (Kept g.D.Disk) IsHistory g.met.D.Disk.only_now (leaves_kept g.D.Disk)

@@ -1,25 +1,26 @@
-use Rattle.std.proofs.Common.{◌≡◌, ◌⊎◌, inl, inr, ◌<◌, ◌^◌, ℕ, Some, None, Ok, Err, refl, sym, ap, ◌∙◌, subst}
+use Rattle.std.proofs.Common.{◌≡◌, ◌⊎◌, inl, inr, ◌<◌, ◌^◌, ℕ, Some, None, refl, sym, ap, ◌∙◌, subst}
 use Rattle.keeper_core.specs.Rows.{IsCounted}
 use Rattle.keeper_core.specs.Changes.{after_changes, VersionsAreBelow}
+use Rattle.disk_journal.proofs.Crashes.{started, weaker}
+use Rattle.disk_journal.proofs.Runs.{made_call, undone_call}
 use Rattle.keeper_journal.specs.Body.{IsBodyOf}
-use Rattle.keeper_journal.specs.History.{IsWithOneAtMost}
+use Rattle.keeper_journal.specs.History.{IsHistory, IsWithOneAtMost}
 use Rattle.keeper_journal.specs.JournalKeeper.{disk_in}
-use Rattle.keeper_journal.specs.Kept.{KeptAs}
+use Rattle.keeper_journal.specs.Kept.{Kept, KeptAs}
 use Rattle.keeper_journal.specs.Storing as storing
 use Rattle.keeper_journal.proofs.Keeping.{says_commits, kept_says, doubt_says, kept_whole, kept_in_doubt, may_be_next, kept_more, kept_still, made_again, still_body}
-use Rattle.keeper_journal.proofs.Moments.{at_rest, more_likely}
-use Rattle.keeper_journal.proofs.Runs.{acknowledged_call, refused_call, led, idle_call}
+use Rattle.keeper_journal.proofs.Runs.{idle_call}
 use Rattle.keeper_journal.proofs.committing.JournalKeeperKeeper.commit.Goals as goal
 
 -- ---- a commit that is too long
 
 pub returns-then-not-is_torn-clause-any_moment : goal.returns-then-not-is_torn-clause-any_moment
 returns-then-not-is_torn-clause-any_moment g c = λ commits doubt kept.
-    at_rest g.D.Disk g.met.D.Disk.only_now (disk_in c.args.self.now) (IsWithOneAtMost commits doubt c.args.changes)
+    started g.D.Disk (disk_in c.args.self.now) (IsWithOneAtMost commits doubt c.args.changes) (g.met.D.Disk.only_now (disk_in c.args.self.now))
     (λ bytes left told leaves. kept_says kept.bodies kept.doubted commits doubt c.args.changes left kept.say kept.in_doubt (kept.holds.file.left bytes left told leaves))
 
 pub returns-then-not-is_torn-clause-leads_nowhere : goal.returns-then-not-is_torn-clause-leads_nowhere
-returns-then-not-is_torn-clause-leads_nowhere g c = led g.D.Disk _ _ None (idle_call g.D.Disk _ _ refl refl refl g.met.D.Disk.only_now)
+returns-then-not-is_torn-clause-leads_nowhere g c = (_, idle_call g.D.Disk _ _ refl refl refl g.met.D.Disk.only_now, refl)
 
 pub returns-then-not-is_torn-clause-refused : goal.returns-then-not-is_torn-clause-refused
 returns-then-not-is_torn-clause-refused g c = λ len is whole. made_again c.args.self.now _ _
@@ -30,13 +31,13 @@ returns-in-Ok-clause-undone g c = λ commits doubt kept.
 
 pub returns-in-Ok-clause-any_moment : goal.returns-in-Ok-clause-any_moment
 returns-in-Ok-clause-any_moment g c = λ commits doubt kept.
-    more_likely g.D.Disk (disk_in c.args.self.now) c.mend.new.journal.disk (storing.IsWithDoubt kept.bodies kept.doubted) (IsWithOneAtMost commits doubt c.args.changes)
+    weaker g.D.Disk (disk_in c.args.self.now) c.mend.new.journal.disk (storing.IsWithDoubt kept.bodies kept.doubted) (IsWithOneAtMost commits doubt c.args.changes)
     (λ bytes file. doubt_says kept.bodies kept.doubted commits doubt c.args.changes bytes kept.say kept.in_doubt file)
     (c.in-Ok.ensures.any_moment kept.bodies kept.doubted kept.holds)
 
 pub returns-in-Ok-clause-leads_nowhere : goal.returns-in-Ok-clause-leads_nowhere
 returns-in-Ok-clause-leads_nowhere g c =
-    led g.D.Disk _ _ None (refused_call g.D.Disk _ _ c.args.changes (returns-in-Ok-clause-any_moment g c) {X = Unit {0}} {E = Unit {0}} (Err tt) (returns-in-Ok-clause-undone g c))
+    (_, undone_call g.D.Disk disk_in (Kept g.D.Disk) IsHistory _ _ c.args.changes (returns-in-Ok-clause-any_moment g c) (returns-in-Ok-clause-undone g c), refl)
 
 pub returns-in-Ok-clause-repaired : goal.returns-in-Ok-clause-repaired
 returns-in-Ok-clause-repaired g c = λ len is commits doubt kept.
@@ -48,30 +49,30 @@ returns-in-Err-clause-undone g c = λ commits doubt kept.
 
 pub returns-in-Err-clause-any_moment : goal.returns-in-Err-clause-any_moment
 returns-in-Err-clause-any_moment g c = λ commits doubt kept.
-    more_likely g.D.Disk (disk_in c.args.self.now) c.mend.new.journal.disk (storing.IsWithDoubt kept.bodies kept.doubted) (IsWithOneAtMost commits doubt c.args.changes)
+    weaker g.D.Disk (disk_in c.args.self.now) c.mend.new.journal.disk (storing.IsWithDoubt kept.bodies kept.doubted) (IsWithOneAtMost commits doubt c.args.changes)
     (λ bytes file. doubt_says kept.bodies kept.doubted commits doubt c.args.changes bytes kept.say kept.in_doubt file)
     (c.in-Err.ensures.any_moment kept.bodies kept.doubted kept.holds)
 
 pub returns-in-Err-clause-leads_nowhere : goal.returns-in-Err-clause-leads_nowhere
 returns-in-Err-clause-leads_nowhere g c =
-    led g.D.Disk _ _ None (refused_call g.D.Disk _ _ c.args.changes (returns-in-Err-clause-any_moment g c) {X = Unit {0}} {E = Unit {0}} (Err tt) (returns-in-Err-clause-undone g c))
+    (_, undone_call g.D.Disk disk_in (Kept g.D.Disk) IsHistory _ _ c.args.changes (returns-in-Err-clause-any_moment g c) (returns-in-Err-clause-undone g c), refl)
 
 -- ---- one that finds no memory
 
 pub returns-in_default-clause-leads_nowhere : goal.returns-in_default-clause-leads_nowhere
-returns-in_default-clause-leads_nowhere g c = led g.D.Disk _ _ None (idle_call g.D.Disk _ _ refl refl refl g.met.D.Disk.only_now)
+returns-in_default-clause-leads_nowhere g c = (_, idle_call g.D.Disk _ _ refl refl refl g.met.D.Disk.only_now, refl)
 
 pub returns-in_default-prepare-clause-leads_nowhere : goal.returns-in_default-prepare-clause-leads_nowhere
-returns-in_default-prepare-clause-leads_nowhere g c = led g.D.Disk _ _ None (idle_call g.D.Disk _ _ refl c.prepare.ensures.rows refl g.met.D.Disk.only_now)
+returns-in_default-prepare-clause-leads_nowhere g c = (_, idle_call g.D.Disk _ _ refl c.prepare.ensures.rows refl g.met.D.Disk.only_now, refl)
 
 pub returns-in_default-clause-any_moment : goal.returns-in_default-clause-any_moment
 returns-in_default-clause-any_moment g c = λ commits doubt kept.
-    at_rest g.D.Disk g.met.D.Disk.only_now (disk_in c.args.self.now) (IsWithOneAtMost commits doubt c.args.changes)
+    started g.D.Disk (disk_in c.args.self.now) (IsWithOneAtMost commits doubt c.args.changes) (g.met.D.Disk.only_now (disk_in c.args.self.now))
     (λ bytes left told leaves. kept_says kept.bodies kept.doubted commits doubt c.args.changes left kept.say kept.in_doubt (kept.holds.file.left bytes left told leaves))
 
 pub returns-in_default-prepare-clause-any_moment : goal.returns-in_default-prepare-clause-any_moment
 returns-in_default-prepare-clause-any_moment g c = λ commits doubt kept.
-    at_rest g.D.Disk g.met.D.Disk.only_now (disk_in c.args.self.now) (IsWithOneAtMost commits doubt c.args.changes)
+    started g.D.Disk (disk_in c.args.self.now) (IsWithOneAtMost commits doubt c.args.changes) (g.met.D.Disk.only_now (disk_in c.args.self.now))
     (λ bytes left told leaves. kept_says kept.bodies kept.doubted commits doubt c.args.changes left kept.say kept.in_doubt (kept.holds.file.left bytes left told leaves))
 
 -- ---- one that is stored, or fails
@@ -96,7 +97,7 @@ pub returns-in-Ok-store-clause-any_moment : goal.returns-in-Ok-store-clause-any_
 returns-in-Ok-store-clause-any_moment g c = λ commits doubt kept.
     let is : IsBodyOf c.bytes.result.now c.args.changes = still_body c.bytes.result.now c.in-Ok-encode.body c.into_vec-list.result.items c.deref-2.result.now c.args.changes c.bytes.ensures c.deref-2.ensures.value c.into_vec-list.ensures c.in-Ok-encode.ensures in
     let may = may_be_next c.args.self.now.next commits c.args.changes kept.next_is c.requires.grows c.requires.most c.requires.below in
-    more_likely g.D.Disk (disk_in c.args.self.now) c.store.new.journal.disk (storing.IsWithOneAtMost kept.bodies kept.doubted c.bytes.result.now) (IsWithOneAtMost commits doubt c.args.changes)
+    weaker g.D.Disk (disk_in c.args.self.now) c.store.new.journal.disk (storing.IsWithOneAtMost kept.bodies kept.doubted c.bytes.result.now) (IsWithOneAtMost commits doubt c.args.changes)
     (λ bytes file. says_commits kept.bodies kept.doubted c.bytes.result.now commits doubt c.args.changes bytes kept.say kept.in_doubt is may file)
     (c.in-Ok-store.ensures.any_moment kept.bodies kept.doubted kept.holds)
 
@@ -113,14 +114,14 @@ pub returns-clause-any_moment : goal.returns-clause-any_moment
 returns-clause-any_moment g c = λ commits doubt kept.
     let is : IsBodyOf c.bytes.result.now c.args.changes = still_body c.bytes.result.now c.in-Ok-encode.body c.into_vec-list.result.items c.deref-2.result.now c.args.changes c.bytes.ensures c.deref-2.ensures.value c.into_vec-list.ensures c.in-Ok-encode.ensures in
     let may = may_be_next c.args.self.now.next commits c.args.changes kept.next_is c.requires.grows c.requires.most c.requires.below in
-    more_likely g.D.Disk (disk_in c.args.self.now) c.store.new.journal.disk (storing.IsWithOneAtMost kept.bodies kept.doubted c.bytes.result.now) (IsWithOneAtMost commits doubt c.args.changes)
+    weaker g.D.Disk (disk_in c.args.self.now) c.store.new.journal.disk (storing.IsWithOneAtMost kept.bodies kept.doubted c.bytes.result.now) (IsWithOneAtMost commits doubt c.args.changes)
     (λ bytes file. says_commits kept.bodies kept.doubted c.bytes.result.now commits doubt c.args.changes bytes kept.say kept.in_doubt is may file)
     (c.in-Err-store.ensures.any_moment kept.bodies kept.doubted kept.holds)
 
 pub returns-in-Ok-store-clause-leads : goal.returns-in-Ok-store-clause-leads
 returns-in-Ok-store-clause-leads g c =
-    led g.D.Disk _ _ (Some c.args.changes) (acknowledged_call g.D.Disk _ _ c.args.changes (returns-in-Ok-store-clause-any_moment g c) {X = Unit {0}} {E = Unit {0}} (Ok tt) (returns-in-Ok-store-clause-kept g c))
+    (_, made_call g.D.Disk disk_in (Kept g.D.Disk) IsHistory _ _ c.args.changes (returns-in-Ok-store-clause-any_moment g c) (returns-in-Ok-store-clause-kept g c), refl)
 
 pub returns-clause-leads_nowhere : goal.returns-clause-leads_nowhere
 returns-clause-leads_nowhere g c =
-    led g.D.Disk _ _ None (refused_call g.D.Disk _ _ c.args.changes (returns-clause-any_moment g c) {X = Unit {0}} {E = Unit {0}} (Err tt) (returns-clause-undone g c))
+    (_, undone_call g.D.Disk disk_in (Kept g.D.Disk) IsHistory _ _ c.args.changes (returns-clause-any_moment g c) (returns-clause-undone g c), refl)
