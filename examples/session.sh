@@ -19,8 +19,14 @@ ask() {
         esac
     done
     printf '\n'
-    curl -s -i "$@" | tr -d '\r'
-    printf '\n'
+    local answer
+    answer=$(curl -s -i "$@" | tr -d '\r')
+    printf '%s\n' "$answer"
+    # The empty line that ends a head without content.
+    case $answer in
+        *$'\n\n'*) ;;
+        *) printf '\n' ;;
+    esac
 }
 
 "$top/run" --app-id shop --dapr-http-port "$port" &
