@@ -326,6 +326,26 @@ fn half_a_request_does_not_hold_up_other_work_that_was_heard_of(
     Ok(())
 }
 
+#[test]
+fn half_a_request_does_not_hold_up_those_who_wait_to_connect(rt: HostRuntime) -> Result<(), Fail> {
+    let limits = DoorLimits {
+        places: 40,
+        crowded_ms: 60_000,
+        patience_ms: 600_000,
+        ..short()
+    };
+    let door = TcpDoor::open_within(&rt, 0, limits)?;
+    let mut worker = door.acceptor(rt)?;
+    let mut slow = connect(&rt, door.port()?)?;
+    assert_eq!(rt; next_of(&mut worker), Given::Idle);
+    // The first of these finds no place, and the others wait.
+    let waiting = send_halves(&rt, door.port()?, 60)?;
+    slow.write_all(b"half")?;
+    assert_eq!(rt; next_of(&mut worker), Given::Conn(4));
+    drop(waiting);
+    Ok(())
+}
+
 /// How many bytes a client that has sent half a request is answered once a worker leaves, at a door that is shut afterwards.
 fn answered_at_the_end<
     R: Net<Listener = TcpListener, Stream = TcpStream> + Clock + Wait + AllocGlobal,
