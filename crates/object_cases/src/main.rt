@@ -1,9 +1,13 @@
-//! Plays the cases of the files that its words name: histories of stores, keepers and breakers, runs of retries, and trips, each with what
-//! must come of it. Prints each case that differs, and at the end how many there were.
+//! Plays the cases of the files that its words name: histories of stores, keepers, breakers and ledgers, runs of retries, and trips, each with
+//! what must come of it. Prints each case that differs, and at the end how many there were.
 #![tactic(auto)]
 
+mod aimed;
 mod breaker_case;
 mod keeper_case;
+mod ledger_case;
+mod ledger_text;
+mod ledger_words;
 mod playing;
 mod retry_case;
 mod store_case;

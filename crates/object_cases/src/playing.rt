@@ -2,6 +2,7 @@
 
 use crate::breaker_case::play_breaker;
 use crate::keeper_case::play_keeper;
+use crate::ledger_case::play_ledger;
 use crate::retry_case::play_retry;
 use crate::store_case::play_store;
 use crate::trip_case::play_trip;
@@ -25,6 +26,7 @@ fn report<W: Wait>(rt: &W, alloc: Global, sections: &[Section<'_>]) -> Text {
         "keeper" => play_keeper(alloc, sections, &mut lines),
         "breaker" => play_breaker(rt, alloc, sections, &mut lines),
         "retry" => play_retry(alloc, sections, &mut lines),
+        "ledger" => play_ledger(alloc, sections, &mut lines),
         "trip" => play_trip(alloc, sections, &mut lines),
         _ => lines.add("no such case\n"),
     }

@@ -1,5 +1,5 @@
 // The waits of a policy of retries.
-ghost use Rattle.retry_core.specs.RetryPolicy.{IsKindWithinLimit};
+ghost use Rattle.retry_core.specs.RetryPolicy.{IsKindWithinLimit, IsWithinLimit};
 
 use crate::words::{first_word, number, small_number};
 use case_text::{Lines, Section, name_in, text_of};
@@ -30,14 +30,16 @@ fn retries_in(word: &str) -> Option<u32> {
     }
 }
 
-// A run of a policy: its kind, its milliseconds, and how many retries it makes at most.
-fn run_of(words: &str) -> RetryRun {
+/// A policy: its kind, its milliseconds, and how many retries it makes at most.
+pub(crate) fn policy_of(words: &str) -> RetryPolicy
+    ensures { IsWithinLimit result }
+{
     let (kind, words) = first_word(words);
     let (ms, retries) = first_word(words);
-    RetryRun::start(&RetryPolicy {
+    RetryPolicy {
         kind: kind_of(kind, number(ms)),
         max_retries: retries_in(retries),
-    })
+    }
 }
 
 fn add_next(lines: &mut Lines, next: Next) {
@@ -91,7 +93,7 @@ fn step(alloc: Global, run: &mut RetryRun, section: &Section<'_>) -> Text {
 
 /// Plays the steps of a case over a run of its own.
 pub(crate) fn play_retry(alloc: Global, sections: &[Section<'_>], lines: &mut Lines) {
-    let mut run = run_of(name_in(sections, "retry").unwrap_or(""));
+    let mut run = RetryRun::start(&policy_of(name_in(sections, "retry").unwrap_or("")));
     for section in sections {
         if section.word != "retry" {
             let told = step(alloc, &mut run, section);

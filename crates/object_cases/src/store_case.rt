@@ -6,7 +6,7 @@ ghost use Rattle.state_core.specs.Taken.{IsTaken};
 use crate::store_text::{count_text, reply_text};
 use crate::store_words::cmd_of;
 use crate::taken::is_taken;
-use crate::words::{failing, first_moment, first_word, moment, number};
+use crate::words::{failing, first_moment, first_word, moment_behind, number};
 use case_text::{Lines, Section, name_in, text_of};
 use keeper_core::{ChangeList, Changes, Keeper, MemoryKeeper};
 use side_base::{Moment, Text};
@@ -151,15 +151,6 @@ fn is_given(word: &str) -> bool {
     match word {
         "store" | "failing" | "at" => true,
         _ => false,
-    }
-}
-
-// The moment of the steps behind a section.
-fn moment_behind(section: &Section<'_>, now: Moment) -> Moment {
-    if section.word == "at" {
-        moment(section.name)
-    } else {
-        now
     }
 }
 

@@ -1,5 +1,6 @@
 // Replies of a store as texts.
 
+use crate::words::add_len;
 use case_text::Lines;
 use side_base::{Blob, Places, Text};
 use state_core::{BulkRow, Reply, Rows};
@@ -33,11 +34,6 @@ fn add_places(lines: &mut Lines, places: &Places) {
     for place in 0..places.len() {
         lines.add_number(":", u64::from(*places.at(place)));
     }
-}
-
-// A number that is not very great.
-fn add_len(lines: &mut Lines, words: &str, len: u128) {
-    lines.add_number(words, u64::try_from(len).unwrap_or(0));
 }
 
 fn add_reply(lines: &mut Lines, reply: &Reply) {

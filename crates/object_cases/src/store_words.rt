@@ -1,6 +1,6 @@
 // Commands of a store as a case names them.
 
-use crate::words::{blob, digits, first_part, first_word, number, text};
+use crate::words::{blob, digits, first_part, first_word, long_blob, number, text};
 use side_base::{Blob, Moment, Text};
 use state_core::{Cmd, Item, Items, Keys, Mode, Op, Ops};
 use std::alloc::Global;
@@ -131,10 +131,7 @@ fn numbered_items(alloc: Global, count: u64) -> Items {
 // An item whose value has so many bytes.
 fn long_item(alloc: Global, words: &str) -> Items {
     let (key, len) = first_word(words);
-    let mut value = Blob::new(alloc);
-    for _ in 0..number(len) {
-        let _ = value.push_byte(b'x');
-    }
+    let value = long_blob(alloc, number(len));
     let mut items = Items::new(alloc);
     let _ = items.push(plain_item(text(alloc, key), value, None));
     items

@@ -1,6 +1,6 @@
 // Words of a case. What finds no memory is left out: then the case differs, and is played again.
 
-use case_text::{Section, name_in, unescaped};
+use case_text::{Lines, Section, name_in, unescaped};
 use itoa::Buffer;
 use side_base::{Blob, Moment, Places, Text, number_of, split_digits};
 use std::alloc::Global;
@@ -21,6 +21,15 @@ pub(crate) fn moment(text: &str) -> Moment {
     match Moment::at(number(text)) {
         Some(moment) => moment,
         None => first_moment(),
+    }
+}
+
+/// The moment of the steps behind a section: `at` sets it.
+pub(crate) fn moment_behind(section: &Section<'_>, now: Moment) -> Moment {
+    if section.word == "at" {
+        moment(section.name)
+    } else {
+        now
     }
 }
 
@@ -47,12 +56,26 @@ pub(crate) fn blob(alloc: Global, text: &str) -> Blob {
     blob
 }
 
+/// So many bytes `x`.
+pub(crate) fn long_blob(alloc: Global, len: u64) -> Blob {
+    let mut blob = Blob::new(alloc);
+    for _ in 0..len {
+        let _ = blob.push_byte(b'x');
+    }
+    blob
+}
+
 /// The bytes that a text means once its escapes are undone.
 pub(crate) fn bytes(alloc: Global, text: &str) -> Blob {
     match unescaped(alloc, text.as_bytes()) {
         Ok(Some(bytes)) => bytes,
         _ => blob(alloc, "no escape"),
     }
+}
+
+/// Adds words and a number behind them; one past 2^64 is told as the greatest below it.
+pub(crate) fn add_len(lines: &mut Lines, words: &str, len: u128) {
+    lines.add_number(words, u64::try_from(len).unwrap_or(u64::MAX));
 }
 
 /// A number in decimal digits.

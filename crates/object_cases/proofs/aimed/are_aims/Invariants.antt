@@ -1,6 +1,6 @@
 use Rattle.std.proofs.Common.{◌≢◌, ◌<◌, ℕ, slice_index_or}
 use Rattle.ledger_core.specs.declared.plan.Aim.{Aim}
-use Rattle.ledger_tests.proofs.tests.spoken.are_aims.Given as goal
+use Rattle.object_cases.proofs.aimed.are_aims.Given as goal
 
 abbrev pub invariant-loop-place : goal.invariant-loop-place
 invariant-loop-place l = record {
