@@ -1,0 +1,129 @@
+// Words of a case, and what is said of errors.
+ghost use Rattle.std.specs.Prelude.{◌<◌, ◌^◌};
+
+use case_text::{Lines, Section, number_in, said};
+use disk_journal::JournalErr;
+use keeper_core::KeepErr;
+use side_base::{Blob, NoMemory, Places};
+use std::alloc::Global;
+
+/// The greatest length of a journal in the program.
+pub(crate) const LIMIT: u64 = 402_653_184;
+
+/// The first word of some, and the others.
+pub(crate) fn first_word(words: &str) -> (&str, &str) {
+    words.split_once(' ').unwrap_or((words, ""))
+}
+
+/// The limit that a part names, or that of the program.
+pub(crate) fn limit_in(words: &str) -> u64
+    ensures { result < 2 ^ 32 }
+{
+    if words.is_empty() {
+        LIMIT
+    } else {
+        u64::from(number_in(words))
+    }
+}
+
+/// The bytes that the words of a section are, their escapes undone.
+pub(crate) fn bytes_in(alloc: Global, section: &Section<'_>) -> Result<Blob, NoMemory> {
+    said(alloc, section.name.as_bytes())
+}
+
+fn add_places(places: &mut Places, words: &str) -> Result<(), NoMemory> {
+    for word in words.split(' ') {
+        places.push(number_in(word))?;
+    }
+    Ok(())
+}
+
+/// The calls that some words name.
+pub(crate) fn places_in(alloc: Global, words: &str) -> Result<Places, NoMemory> {
+    let mut places = Places::new(alloc);
+    add_places(&mut places, words)?;
+    Ok(places)
+}
+
+/// Bytes as a text.
+pub(crate) fn text(bytes: &[u8]) -> &str {
+    str::from_utf8(bytes).unwrap_or("no text")
+}
+
+/// Words, and a number behind them where there is one.
+#[derive(Clone, Copy)]
+pub(crate) struct Words {
+    pub(crate) text: &'static str,
+    pub(crate) number: Option<u64>,
+}
+
+fn alone(text: &'static str) -> Words {
+    Words { text, number: None }
+}
+
+fn numbered(text: &'static str, number: u64) -> Words {
+    Words {
+        text,
+        number: Some(number),
+    }
+}
+
+// A length, which here has fewer than 2^64 bytes.
+fn full(len: u128) -> Words {
+    numbered("full ", u64::try_from(len).unwrap_or(0))
+}
+
+fn refusal(error: JournalErr) -> Words {
+    match error {
+        JournalErr::Failed => alone("failed"),
+        JournalErr::NotAJournal { at } => numbered("no journal at ", at),
+        JournalErr::Full { len } => full(len),
+        JournalErr::NoMemory => alone("no memory"),
+    }
+}
+
+fn keep_refusal(error: KeepErr) -> Words {
+    match error {
+        KeepErr::Failed => alone("failed"),
+        KeepErr::Full { len } => full(len),
+        KeepErr::NoMemory => alone("no memory"),
+    }
+}
+
+fn add_words(lines: &mut Lines, words: Words) {
+    match words.number {
+        Some(number) => lines.add_number(words.text, number),
+        None => lines.add(words.text),
+    }
+}
+
+/// Says why a journal refused.
+pub(crate) fn add_refusal(lines: &mut Lines, error: JournalErr) {
+    add_words(lines, refusal(error));
+}
+
+/// Says what came of a call of a journal.
+pub(crate) fn add_outcome(lines: &mut Lines, outcome: Result<(), JournalErr>) {
+    add_words(
+        lines,
+        match outcome {
+            Ok(()) => alone("ok"),
+            Err(error) => refusal(error),
+        },
+    );
+}
+
+/// Says what came of a save.
+pub(crate) fn add_kept(lines: &mut Lines, outcome: Result<(), KeepErr>) {
+    add_words(
+        lines,
+        match outcome {
+            Ok(()) => alone("ok"),
+            Err(error) => keep_refusal(error),
+        },
+    );
+}
+
+pub(crate) fn yes_or_no(is_so: bool) -> &'static str {
+    if is_so { "yes" } else { "no" }
+}
