@@ -1,4 +1,4 @@
-ghost use Rattle.std.specs.Prelude.{◌≡◌, ◌≤◌, ◌+◌, None, IfOk, OnOk, OnErr, IsErr, true, length, max};
+ghost use Rattle.std.specs.Prelude.{◌≡◌, ◌≤◌, ◌+◌, None, IfOk, OnOk, OnErr, IsErr, true, false, length, max};
 ghost use Rattle.std.proofs.Common.{rules};
 ghost use Rattle.side_world.specs.Faults.{Rose};
 ghost use Rattle.host_devices.specs.HostDisk.{is_lost};
@@ -24,10 +24,11 @@ pub struct HostDisk {
 }
 
 impl HostDisk {
-    /// The file at `path`, which is made, empty, where there is none. Fails where that is no regular file, and where it is open as a
-    /// disk already, in this process or in another.
+    /// The file at `path`, which is made, empty, where there is none; what it has, and its name in its folder, have reached the disk
+    /// then. Fails where that is no regular file, and where it is open as a disk already, in this process or in another.
     pub fn open<R: Files<File = File>>(files: &R, path: &str) -> io::Result<Self>
-        ensures { IfOk result (λ disk. ⟦<HostDisk as Disk>⟧.faults disk ≡ 0) }
+        ensures none_yet { IfOk result (λ disk. ⟦<HostDisk as Disk>⟧.faults disk ≡ 0) }
+        ensures whole { IfOk result (λ disk. is_lost disk ≡ false) }
     {
         let mut how = OpenOptions::new();
         let file = how.read(true).write(true).create(true).open(files, path)?;
@@ -36,9 +37,7 @@ impl HostDisk {
         }
         file.try_lock()?;
         let len = file.metadata()?.len();
-        if len == 0 {
-            sync_name(files, &file, path)?;
-        }
+        sync_name(files, &file, path)?;
         Ok(HostDisk {
             file,
             len,
@@ -71,7 +70,7 @@ impl HostDisk {
     }
 }
 
-/// Has an empty file and its name, which may have been made just now, reach the disk.
+/// Has a file and its name, which may have been made just now, by this program or by a copy, reach the disk.
 fn sync_name<R: Files<File = File>>(files: &R, file: &File, path: &str) -> io::Result<()> {
     file.sync_all()?;
     let folder = match Path::new(path).parent() {
@@ -154,6 +153,7 @@ impl Disk for HostDisk {
         // After a sync that failed, each call fails.
         ensures lost { is_lost self.old ≡ true → IsErr result }
         ensures loses { IsErr result → is_lost self.new ≡ true }
+        ensures keeps { OnOk result (is_lost self.new ≡ false) }
     {
         self.look()?;
         let synced = self.file.sync_data();
