@@ -3,6 +3,7 @@ use Rattle.std.proofs.Common.{◌≡◌, inl, inr, ℕ, zero, suc, ◌+◌, ◌<
 use Rattle.std.proofs.Math.Nat.{pow-succ'}
 use Rattle.std.proofs.lemmas.Bool.{cases_lt, lt-ltb, le-ltb}
 use Rattle.keeper_core.specs.Shapes.{Shape, slots, height_of, IsBalanced, IsLow, left_lifted, right_lifted, left_outward, right_outward, IsLevel, IsRisen}
+use Rattle.keeper_core.specs.Removal.{IsSunk}
 use Rattle.keeper_core.specs.Shapes.Shape.{Bare, Fork}
 
 -- a rotation keeps the nodes in order
@@ -140,6 +141,42 @@ risen_right before at behind grown result b r level stays =
       ];
       most = omega (arith, now.most, r.most);
     }
+
+-- a side with one node fewer; another node may stand between the sides then
+
+pub sunk_left : (before sunk : Shape) (at : ℕ) (behind result : Shape) → IsBalanced (Fork before at behind) → IsSunk before sunk → (IsBalanced sunk → IsBalanced behind → height_of sunk ≤ height_of behind + 2 → height_of behind ≤ height_of sunk + 2 → IsLevel sunk behind result)
+    → (height_of sunk ≤ height_of behind + 1 → height_of behind ≤ height_of sunk + 1 → result ≡ Fork sunk at behind) → IsSunk (Fork before at behind) result
+sunk_left before sunk at behind result b s level stays =
+    let now : IsLevel sunk behind result = level s.balanced b.1.1.1 (omega (arith, s.most, b.0)) (omega (arith, s.least, b.1.0)) in
+    record {
+      balanced = now.balanced;
+      least = elim (cases_lt (height_of sunk + 1) (height_of behind)) [
+        | inl more ↦ omega (arith, more, now.least, s.least, s.most, b.0, b.1.0)
+        | inr few ↦ omega (arith, ap height_of (stays (omega (arith, s.most, b.0)) few), s.least)
+      ];
+      most = omega (arith, now.most, s.most);
+    }
+
+pub sunk_right : (before : Shape) (at : ℕ) (behind : Shape) (top : ℕ) (sunk result : Shape) → IsBalanced (Fork before at behind) → IsSunk behind sunk → (IsBalanced before → IsBalanced sunk → height_of before ≤ height_of sunk + 2 → height_of sunk ≤ height_of before + 2 → IsLevel before sunk result)
+    → (height_of before ≤ height_of sunk + 1 → height_of sunk ≤ height_of before + 1 → result ≡ Fork before top sunk) → IsSunk (Fork before at behind) result
+sunk_right before at behind top sunk result b s level stays =
+    let now : IsLevel before sunk result = level b.1.1.0 s.balanced (omega (arith, s.least, b.0)) (omega (arith, s.most, b.1.0)) in
+    record {
+      balanced = now.balanced;
+      least = elim (cases_lt (height_of sunk + 1) (height_of before)) [
+        | inl more ↦ omega (arith, more, now.least, s.least, s.most, b.0, b.1.0)
+        | inr few ↦ omega (arith, ap height_of (stays few (omega (arith, s.most, b.1.0))), s.least)
+      ];
+      most = omega (arith, now.most, s.most);
+    }
+
+-- a side that is all there is
+
+pub alone_left : (before : Shape) (at : ℕ) (behind : Shape) → behind ≡ Bare → IsBalanced (Fork before at behind) → IsSunk (Fork before at behind) before
+alone_left before at behind is b = record { balanced = b.1.1.0; least = omega (arith, ap height_of is); most = omega arith }
+
+pub alone_right : (before : Shape) (at : ℕ) (behind : Shape) → before ≡ Bare → IsBalanced (Fork before at behind) → IsSunk (Fork before at behind) behind
+alone_right before at behind is b = record { balanced = b.1.1.1; least = omega (arith, ap height_of is); most = omega arith }
 
 -- no way down is long
 

@@ -1,20 +1,21 @@
--- Those of a list of entries in order that have an end: what a put leaves of them, and which of them have lapsed.
+-- Those of a list of entries in order that have an end, and which of them have lapsed.
 use Rattle.std.proofs.Common.{◌≡◌, ℕ, true, false, cond, not, List, [], ◌∷◌, Option, Some, None, refl, sym, ap, ◌∙◌}
-use Rattle.std.specs.Prelude.{◌&&◌, ◌||◌, ◌==◌, nat_lt, is_some}
+use Rattle.std.specs.Prelude.{◌&&◌, ◌||◌, ◌==◌, nat_lt}
 use Rattle.std.specs.List.{filter}
 use Rattle.std.specs.Ordering.{is_eq, eq_by_cmp}
 use Rattle.std.specs.declared.cmp.Ordering.TheVariants.{Less, Equal, Greater}
-use Rattle.std.specs.FinMap.{find, put, is_sorted}
-use Rattle.std.specs.FinMap.Entries.{below_all, find-put, same_entries}
+use Rattle.std.specs.FinMap.{find, is_sorted}
+use Rattle.std.specs.FinMap.Entries.{below_all, same_entries}
 use Rattle.std.proofs.lemmas.Bool.{and_parts}
 use Rattle.keeper_core.specs.Rows.{Row, Entry, byte_order, is_live, lapsed_in, is_behind}
-use Rattle.keeper_core.specs.Ends.{end_alone}
-use Rattle.keeper_core.specs.EndTable.{ending}
-use Rattle.keeper_core.specs.Tree.{with_end, without}
 use Rattle.keeper_core.proofs.Sorted.{Key, total, antisymmetric, below_each, tied_each}
 use Rattle.keeper_core.proofs.Found.{find_under}
 use Rattle.keeper_core.proofs.Lapsed.{lapsed_cons}
-use Rattle.keeper_core.proofs.Table.{holds, over_cond, sorted_put, without-absent, sorted-with_end, find-with_end}
+use Rattle.keeper_core.proofs.Table.{holds, over_cond}
+
+-- those that have an end
+abbrev pub ending : List Entry → List Entry
+ending entries = filter (λ entry. not (entry.1.until == 0)) entries
 
 -- a row that has an end
 abbrev pub ending_row : Option Row → Option Row
@@ -56,20 +57,6 @@ find-ending k (x ∷ xs) sorted =
 -- lists in order in which each key has the same
 pub same : (es fs : List Entry) → is_sorted byte_order es ≡ true → is_sorted byte_order fs ≡ true → ((q : Key) → find byte_order q es ≡ find byte_order q fs) → es ≡ fs
 same es fs g h is = same_entries byte_order total antisymmetric es fs (holds _ g) (holds _ h) is
-
-pub ending-put : (es : List Entry) (key : Key) (until : ℕ) → is_sorted byte_order es ≡ true → ending (put byte_order key (end_alone until) es) ≡ with_end key until (ending es)
-ending-put es key until sorted =
-    let after = sorted_put es key (end_alone until) sorted in
-    same _ _ (sorted-ending (put byte_order key (end_alone until) es) after) (sorted-with_end (ending es) key until (sorted-ending es sorted)) (λ q.
-    find-ending q (put byte_order key (end_alone until) es) after
-    ∙ ap ending_row (find-put byte_order total q key (end_alone until) es)
-    ∙ sym (over_cond ending_row (eq_by_cmp byte_order q key) (Some (end_alone until)) (find byte_order q es))
-    ∙ ap (cond (eq_by_cmp byte_order q key) (ending_row (Some (end_alone until)))) (sym (find-ending q es sorted))
-    ∙ sym (find-with_end (ending es) key until q))
-
--- without a key that no entry has
-pub ending-unknown : (es : List Entry) (key : Key) → is_sorted byte_order es ≡ true → find byte_order key es ≡ None → ending es ≡ without key (ending es)
-ending-unknown es key sorted none = sym (without-absent key (ending es) (ap is_some (find-ending key es sorted ∙ ap ending_row none)))
 
 -- with one more
 pub lapsed_one : (moment : ℕ) (key : Key) (row other : Row) (es xs : List Entry) → is_live moment row ≡ is_live moment other → lapsed_in moment es ≡ lapsed_in moment xs → lapsed_in moment ((key, row) ∷ es) ≡ lapsed_in moment ((key, other) ∷ xs)

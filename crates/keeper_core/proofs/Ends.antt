@@ -9,8 +9,7 @@ use Rattle.keeper_core.specs.Ends.{end_alone, end_of}
 use Rattle.keeper_core.specs.Table.{Keeps}
 use Rattle.keeper_core.specs.Tree.{with_end, without}
 use Rattle.keeper_core.proofs.Sorted.{Key, total}
-use Rattle.keeper_core.specs.EndTable.{ending}
-use Rattle.keeper_core.proofs.Ending.{ending_row, sorted-ending, find-ending, same, lapsed_one, lapsed-ending}
+use Rattle.keeper_core.proofs.Ending.{ending, ending_row, sorted-ending, find-ending, same, lapsed_one, lapsed-ending}
 use Rattle.keeper_core.proofs.Table.{shown, over_cond, find-without, sorted_without, sorted-with_end, find-with_end}
 
 -- after a put

@@ -9,7 +9,7 @@ pub mod Lapsed
 pub mod Least
 pub mod Overlay
 pub mod Hashed
-pub mod Renewed
+pub mod Refilling
 pub mod Shapes
 pub mod Sizes
 pub mod Retimed
@@ -17,3 +17,4 @@ pub mod Sorted
 pub mod Sought
 pub mod Table
 pub mod WithSlot
+pub mod WithoutSlot

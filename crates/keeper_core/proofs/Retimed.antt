@@ -77,6 +77,10 @@ pub record Near (links : List Link) (slot : ℕ) : Type 0 where
   pub left : (left_at links slot ≡ none) ⊎ (parent_at links (left_at links slot) ≡ slot)
   pub right : (right_at links slot ≡ none) ⊎ (parent_at links (right_at links slot) ≡ slot)
 
+-- a node is lower than its parent
+pub higher : (links : List Link) (slot up : ℕ) → Near links up → (left_at links up ≡ slot) ⊎ (right_at links up ≡ slot) → height_at links slot < height_at links up
+higher links slot up near side = elim side [ inl e ↦ omega (arith, near.height, ap (height_at links) e) | inr e ↦ omega (arith, near.height, ap (height_at links) e) ]
+
 child : (links : List Link) (s : Shape) (at slot : ℕ) → Holds links s at → HasParent links s slot → (at ≡ none) ⊎ (parent_at links at ≡ slot)
 child links Bare at slot h p = inl h
 child links (Fork b i a) at slot h p = inr (ap (parent_at links) h.0 ∙ p)

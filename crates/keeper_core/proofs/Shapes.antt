@@ -299,6 +299,20 @@ grown_right old mid new at right before behind d l b r h =
           (rewritten_kept (with_right right) (λ link. refl) mid new at (slots (Fork before at behind)) r (in_top before at behind));
     }
 
+-- other trees on both sides of a node
+pub grown_both : (old mid new : List Link) (at left right : ℕ) (before behind : Shape) → IsDistinct (slots (Fork before at behind)) → at < length old → Holds old before left → Holds old behind right → Rewritten (with_left left) old mid at → Rewritten (with_right right) mid new at → Grown old new before at behind
+grown_both old mid new at left right before behind d l b h r s =
+    let parts : Apart before at behind = apart before at behind d in
+    let left_is : left_at new at ≡ left = unmoved left_in (with_right right) (λ link. refl) mid new at s at ∙ moved left_in (with_left left) left (λ link. refl) old mid at r l in
+    let right_is : right_at new at ≡ right = moved right_in (with_right right) right (λ link. refl) mid new at s (omega (arith, r.len)) in
+    record {
+      before = subst (Holds new before) (sym left_is) (stays old new before left parts.before (λ slot w. s.others slot (parts.before_top slot w) ∙ r.others slot (parts.before_top slot w)) (omega (arith, r.len, s.len)) b);
+      behind = subst (Holds new behind) (sym right_is) (stays old new behind right parts.behind (λ slot w. s.others slot (parts.behind_top slot w) ∙ r.others slot (parts.behind_top slot w)) (omega (arith, r.len, s.len)) h);
+      kept = kept_trans old mid new (slots (Fork before at behind))
+          (rewritten_kept (with_left left) (λ link. refl) old mid at (slots (Fork before at behind)) r (in_top before at behind))
+          (rewritten_kept (with_right right) (λ link. refl) mid new at (slots (Fork before at behind)) s (in_top before at behind));
+    }
+
 -- a tree without a change
 pub unchanged : (links : List Link) (shape : Shape) (at : ℕ) → Holds links shape at → Built links links shape at
 unchanged links shape at h = record { holds = h; frame = λ slot w. refl; untils = λ slot. refl; len = refl }
@@ -312,3 +326,14 @@ proper_before most more before at behind m p = record { distinct = (apart before
 
 pub proper_behind : (most more : ℕ) (before : Shape) (at : ℕ) (behind : Shape) → more ≡ most → Proper most (slots (Fork before at behind)) → Proper more (slots behind)
 proper_behind most more before at behind m p = record { distinct = (apart before at behind p.distinct).behind; few = omega (arith, p.few, length-append (slots before) (at ∷ slots behind)) }
+
+-- the same without a place in front
+pub proper_rest : (most at : ℕ) (list : List ℕ) → Proper most (at ∷ list) → Proper most list
+proper_rest most at list p = record { distinct = λ slot. omega (arith, p.distinct slot, times-cons slot at list); few = omega (arith, p.few) }
+
+-- the same of both sides of a node
+pub proper_sides : (most : ℕ) (before : Shape) (at : ℕ) (behind : Shape) → Proper most (slots (Fork before at behind)) → Proper most (slots before ++ slots behind)
+proper_sides most before at behind p = record {
+  distinct = λ slot. omega (arith, p.distinct slot, times_fork slot before at behind, times-append slot (slots before) (slots behind));
+  few = omega (arith, p.few, length-append (slots before) (at ∷ slots behind), length-append (slots before) (slots behind));
+}

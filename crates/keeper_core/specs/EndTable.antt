@@ -1,12 +1,10 @@
 -- What a tree of ends shows, and how its nodes keep it.
-use Rattle.std.specs.Prelude.{◌≡◌, ℕ, zero, suc, ◌<◌, ◌==◌, Bool, not, nat_lt, cond, if◌then◌else◌, List, [], ◌∷◌, length, IsTrue, refl}
-use Rattle.std.specs.List.{filter}
+use Rattle.std.specs.Prelude.{◌≡◌, ℕ, zero, suc, ◌<◌, nat_lt, cond, List, length, IsTrue, refl}
 use Rattle.std.specs.Coded.{Coded, code_by, coded×, coded_ℕ, coded_list}
-use Rattle.std.specs.FinMap.{put, is_sorted}
+use Rattle.std.specs.FinMap.{is_sorted}
 use Rattle.std.specs.declared.alloc.Global.{Global}
 use Rattle.std.specs.declared.vec.Vec.{Vec}
 use Rattle.keeper_core.specs.Rows.{Entry, row_code, byte_order}
-use Rattle.keeper_core.specs.Ends.{end_alone}
 use Rattle.keeper_core.specs.Shapes.{Shape, slots, times, none, left_at, right_at, parent_at, until_at, entries_at, Holds, Proper, IsBalanced}
 use Rattle.keeper_core.specs.Shapes.Shape.{Bare, Fork}
 use Rattle.keeper_core.specs.declared.links.Link.{Link}
@@ -29,13 +27,9 @@ shape_in (suc depth) links at = cond (nat_lt at (length links)) (Fork (shape_in 
 abbrev pub slots_in : List Link → ℕ → List ℕ
 slots_in links root = slots (shape_in (length links) links root)
 
--- the ends of those that have one
-abbrev pub ending : List Entry → List Entry
-ending entries = filter (λ entry. not (entry.1.until == 0)) entries
-
 -- the ends that a tree keeps
 abbrev pub ends_in : List (Vec ℕ Global) → List Link → ℕ → List Entry
-ends_in keys links root = ending (entries_at keys links (slots_in links root))
+ends_in keys links root = entries_at keys links (slots_in links root)
 
 -- all nodes are those of one tree below the root, in the order of their keys
 pub record IsWhole (keys : List (Vec ℕ Global)) (links : List Link) (root : ℕ) : Type 0 where
@@ -47,10 +41,6 @@ pub record IsWhole (keys : List (Vec ℕ Global)) (links : List Link) (root : �
   pub sorted : IsTrue (is_sorted byte_order (entries_at keys links (slots_in links root)))
   -- so that no way down is long: at most twice a logarithm of the nodes
   pub balanced : IsBalanced (shape_in (length links) links root)
-
--- whether a node's row has an end
-abbrev pub has_end : Link → Bool
-has_end link = not (link.until == 0)
 
 -- the tree below a root stands as it did, and the root has no parent
 pub record IsTop (old new : List Link) (shape : Shape) (root : ℕ) : Type 0 where
@@ -65,13 +55,3 @@ pub record IsPlaced (old new : List Link) (before : Shape) (list : List ℕ) (ro
   pub ordered : slots shape ≡ list
   pub placed : IsTop old new shape root
   pub balanced : IsBalanced before → IsBalanced shape
-
--- ends with that of one more node, where it has one
-abbrev pub with_link : Vec ℕ Global → Link → List Entry → List Entry
-with_link key link ends = if link.until == 0 then ends else put byte_order key.items (end_alone link.until) ends
-
--- ends with those of these nodes
-abbrev pub with_links : List (Vec ℕ Global) → List Link → List Entry → List Entry
-with_links [] links ends = ends
-with_links (key ∷ keys) [] ends = ends
-with_links (key ∷ keys) (link ∷ links) ends = with_link key link (with_links keys links ends)

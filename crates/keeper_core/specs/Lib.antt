@@ -5,6 +5,7 @@ pub mod Ends
 pub mod Growth
 pub mod MemoryKeeper
 pub mod Prepared
+pub mod Removal
 pub mod Faults
 pub mod Rows
 pub mod Table

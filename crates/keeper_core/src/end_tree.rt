@@ -1,36 +1,33 @@
-ghost use Rattle.std.specs.Prelude.{◌≡◌, ◌≢◌, ◌≤◌, ◌<◌, ◌+◌, ◌-◌, [], ◌∷◌, ℕ, Some, None, length, filter, option_map, slice_get, count_by, IfOk, IsTrue};
+ghost use Rattle.std.specs.Prelude.{◌≡◌, ◌≢◌, ◌≤◌, ◌<◌, ◌+◌, ◌-◌, [], ◌∷◌, ℕ, Some, None, length, filter, option_map, slice_get, IfOk, IsTrue};
 ghost use Rattle.std.specs.Vec.{vec_capacity};
 ghost use Rattle.std.specs.FinMap.{find, put};
 ghost use Rattle.keeper_core.specs.Rows.{byte_order, lapsed_in, is_behind};
 ghost use Rattle.keeper_core.specs.Ends.{end_alone};
-ghost use Rattle.keeper_core.specs.Tree.{with_end, without};
+ghost use Rattle.keeper_core.specs.Tree.{without};
 ghost use Rattle.keeper_core.specs.Shapes.{Shape, slots, key_at, entries_at, Holds, Proper, IsTree, Finds, PutsNode};
-ghost use Rattle.keeper_core.specs.EndTable.{slots_in, ends_in, has_end, with_link, with_links, IsTop, IsPlaced, IsWhole};
+ghost use Rattle.keeper_core.specs.Removal.{TakesNode};
+ghost use Rattle.keeper_core.specs.EndTable.{slots_in, ends_in, IsTop, IsPlaced, IsWhole};
 
 use crate::insertion::insert;
-use crate::links::{Link, NONE, last_moment, set_parent, until_at};
+use crate::links::{Link, NONE, last_moment, set_parent};
+use crate::moving::relink;
+use crate::removal::remove;
 use crate::retiming::set_until;
 use crate::seeking::{first_lapsed, next_lapsed, slot_of};
 use side_base::NoMemory;
 use std::alloc::Global;
 use std::marker::Model;
-use std::mem;
-
-/// How many keys without an end a tree keeps, however small it is.
-const IDLE: usize = 1024;
 
 /// Keys with the moments at which their rows end: a search tree, whose subtrees differ in height by at most one. Contracts see its ends
 /// in the order of their keys, and for how many further keys there is room.
 ///
 /// A key is found at the place that its row remembers, and only where that is another's by a search. A key whose row has no end any more
-/// stays, until such keys fill half of the tree: then it is made anew.
+/// is taken out at once, and the last key of the list moves to its place.
 #[derive(Drop)]
 pub(crate) struct EndTree {
     links: Vec<Link>,
     keys: Vec<Vec<u8>>,
     root: usize,
-    /// How many keys have no end any more.
-    idle: usize,
 }
 
 impl Model for EndTree {
@@ -56,11 +53,10 @@ impl EndTree {
             links: Vec::new(alloc),
             keys: Vec::new(alloc),
             root: NONE,
-            idle: 0,
         }
     }
 
-    /// Whether no key ever had an end.
+    /// Whether no key has an end.
     pub(crate) fn is_empty(&self) -> bool
         ensures { IsTrue result → self.now.ends ≡ [] }
     {
@@ -72,69 +68,9 @@ impl EndTree {
         ensures ends { self.new.ends ≡ self.old.ends }
         ensures room { IfOk result (λ _. additional ≤ self.new.room) }
     {
-        if self.idle > IDLE.max(self.links.len() / 2) {
-            return self.make_anew(alloc, additional);
-        }
         self.links.reserve(additional)?;
         self.keys.reserve(additional)?;
         Ok(())
-    }
-
-    /// Keeps those keys alone that have an end, with room for further ones.
-    fn make_anew(&mut self, alloc: Global, additional: usize) -> Result<(), NoMemory>
-        ensures ends { self.new.ends ≡ self.old.ends }
-        ensures room { IfOk result (λ _. additional ≤ self.new.room) }
-    {
-        let needed = count_ending(&self.links)
-            .checked_add(additional)
-            .ok_or(NoMemory)?;
-        let mut made = EndTree::with_room(alloc, needed)?;
-        let links = mem::replace(&mut self.links, Vec::new(alloc));
-        let keys = mem::replace(&mut self.keys, Vec::new(alloc));
-        made.give_all(links, keys);
-        *self = made;
-        Ok(())
-    }
-
-    /// No keys, and room for so many.
-    fn with_room(alloc: Global, needed: usize) -> Result<EndTree, NoMemory>
-        ensures ends { IfOk result (λ made. made.ends ≡ []) }
-        ensures room { IfOk result (λ made. needed ≤ made.room) }
-    {
-        Ok(EndTree {
-            links: Vec::with_capacity(alloc, needed)?,
-            keys: Vec::with_capacity(alloc, needed)?,
-            root: NONE,
-            idle: 0,
-        })
-    }
-
-    /// Gives these keys their ends.
-    fn give_all(&mut self, links: Vec<Link>, keys: Vec<Vec<u8>>)
-        requires keyed { length keys.items ≡ length links.items }
-        requires room { count_by has_end links.items ≤ self.old.room }
-        ensures ends { self.new.ends ≡ with_links keys.items links.items self.old.ends }
-        ensures room { self.old.room ≤ self.new.room + count_by has_end links.items }
-    {
-        let mut links = links;
-        let mut keys = keys;
-        while let Some(link) = links.pop() {
-            let Some(key) = keys.pop() else {
-                return;
-            };
-            self.give_one(key, link);
-        }
-    }
-
-    /// Gives a key its end, where it has one.
-    fn give_one(&mut self, key: Vec<u8>, link: Link)
-        requires { count_by has_end (link ∷ []) ≤ self.old.room }
-        ensures ends { self.new.ends ≡ with_link key link self.old.ends }
-        ensures room { self.old.room ≤ self.new.room + count_by has_end (link ∷ []) }
-    {
-        if link.until != 0 {
-            self.give(NONE, key, link.until);
-        }
     }
 
     /// Gives a key an end, whatever it had, and answers its place; `hint` is the place that it may have. Takes no memory.
@@ -146,7 +82,6 @@ impl EndTree {
     {
         match find_slot(&self.links, &self.keys, self.root, hint, &key) {
             Some(slot) => {
-                self.idle = idle_after(self.idle, until_at(&self.links, slot), until);
                 set_until(&mut self.links, slot, until);
                 slot
             }
@@ -161,11 +96,10 @@ impl EndTree {
     /// Takes the end of a key away, where it has one; `hint` is the place that it may have.
     pub(crate) fn take(&mut self, hint: usize, key: &[u8])
         ensures ends { self.new.ends ≡ without key.now self.old.ends }
-        ensures room { self.new.room ≡ self.old.room }
+        ensures room { self.old.room ≤ self.new.room }
     {
         if let Some(slot) = find_slot(&self.links, &self.keys, self.root, hint, key) {
-            self.idle = idle_after(self.idle, until_at(&self.links, slot), 0);
-            set_until(&mut self.links, slot, 0);
+            self.root = take_out(&mut self.links, &mut self.keys, self.root, slot);
         }
     }
 
@@ -196,17 +130,6 @@ fn next_slot(
     }
 }
 
-/// How many keys have no end any more, where one of them had an end and gets another; 0 is none.
-fn idle_after(idle: usize, old: u64, new: u64) -> usize {
-    if old == 0 && new != 0 {
-        return idle.saturating_sub(1);
-    }
-    if old != 0 && new == 0 {
-        return idle.saturating_add(1);
-    }
-    idle
-}
-
 /// Adds a key that a tree lacks, and answers its root.
 fn add(
     links: &mut Vec<Link>,
@@ -219,7 +142,7 @@ fn add(
     requires room { (length links.old.items < vec_capacity links.old) × (length keys.old.items < vec_capacity keys.old) }
     requires lacks { find byte_order key.items (entries_at keys.old.items links.old.items (slots_in links.old.items root)) ≡ None }
     ensures whole { IsWhole keys.new.items links.new.items result }
-    ensures ends { ends_in keys.new.items links.new.items result ≡ with_end key.items until (ends_in keys.old.items links.old.items root) }
+    ensures ends { ends_in keys.new.items links.new.items result ≡ put byte_order key.items (end_alone until) (ends_in keys.old.items links.old.items root) }
     ensures room { (vec_capacity links.new - length links.new.items + 1 ≡ vec_capacity links.old - length links.old.items) × (vec_capacity keys.new - length keys.new.items + 1 ≡ vec_capacity keys.old - length keys.old.items) }
 {
     let slot = links.len();
@@ -233,6 +156,32 @@ fn add(
     });
     keys.push_reserved(key);
     place(links, keys, root, slot)
+}
+
+/// Takes a node out of a tree, and answers its root; the last node of the list moves to its place.
+fn take_out(links: &mut Vec<Link>, keys: &mut Vec<Vec<u8>>, root: usize, slot: usize) -> usize
+    requires whole { IsWhole keys.old.items links.old.items root }
+    requires slot { slot < length links.old.items }
+    ensures whole { IsWhole keys.new.items links.new.items result }
+    ensures ends { ends_in keys.new.items links.new.items result ≡ without (key_at keys.old.items slot) (ends_in keys.old.items links.old.items root) }
+    ensures room { (vec_capacity links.old - length links.old.items ≤ vec_capacity links.new - length links.new.items) × (vec_capacity keys.old - length keys.old.items ≤ vec_capacity keys.new - length keys.new.items) }
+{
+    let root = lift_out(links, keys, root, slot);
+    links.swap_remove(slot);
+    keys.swap_remove(slot);
+    relink(links, root, slot)
+}
+
+/// Takes a node out of a tree, and answers its root; the node stays in the list.
+fn lift_out(links: &mut [Link], keys: &[Vec<u8>], root: usize, slot: usize) -> usize
+    requires tree { IsTree links.old root }
+    requires keys { length keys.now ≡ length links.old }
+    requires slot { slot < length links.old }
+    ensures { TakesNode keys.now links.old root slot (λ shape list. IsPlaced links.old links.new shape list result) }
+{
+    let root = remove(links, keys, root, slot);
+    set_top(links, root);
+    root
 }
 
 /// Puts a node without children among those of a tree, and answers their root.
@@ -269,17 +218,4 @@ fn find_slot(
         Some(other) if other.as_slice() == key => Some(hint),
         _ => slot_of(links, keys, root, key),
     }
-}
-
-/// How many of these have an end.
-fn count_ending(links: &[Link]) -> usize
-    ensures { result ≡ count_by has_end links.now }
-{
-    let mut count = 0;
-    for link in links {
-        if link.until != 0 {
-            count += 1;
-        }
-    }
-    count
 }

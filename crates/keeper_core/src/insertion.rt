@@ -30,7 +30,7 @@ pub(crate) fn insert(links: &mut [Link], keys: &[Vec<u8>], at: usize, slot: usiz
 }
 
 /// Whether the key at a place is below the one at another.
-fn is_below(keys: &[Vec<u8>], slot: usize, other: usize) -> bool
+pub(crate) fn is_below(keys: &[Vec<u8>], slot: usize, other: usize) -> bool
     requires slot { slot < length keys.now }
     requires other { other < length keys.now }
     ensures { result ≡ is_lt (byte_order (key_at keys.now slot) (key_at keys.now other)) }

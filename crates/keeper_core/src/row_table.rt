@@ -146,7 +146,7 @@ impl RowTable {
         self.rows.remove(key)
     }
 
-    /// What a key's row has of an end. Where no key ever had one, the row is not looked up.
+    /// What a key's row has of an end. Where no key has one, the row is not looked up.
     fn kept_end(&self, key: &[u8]) -> KeptEnd
         ensures { result.ended ≡ is_some (end_of (row_at self.now.rows key.now)) }
     {
@@ -204,7 +204,7 @@ fn with_end(
 fn without(ends: &mut EndTree, kept: KeptEnd, key: &[u8])
     requires ended { kept.ended ≡ is_some (find byte_order key.now ends.old.ends) }
     ensures ends { ends.new.ends ≡ without key.now ends.old.ends }
-    ensures room { ends.new.room ≡ ends.old.room }
+    ensures room { ends.old.room ≤ ends.new.room }
 {
     if kept.ended {
         ends.take(kept.hint, key);

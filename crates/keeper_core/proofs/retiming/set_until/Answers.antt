@@ -3,7 +3,7 @@ use Rattle.std.proofs.lemmas.Bool.Decides.{eqb_tells, nat_tests}
 use Rattle.keeper_core.specs.Tree.{last_moment}
 use Rattle.keeper_core.specs.Shapes.{Shape, none, slots, times, left_at, right_at, parent_at, until_at, least_at, height_at, least_by, Holds, Retimed}
 use Rattle.keeper_core.specs.declared.links.Link.{Link}
-use Rattle.keeper_core.proofs.Retimed.{SameShape, HasLeast, Rising, has_until, has_least, Near, exact, near, up, again, low}
+use Rattle.keeper_core.proofs.Retimed.{SameShape, HasLeast, Rising, has_until, has_least, Near, exact, near, up, higher, again, low}
 use Rattle.keeper_core.proofs.Shapes.{slots_below}
 use Rattle.keeper_core.proofs.retiming.set_until.Goals as goal
 
@@ -99,10 +99,6 @@ next old links new root shape at until node least few h t in_list r e is =
 -- the way up is as long as the heights that are left
 shorter : (links new : List Link) (node up : ℕ) → node < length links → length new ≡ length links → height_at links node ≤ length links → (up < length new → (height_at links node < height_at new up) × (height_at new up ≤ length new)) → cond {A = ℕ} (nat_lt up (length new)) (length new + 1 - height_at new up) 0 < cond {A = ℕ} (nat_lt node (length links)) (length links + 1 - height_at links node) 0
 shorter links new node up in_list len low higher = grind (arith, nat_tests)
-
--- a node is lower than its parent
-higher : (links : List Link) (slot up : ℕ) → Near links up → (left_at links up ≡ slot) ⊎ (right_at links up ≡ slot) → height_at links slot < height_at links up
-higher links slot up near side = elim side [ inl e ↦ omega (arith, near.height, ap (height_at links) e) | inr e ↦ omega (arith, near.height, ap (height_at links) e) ]
 
 -- the same of what the loop leaves
 climbs : (old links new : List Link) (root : ℕ) (shape : Shape) (at until node least up : ℕ) → length old ≤ none → length (slots shape) ≤ length old → Holds old shape root → parent_at old root ≡ none → node < length links → Rising old links shape at until node → HasLeast links new node least → up ≡ parent_at new node → up < length new → (height_at links node < height_at new up) × (height_at new up ≤ length new)
