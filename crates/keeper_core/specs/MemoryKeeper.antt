@@ -1,12 +1,17 @@
 -- What a keeper in memory shows.
 use Rattle.std.specs.Prelude.{◌≡◌, ◌≢◌, ℕ, ◌+◌, ◌-◌, ◌^◌, min, List, Result, Err, Contains}
 use Rattle.keeper_core.specs.Rows.{Rows}
+use Rattle.std.specs.declared.hash.DefaultHasher.{DefaultHasher}
 use Rattle.keeper_core.specs.declared.keeper.KeepErr.{KeepErr}
 use Rattle.keeper_core.specs.declared.keeper.KeepErr.TheVariants.{NoMemory}
 use Rattle.keeper_core.specs.declared.memory_keeper.MemoryKeeper.{MemoryKeeper}
 
 abbrev pub rows_in : MemoryKeeper → Rows
 rows_in keeper = keeper.table.rows
+
+-- the hasher that keys are fed to
+abbrev pub hasher_in : MemoryKeeper → DefaultHasher
+hasher_in keeper = keeper.table.hasher
 
 abbrev pub next_of : MemoryKeeper → ℕ
 next_of keeper = keeper.next

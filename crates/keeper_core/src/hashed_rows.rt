@@ -3,7 +3,7 @@ ghost use Rattle.std.specs.Option.{option_copied};
 ghost use Rattle.std.specs.FinMap.{empty, insert, remove};
 ghost use Rattle.keeper_core.specs.Rows.{row_at};
 ghost use Rattle.keeper_core.specs.Growth.{bytes_at};
-ghost use Rattle.keeper_core.specs.Table.{row_of};
+ghost use Rattle.keeper_core.specs.Table.{row_of, fed};
 
 use crate::growth::found_bytes;
 use crate::prepared::StoredRow;
@@ -13,27 +13,28 @@ use std::alloc::Global;
 use std::collections::HashMap;
 use std::marker::Model;
 
-/// Rows by their keys. Contracts see a finite map, and for how many further keys there is room.
+/// Rows by their keys. Contracts see a finite map, for how many further keys there is room, and the hasher that keys are fed to.
 #[derive(Drop)]
 pub(crate) struct HashedRows {
     map: HashMap<Vec<u8>, StoredRow, SecretState>,
 }
 
 impl Model for HashedRows {
-    ghost use Rattle.std.specs.HashMap.{spare};
+    ghost use Rattle.std.specs.HashMap.{hasher_of, spare};
     ghost use Rattle.keeper_core.specs.Table.{Table, table_code, rows_of};
 
     ghost Value = { Table };
 
     ghost coded = { table_code };
 
-    ghost view = { λ a. record { rows = rows_of a.map.entries; room = spare a.map } };
+    ghost view = { λ a. record { rows = rows_of a.map.entries; room = spare a.map; hasher = (hasher_of a.map).fed } };
 }
 
 impl HashedRows {
     /// No rows; takes no memory. The secret is fed to the hash of each key.
     pub(crate) fn new(alloc: Global, secret: [u8; 16]) -> HashedRows
-        ensures { result.rows ≡ empty }
+        ensures rows { result.rows ≡ empty }
+        ensures hasher { result.hasher ≡ fed secret }
     {
         HashedRows {
             map: HashMap::with_hasher(alloc, SecretState::new(secret)),
@@ -50,6 +51,7 @@ impl HashedRows {
     pub(crate) fn reserve(&mut self, additional: usize) -> Result<(), NoMemory>
         ensures rows { self.new.rows ≡ self.old.rows }
         ensures room { IfOk result (λ _. additional ≤ self.new.room) }
+        ensures hasher { self.new.hasher ≡ self.old.hasher }
     {
         self.map.reserve(additional)
     }
@@ -60,6 +62,7 @@ impl HashedRows {
         ensures rows { self.new.rows ≡ insert self.old.rows key.items (row_of row) }
         ensures room { self.old.room ≤ self.new.room + 1 }
         ensures took { result ≡ bytes_at self.old.rows key.items }
+        ensures hasher { self.new.hasher ≡ self.old.hasher }
     {
         let key_len = key.len();
         match self.map.insert(key, row) {
@@ -73,6 +76,7 @@ impl HashedRows {
         ensures rows { self.new.rows ≡ remove self.old.rows key.now }
         ensures room { self.old.room ≤ self.new.room }
         ensures took { result ≡ bytes_at self.old.rows key.now }
+        ensures hasher { self.new.hasher ≡ self.old.hasher }
     {
         let old = self.map.remove(key);
         found_bytes(key.len(), &old)

@@ -23,7 +23,8 @@ pub struct MemoryKeeper {
 impl MemoryKeeper {
     ghost use Rattle.std.specs.Prelude.{◌≡◌};
     ghost use Rattle.std.specs.FinMap.{empty};
-    ghost use Rattle.keeper_core.specs.MemoryKeeper.{rows_in, next_of, limit_of, faults_of, failing_of, commits_of};
+    ghost use Rattle.keeper_core.specs.MemoryKeeper.{rows_in, next_of, limit_of, faults_of, failing_of, commits_of, hasher_in};
+    ghost use Rattle.keeper_core.specs.Table.{fed};
 
     /// No rows, and a next version of 1; takes no memory. `failing` are the commits, counted from 0, that fail. A commit that
     /// finds no memory is not counted. `secret` are random bytes, for the hash of keys.
@@ -34,6 +35,7 @@ impl MemoryKeeper {
         ensures failing { failing_of result ≡ failing }
         ensures commits { commits_of result ≡ 0 }
         ensures faults { faults_of result ≡ 0 }
+        ensures hasher { hasher_in result ≡ fed secret }
     {
         MemoryKeeper {
             alloc,
@@ -56,7 +58,7 @@ impl Keeper for MemoryKeeper {
     ghost use Rattle.keeper_core.specs.Rows.{bytes_in};
     ghost use Rattle.keeper_core.specs.Faults.{has_some, Rises};
     ghost use Rattle.keeper_core.specs.Changes.{after_changes, VersionsAreBelow};
-    ghost use Rattle.keeper_core.specs.MemoryKeeper.{rows_in, next_of, limit_of, faults_of, failing_of, FailsNext, CountsCommit};
+    ghost use Rattle.keeper_core.specs.MemoryKeeper.{rows_in, next_of, limit_of, faults_of, failing_of, hasher_in, FailsNext, CountsCommit};
 
     ghost rows = { rows_in };
 
@@ -103,6 +105,7 @@ impl Keeper for MemoryKeeper {
 
         ensures unchanged { OnErr result ((rows_in self.new ≡ rows_in self.old) × (next_of self.new ≡ next_of self.old)) }
         ensures stays { (limit_of self.new ≡ limit_of self.old) × (failing_of self.new ≡ failing_of self.old) }
+        ensures hasher { hasher_in self.new ≡ hasher_in self.old }
         ensures rises { Rises (has_some (failing_of self.old)) (faults_of self.old) (faults_of self.new) }
         ensures steady { (result ≡ Err KeepErr.Failed → ⊥) → faults_of self.new ≡ faults_of self.old }
         ensures faults { result ≡ Err KeepErr.Failed → faults_of self.new ≡ min (faults_of self.old + 1) (2 ^ 64 - 1) }

@@ -5,7 +5,7 @@ ghost use Rattle.keeper_core.specs.Growth.{bytes_at, bytes_put, key_of};
 ghost use Rattle.keeper_core.specs.Changes.{after_change, after_changes, VersionsAreBelow};
 ghost use Rattle.keeper_core.specs.Prepared.{change_of, IsReady, IsEndOf};
 ghost use Rattle.keeper_core.specs.Ends.{end_of};
-ghost use Rattle.keeper_core.specs.Table.{row_of};
+ghost use Rattle.keeper_core.specs.Table.{row_of, fed};
 ghost use Rattle.keeper_core.specs.Tree.{with_end, without};
 
 use crate::end_tree::EndTree;
@@ -17,7 +17,7 @@ use side_base::NoMemory;
 use std::alloc::Global;
 use std::marker::Model;
 
-/// Rows by their keys, and the room for further keys. Contracts see the rows as a finite map.
+/// Rows by their keys, and the room for further keys. Contracts see the rows as a finite map, and the hasher that keys are fed to.
 ///
 /// A look-up goes to one place of a table, and among many rows waits longer for memory. A change of a row that has an end, or that gets one, and the look for a
 /// lapsed row cost a logarithm of the rows that have an end.
@@ -38,7 +38,7 @@ impl Model for RowTable {
     ghost use Rattle.keeper_core.specs.Table.{Keeps};
     ghost use Rattle.std.specs.Prelude.{min};
 
-    ghost view = { λ a. record { rows = a.rows.rows; room = min a.rows.room a.ends.room } };
+    ghost view = { λ a. record { rows = a.rows.rows; room = min a.rows.room a.ends.room; hasher = a.rows.hasher } };
 
     ghost invariant = { λ a. Keeps a.rows.rows a.ends.ends };
 }
@@ -48,6 +48,7 @@ impl RowTable {
     pub fn new(alloc: Global, secret: [u8; 16]) -> RowTable
         ensures rows { result.rows ≡ empty }
         ensures counted { IsCounted result.rows 1 }
+        ensures hasher { result.hasher ≡ fed secret }
     {
         RowTable {
             rows: HashedRows::new(alloc, secret),
@@ -83,6 +84,7 @@ impl RowTable {
         ensures rows { self.new.rows ≡ self.old.rows }
         ensures prepared { IfOk result (λ prepared. prepared ≡ list) }
         ensures room { IfOk result (λ prepared. length prepared ≤ self.new.room) }
+        ensures hasher { self.new.hasher ≡ self.old.hasher }
     {
         self.rows.reserve(list.len())?;
         self.ends.reserve(alloc, list.len())?;
@@ -95,6 +97,7 @@ impl RowTable {
         requires { length prepared ≤ self.old.room }
         ensures rows { self.new.rows ≡ after_changes self.old.rows prepared }
         ensures freed { result ≡ min (bytes_in self.old.rows + bytes_put prepared - bytes_in self.new.rows) (2 ^ 128 - 1) }
+        ensures hasher { self.new.hasher ≡ self.old.hasher }
 
         // Where the versions put are below a later next version, all are.
         ensures counted { (next later : ℕ) → IsCounted self.old.rows next → next ≤ later → later ≤ 2 ^ 62 → VersionsAreBelow later prepared → IsCounted self.new.rows later }
@@ -114,6 +117,7 @@ impl RowTable {
         ensures rows { self.new.rows ≡ after_change self.old.rows (change_of step) }
         ensures room { self.old.room ≤ self.new.room + 1 }
         ensures took { result ≡ bytes_at self.old.rows (key_of (change_of step)) }
+        ensures hasher { self.new.hasher ≡ self.old.hasher }
     {
         match step {
             Step::Place { key, row, end } => self.place(key, row, end),
@@ -128,6 +132,7 @@ impl RowTable {
         ensures rows { self.new.rows ≡ insert self.old.rows key.items (row_of row) }
         ensures room { self.old.room ≤ self.new.room + 1 }
         ensures took { result ≡ bytes_at self.old.rows key.items }
+        ensures hasher { self.new.hasher ≡ self.old.hasher }
     {
         let kept = self.kept_end(&key);
         let mut row = row;
@@ -140,6 +145,7 @@ impl RowTable {
         ensures rows { self.new.rows ≡ remove self.old.rows key.now }
         ensures room { self.old.room ≤ self.new.room }
         ensures took { result ≡ bytes_at self.old.rows key.now }
+        ensures hasher { self.new.hasher ≡ self.old.hasher }
     {
         let kept = self.kept_end(key);
         without(&mut self.ends, kept, key);

@@ -18,6 +18,7 @@ loop-step-preserved c =
           ∙ c.loop-step.invariant.rows;
       ready = All-rest IsReady _ _ _ c.in-Some.ensures.first c.loop-step.invariant.ready;
       room = omega (arith, c.loop-step.invariant.room, c.make.ensures.room, ap length c.in-Some.ensures.first);
+      hasher = c.make.ensures.hasher ∙ c.loop-step.invariant.hasher;
       most = omega (arith, c.loop-step.invariant.most, put, one, ap bytes_in c.make.ensures.rows);
       freed = omega (arith, c.loop-step.invariant.most, c.loop-step.invariant.freed, put, one, ap bytes_in c.make.ensures.rows, c.make.ensures.took, c.saturating_add-freed.ensures);
     }

@@ -14,6 +14,7 @@ pub record Made (all : List Change) (before now : Table) (steps : List Step) (go
   pub rows : after_changes now.rows (changes_of steps) ≡ after_changes before.rows all
   pub ready : All IsReady steps
   pub room : length steps ≤ now.room
+  pub hasher : now.hasher ≡ before.hasher
   pub most : bytes_in now.rows + bytes_put (changes_of steps) ≤ bytes_in before.rows + bytes_put all
   pub freed : gone ≡ min (bytes_in before.rows + bytes_put all - (bytes_in now.rows + bytes_put (changes_of steps))) (2 ^ 128 - 1)
 
