@@ -1,8 +1,8 @@
 //! What keys have at a moment, as a store answers it.
-ghost use Rattle.std.specs.Prelude.{◌≡◌, ◌⊎◌, IfOk, ◌+◌, map, option_map};
+ghost use Rattle.std.specs.Prelude.{◌≡◌, ◌⊎◌, ◌<◌, ◌^◌, [], ◌∷◌, ◌++◌, IfOk, OnOk, option_map};
 ghost use Rattle.keeper_core.specs.Rows.{seen};
 ghost use Rattle.state_core.specs.Current.{live_at, version_of};
-ghost use Rattle.state_core.specs.Reply.{reading, found_of, bulk_row, bulk_len, bulk_reading};
+ghost use Rattle.state_core.specs.Reply.{reading, found_of, value_len, bulk_reading};
 
 use crate::{BulkRow, Found, Keys, Reply, Rows};
 use keeper_core::{Keeper, RowView};
@@ -50,55 +50,49 @@ pub(crate) fn get<K: Keeper>(keeper: &K, key: &Text, moment: u64) -> Reply
 /// The most bytes of values that a bulk get answers.
 pub const BULK_LIMIT: u128 = 67_108_864;
 
-/// The reply to a `Bulk`. No value is copied where they are too long.
+/// The reply to a `Bulk`. Each key is looked up once; behind the limit no more values are copied.
 pub(crate) fn bulk<K: Keeper>(alloc: Global, keeper: &K, keys: &Keys, moment: u64) -> Reply
     ensures { (result ≡ bulk_reading (K.rows keeper.now) moment keys.now) ⊎ (result ≡ Reply.NoMemory) }
 {
-    let len = bulk_len(keeper, keys, moment);
+    let mut rows = Rows::new(alloc);
+    let mut len = 0;
+    for place in 0..keys.len() {
+        let key = keys.at(place);
+        let row = live_row(keeper, key.as_str(), moment);
+        len += value_len(&row);
+        if len <= BULK_LIMIT && push_row(&mut rows, key, &row).is_err() {
+            return Reply::NoMemory;
+        }
+    }
     if len > BULK_LIMIT {
         return Reply::TooLong { len };
     }
-    match bulk_rows(alloc, keeper, keys, moment) {
-        Ok(rows) => Reply::Rows { rows },
-        Err(_) => Reply::NoMemory,
+    Reply::Rows { rows }
+}
+
+/// The bytes of the value of a row; none, where there is no row.
+fn value_len(row: &Option<RowView<'_>>) -> u128
+    ensures exact { result ≡ value_len (seen row.now) }
+    ensures limit { result < 2 ^ 64 }
+{
+    match row {
+        Some(row) => row.value.len() as u128,
+        None => 0,
     }
 }
 
-/// The bytes of the values that keys have.
-fn bulk_len<K: Keeper>(keeper: &K, keys: &Keys, moment: u64) -> u128
-    ensures { result ≡ bulk_len (K.rows keeper.now) moment keys.now }
+/// Appends what a key has, copied.
+fn push_row(rows: &mut Rows, key: &Text, row: &Option<RowView<'_>>) -> Result<(), NoMemory>
+    ensures { OnOk result (rows.new ≡ rows.old ++ record { key = key.now; found = option_map found_of (seen row.now) } ∷ []) }
 {
-    let mut len = 0;
-    for place in 0..keys.len() {
-        if let Some(row) = live_row(keeper, keys.at(place).as_str(), moment) {
-            len += row.value.len() as u128;
-        }
-    }
-    len
-}
-
-/// What each key has, copied.
-fn bulk_rows<K: Keeper>(
-    alloc: Global,
-    keeper: &K,
-    keys: &Keys,
-    moment: u64,
-) -> Result<Rows, NoMemory>
-    ensures { IfOk result (λ rows. rows ≡ map (bulk_row (K.rows keeper.now) moment) keys.now) }
-{
-    let mut rows = Rows::new(alloc);
-    for place in 0..keys.len() {
-        let key = keys.at(place);
-        let found = match live_row(keeper, key.as_str(), moment) {
-            Some(row) => Some(copied(&row)?),
-            None => None,
-        };
-        rows.push(BulkRow {
-            key: key.copy()?,
-            found,
-        })?;
-    }
-    Ok(rows)
+    let found = match row {
+        Some(row) => Some(copied(row)?),
+        None => None,
+    };
+    rows.push(BulkRow {
+        key: key.copy()?,
+        found,
+    })
 }
 
 /// A value with its version, copied.
