@@ -1,5 +1,5 @@
 -- Places in the order of their keys, without one of them.
-use Rattle.std.proofs.Common.{◌≡◌, ◌≢◌, inl, inr, ℕ, ◌+◌, ◌<◌, ◌≤◌, ◌==◌, true, false, cond, not, List, [], ◌∷◌, ◌++◌, length, refl, sym, ap, ◌∙◌, subst, arith}
+use Rattle.std.proofs.Common.{◌≡◌, ◌≢◌, inl, inr, ℕ, zero, suc, ◌+◌, ◌<◌, ◌≤◌, ◌==◌, true, false, cond, not, List, [], ◌∷◌, ◌++◌, length, refl, sym, ap, ◌∙◌, subst, arith}
 use Rattle.std.specs.Prelude.{is_some}
 use Rattle.std.specs.Ordering.{is_lt, is_eq}
 use Rattle.std.specs.FinMap.{is_sorted}
@@ -57,6 +57,13 @@ length-without_slot slot (place ∷ list) = elim (eqb_tells slot place) [
   | inl e ↦ omega (arith, ap length (dropped slot place list e.1), length-without_slot slot list, times-cons slot place list, one_here slot place e.1)
   | inr e ↦ omega (arith, ap length (left slot place list e.1), length-without_slot slot list, times-cons slot place list, one_other slot place e.1)
 ]
+
+-- a list that has all places below a number is as long as that
+pub all_long : (most : ℕ) (list : List ℕ) → ((slot : ℕ) → slot < most → 0 < times slot list) → most ≤ length list
+all_long zero list all = omega arith
+all_long (suc last) list all =
+    let rest : last ≤ length (without_slot last list) = all_long last (without_slot last list) (λ slot h. omega (arith, times-without_other last list slot (λ is. absurd (omega (arith, is, h))), all slot (omega (arith, h)))) in
+    omega (arith, rest, length-without_slot last list, all last (omega arith))
 
 pub without_slot-proper : (slot : ℕ) (list : List ℕ) (most : ℕ) → Proper most list → Proper most (without_slot slot list)
 without_slot-proper slot list most proper = record {

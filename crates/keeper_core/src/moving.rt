@@ -6,8 +6,8 @@ ghost use Rattle.keeper_core.specs.declared.links.Link.{Link};
 
 use crate::links::{Link, left_at, parent_at, right_at, set_left, set_parent, set_right};
 
-/// Tells the neighbours of the node that stood behind the end of a list and stands at `slot` now where it stands, and answers the root of
-/// the tree.
+/// Tells the neighbours of a node that stood behind all others, and moved to `slot`, where it stands now, and answers the root of the tree.
+/// Where it was the last node itself that went, none moved.
 pub(crate) fn relink(links: &mut [Link], root: usize, slot: usize) -> usize
     ensures { (before : List Link) (shape : Shape) → MovesLast before links.old shape root slot (Relinked before links.new shape slot result) }
 {
