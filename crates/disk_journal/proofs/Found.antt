@@ -1,13 +1,15 @@
 -- What stands at the place of a gate, by the bytes there.
-use Rattle.std.proofs.Common.{◌≡◌, ◌≢◌, ℕ, zero, suc, ◌+◌, ◌-◌, ◌^◌, ◌<◌, ◌≤◌, List, [], ◌∷◌, ◌++◌, length, take, drop, get_or, refl, sym, ◌∙◌, ap, subst, arith, append_assoc, length-append, length-drop, take-append-drop}
+use Rattle.std.proofs.Common.{◌≡◌, ◌≢◌, ◌⊎◌, inl, inr, min, ℕ, zero, suc, ◌+◌, ◌-◌, ◌^◌, ◌<◌, ◌≤◌, List, [], ◌∷◌, ◌++◌, length, take, drop, get_or, refl, sym, ◌∙◌, ap, subst, arith, append_assoc, length-append, length-drop, take-append-drop}
 use Rattle.std.proofs.Math.ListN.{replicate}
 use Rattle.std.proofs.Math.Seq.{take-length}
-use Rattle.std.proofs.lemmas.List.{length-replicate, length-take-le}
-use Rattle.std.proofs.lemmas.Nat.{le_bytes_8}
+use Rattle.std.proofs.lemmas.List.{length-replicate, length-take-le, take_at, take-append-le, drop-append-le}
+use Rattle.std.proofs.lemmas.Bool.{cases_order}
+use Rattle.std.proofs.lemmas.Nat.{le_bytes_8, from_le_bytes-to_le_bytes_8}
 use Rattle.std.specs.Int.{w64, to_le_bytes, from_le_bytes}
 use Rattle.disk_journal.specs.Image.{record_of}
 use Rattle.disk_journal.specs.Parsing.{BeginsWith}
 use Rattle.disk_journal.specs.Refusal.{IsPart}
+use Rattle.disk_journal.proofs.Images.{length-len, length-record_of}
 
 -- all bytes are below 256
 abbrev pub AreBytes : List ℕ → Type 0
@@ -120,3 +122,25 @@ module _ (bytes : List ℕ) (are : AreBytes bytes) (some : 1 ≤ length bytes) (
           has_length = omega (arith, long, is, below eight eight_are);
           bytes_are = all ∙ ap (λ z. 1 ∷ z) (ap (λ z. eight ++ z) parts ∙ sym (append_assoc eight body rest) ∙ ap (λ z. (z ++ body) ++ rest) (sym says));
         }
+
+at_least_one : (missing : List ℕ) → missing ≢ [] → 1 ≤ length missing
+at_least_one [] some = absurd (some refl)
+at_least_one (x ∷ missing) some = omega arith
+
+-- a part of a record is shorter than the record, whose length is told by the eight bytes behind its gate
+pub part_is_shorter : (bytes more eight : List ℕ) → 9 ≤ length bytes → eight ≡ take 8 (drop 1 bytes) → IsPart (bytes ++ more) → length (bytes ++ more) < from_le_bytes w64 eight + 9
+part_is_shorter bytes more eight nine is part =
+    let le = to_le_bytes w64 (length part.body) in
+    let behind = more ++ part.missing in
+    let whole : bytes ++ behind ≡ record_of part.body = sym (append_assoc bytes more part.missing) ∙ part.whole in
+    let first : drop 1 bytes ++ behind ≡ le ++ part.body = sym (drop-append-le 1 bytes behind (omega (arith, nine))) ∙ ap (drop 1) whole in
+    let same : eight ≡ le = is ∙ sym (take-append-le 8 (drop 1 bytes) behind (omega (arith, nine, length-drop 1 bytes))) ∙ ap (take 8) first ∙ take_at le part.body 8 (length-len (length part.body)) in
+    let told : from_le_bytes w64 eight ≡ length part.body = ap (from_le_bytes w64) same ∙ from_le_bytes-to_le_bytes_8 (length part.body) part.has_length in
+    omega (arith, told, at_least_one part.missing part.some, ap length part.whole, length-append (bytes ++ more) part.missing, length-record_of part.body)
+
+pub at_most : {read told n long : ℕ} → told ≡ read → n ≡ min (told + 9) (2 ^ 64 - 1) → long < read + 9 → (long < n) ⊎ (n ≡ 2 ^ 64 - 1)
+at_most {read} {told} {n} {long} same is shorter = elim (cases_order (told + 9) (2 ^ 64 - 1)) [
+  | inl at_it ↦ inr (omega (arith, is, at_it))
+  | inr (inl below) ↦ inl (omega (arith, is, below, same, shorter))
+  | inr (inr above) ↦ inr (omega (arith, is, above))
+]

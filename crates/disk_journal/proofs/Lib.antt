@@ -4,13 +4,14 @@ pub mod Crashes
 pub mod Formatted
 pub mod Found
 pub mod Gates
+pub mod GivenBodies
 pub mod Headers
 pub mod Images
 pub mod OnResult
-pub mod Parsed
-pub mod Read
+pub mod Opened
 pub mod Runs
 pub mod Staged
 pub mod Unique
-pub mod Walked
+pub mod Wanted
+pub mod Windows
 pub mod Writes

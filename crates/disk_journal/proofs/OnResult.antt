@@ -1,5 +1,5 @@
 -- What holds where a call succeeds, or fails.
-use Rattle.std.proofs.Common.{Result, Ok, Err, OnOk, OnErr, IfOk, IfErr}
+use Rattle.std.proofs.Common.{◌≡◌, Result, Ok, Err, OnOk, OnErr, IfOk, IfErr}
 
 pub on_ok : {X E : Type 0} (result : Result X E) {P Q : Type 0} → (P → Q) → OnOk result P → OnOk result Q
 on_ok (Ok x) leads holds = leads holds
@@ -16,3 +16,6 @@ if_ok (Err e) P Q leads holds = tt
 pub if_err : {X E : Type 0} (result : Result X E) (P Q : E → Type 0) → ((e : E) → P e → Q e) → IfErr result P → IfErr result Q
 if_err (Ok x) P Q leads holds = tt
 if_err (Err e) P Q leads holds = leads e holds
+
+pub same_error : {X E : Type 0} {e f : E} → ◌≡◌ {A = Result X E} (Err e) (Err f) → e ≡ f
+same_error same = cc same

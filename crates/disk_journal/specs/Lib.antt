@@ -3,8 +3,9 @@ pub mod Image
 pub mod Journal
 pub mod Moments
 pub mod OneMore
+pub mod Opening
 pub mod Parsing
-pub mod Records
 pub mod Refusal
 pub mod Run
 pub mod Staging
+pub mod Window

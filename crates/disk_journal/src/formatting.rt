@@ -7,6 +7,12 @@ use crate::JournalErr;
 use crate::writing::sync;
 use side_world::Disk;
 
+/// How many bytes the header has: the first gate stands behind them.
+pub(crate) const HEADER_BYTES: usize = 16;
+
+/// What a record has beside its body: its gate, and the eight bytes of the body's length.
+pub(crate) const RECORD_BYTES: usize = 9;
+
 /// What a file of no bodies has: the header, and a closed gate.
 pub(crate) const EMPTY: [u8; 17] = *b"SIDEJNL2\0\0\0\0\0\0\0\0\0";
 

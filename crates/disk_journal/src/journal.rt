@@ -1,15 +1,13 @@
 ghost use Rattle.std.specs.Prelude.{◌+◌, ◌<◌, ◌≤◌, ◌^◌};
 
-use crate::formatting::format;
-use crate::loading::read_all;
-use crate::parsing::gate_of;
+use crate::formatting::{HEADER_BYTES, format};
+use crate::holding::pass_header;
+use crate::loading::{copied, synced_len};
+use crate::window::Window;
 use crate::writing::{set_gate, stage};
-use crate::{Bodies, JournalErr, Records};
+use crate::{Bodies, JournalErr, Opening};
 use side_world::Disk;
 use std::alloc::Global;
-
-/// How many bytes stand before the first gate.
-const HEADER_BYTES: u64 = 16;
 
 /// A list of byte strings, the bodies, in the file of a disk. An append is acknowledged once its body is on the disk.
 ///
@@ -29,12 +27,12 @@ pub struct Journal<D: Disk> {
 }
 
 impl<D: Disk> Journal<D> {
-    ghost use Rattle.std.specs.Prelude.{◌≡◌, ◌⊎◌, ◌↔◌, ◌<◌, ◌+◌, ◌≤◌, max, true, false, ℕ, List, [], ◌∷◌, ◌++◌, length, Some, None, Err, IfOk, IfErr, IsOk, OnOk, OnErr};
+    ghost use Rattle.std.specs.Prelude.{◌≡◌, ◌⊎◌, ◌↔◌, ◌<◌, ◌+◌, ◌≤◌, ◌^◌, max, true, false, ℕ, List, [], ◌∷◌, ◌++◌, length, Some, None, Err, IfOk, IfErr, IsOk, OnOk, OnErr};
     ghost use Rattle.side_world.specs.Faults.{Rose};
     ghost use Rattle.disk_journal.specs.Image.{header, IsImage, IsWithOrWithout, end_of};
     ghost use Rattle.disk_journal.specs.Journal.{disk_of, len_of, limit_of, torn_of, Holds};
     ghost use Rattle.disk_journal.specs.Moments.{Reads, Shows, AtEachMoment, ChangesNothing};
-    ghost use Rattle.disk_journal.specs.Records.{bytes_in, IsOver};
+    ghost use Rattle.disk_journal.specs.Opening.{opening_disk, opening_limit, HasGiven};
     ghost use Rattle.disk_journal.specs.Refusal.{IsNoJournal};
     ghost use Rattle.disk_journal.specs.declared.error.JournalErr.TheVariants.{Failed, NotAJournal, Full};
 
@@ -53,12 +51,7 @@ impl<D: Disk> Journal<D> {
         ensures no_fewer_given_back { IfErr result (λ e. D.faults disk ≤ D.faults e.0) }
     {
         match format(&mut disk) {
-            Ok(()) => Ok(Journal {
-                disk,
-                end: HEADER_BYTES,
-                limit,
-                torn: false,
-            }),
+            Ok(()) => Ok(Journal::over(disk, HEADER_BYTES as u64, limit)),
             Err(error) => Err((disk, error)),
         }
     }
@@ -84,58 +77,61 @@ impl<D: Disk> Journal<D> {
         ensures not_full { IfErr result (λ e. (len : ℕ) → e.1 ≡ Full len → ⊥) }
         ensures no_fewer_given_back { IfErr result (λ e. D.faults disk ≤ D.faults e.0) }
     {
-        let (journal, records) = match Journal::open(alloc, disk, limit) {
-            Ok(opened) => opened,
+        let mut opening = match Journal::open(alloc, disk, limit) {
+            Ok(opening) => opening,
             Err(error) => return Err(error),
         };
-        match records.copied(alloc) {
-            Ok(bodies) => Ok((journal, bodies)),
-            Err(_) => Err((journal.into_disk(), JournalErr::NoMemory)),
+        match copied(alloc, &mut opening) {
+            Ok(bodies) => Ok((opening.into_journal(), bodies)),
+            Err(error) => Err((opening.into_disk(), error)),
         }
     }
 
-    /// Opens the journal of a disk, and gives the bytes of its file, which lend its bodies; has all that was written reach the disk first.
-    /// Takes memory for those bytes alone. `limit` is the greatest length of the file, in bytes, that an append may lead to.
+    /// Begins to open the journal of a disk; has all that was written reach the disk first. The opening gives the bodies, one after the
+    /// other, and then the journal. `limit` is the greatest length of the file, in bytes, that an append may lead to.
     ///
-    /// Refuses with `NotAJournal` at the first byte of the header that differs, at the length of a file with no room for the header, at
-    /// the gate of an open record that runs past the end, or at the end where a gate should stand; the disk is given back.
-    pub fn open(
-        alloc: Global,
-        mut disk: D,
-        limit: u64,
-    ) -> Result<(Journal<D>, Records), (D, JournalErr)>
-        // The bytes are a file of the bodies that the journal holds, and where the disk tells what a read gives, they are that.
-        ensures holds { IfOk result (λ opened. IsOver D.Disk (bytes_in opened.1) opened.0) }
-        ensures read { IfOk result (λ opened. Reads D.Disk disk (λ bytes. bytes_in opened.1 ≡ bytes)) }
+    /// Takes memory for a block of the file, of 1 MiB at most, and later for a longer record. Refuses with `NotAJournal` at the first byte
+    /// of the header that differs, or at the length of a file with no room for the header; the disk is given back.
+    pub fn open(alloc: Global, mut disk: D, limit: u64) -> Result<Opening<D>, (D, JournalErr)>
+        ensures given { IfOk result (λ opening. HasGiven D.Disk disk opening []) }
         ensures refused { IfErr result (λ e. (at : ℕ) → e.1 ≡ NotAJournal at → Reads D.Disk disk (λ bytes. IsNoJournal bytes at)) }
         ensures refused_only { IfErr result (λ e. (at : ℕ) → e.1 ≡ NotAJournal at → Reads D.Disk disk (λ bytes. (bodies : List (List ℕ)) → IsImage bytes bodies → ⊥)) }
-        ensures limit { IfOk result (λ opened. limit_of opened.0 ≡ limit) }
+        ensures limit { IfOk result (λ opening. opening_limit opening ≡ limit) }
 
         // A crash inside it leaves what one before it might have left.
-        ensures opened { IfOk result (λ opened. ChangesNothing D.Disk disk (disk_of opened.0)) }
         ensures given_back { IfErr result (λ e. ChangesNothing D.Disk disk e.0) }
 
         ensures failed { IfErr result (λ e. e.1 ≡ Failed → Rose (D.faults disk) (D.faults e.0)) }
-        ensures no_fault { IfOk result (λ opened. D.faults (disk_of opened.0) ≡ D.faults disk) }
+        ensures no_fault { IfOk result (λ opening. D.faults (opening_disk opening) ≡ D.faults disk) }
         ensures no_fault_given_back { IfErr result (λ e. (e.1 ≡ Failed → ⊥) → D.faults e.0 ≡ D.faults disk) }
         ensures not_full { IfErr result (λ e. (len : ℕ) → e.1 ≡ Full len → ⊥) }
         ensures no_fewer_given_back { IfErr result (λ e. D.faults disk ≤ D.faults e.0) }
     {
-        let bytes = match read_all(alloc, &mut disk) {
-            Ok(bytes) => bytes,
-            Err(e) => return Err((disk, e)),
+        let len = match synced_len(&mut disk) {
+            Ok(len) => len,
+            Err(error) => return Err((disk, error)),
         };
-        match gate_of(&bytes) {
-            Ok(end) => {
-                let journal = Journal {
-                    disk,
-                    end,
-                    limit,
-                    torn: false,
-                };
-                Ok((journal, Records { bytes }))
-            }
-            Err(e) => Err((disk, e)),
+        let mut window = Window::new(alloc, disk, len);
+        match pass_header(&mut window) {
+            Ok(()) => Ok(Opening { window, limit }),
+            Err(error) => Err((window.into_disk(), error)),
+        }
+    }
+
+    /// The journal of a disk whose closed gate stands at place `end`.
+    pub(crate) fn over(disk: D, end: u64, limit: u64) -> Journal<D>
+        requires within { end + 1 ≤ D.size disk }
+        requires counted { end + 1 < 2 ^ 64 }
+        ensures disk { disk_of result ≡ disk }
+        ensures len { len_of result ≡ end + 1 }
+        ensures torn { torn_of result ≡ false }
+        ensures limit { limit_of result ≡ limit }
+    {
+        Journal {
+            disk,
+            end,
+            limit,
+            torn: false,
         }
     }
 

@@ -3,14 +3,18 @@
 
 mod error;
 mod formatting;
+mod holding;
 mod journal;
 pub mod laws;
 mod loading;
+mod opening;
 mod parsing;
-mod records;
+mod reading;
+mod window;
 mod writing;
 
 pub use error::JournalErr;
 pub use formatting::format;
 pub use journal::Journal;
-pub use records::{Bodies, Records, Walk};
+pub use loading::Bodies;
+pub use opening::Opening;

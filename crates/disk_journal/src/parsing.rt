@@ -1,17 +1,13 @@
 //! Where the bytes of a file have their records, and where they are no journal.
-ghost use Rattle.std.specs.Prelude.{◌≡◌, ◌≢◌, ◌<◌, ◌≤◌, ◌+◌, ◌^◌, ℕ, List, ◌++◌, length, take, slice_index, Err, IfSome, IfNone, IfOk};
-ghost use Rattle.disk_journal.specs.Image.{IsImage, header, end_of};
-ghost use Rattle.disk_journal.specs.Parsing.{IsFound};
-ghost use Rattle.disk_journal.specs.Refusal.{IsNoJournal, IsCutShort};
-ghost use Rattle.disk_journal.specs.declared.error.JournalErr.TheVariants.{Failed, NotAJournal, Full};
+ghost use Rattle.std.specs.Prelude.{◌≡◌, ◌≢◌, ◌⊎◌, ◌<◌, ◌≤◌, length, take, slice_index, IfSome, IfNone};
+ghost use Rattle.disk_journal.specs.Image.{header};
+ghost use Rattle.disk_journal.specs.Parsing.{IsFound, Suffices};
+ghost use Rattle.disk_journal.specs.Refusal.{IsTooShort, HasOtherHeader};
 
-use crate::JournalErr;
-use crate::formatting::EMPTY;
-
-/// How many bytes stand before the first gate.
-pub(crate) const HEADER_BYTES: usize = 16;
+use crate::formatting::{EMPTY, HEADER_BYTES, RECORD_BYTES};
 
 /// What stands at the place of a gate.
+#[derive(Clone, Copy)]
 pub(crate) enum Found<'b> {
     /// A gate that is not open.
     Closed,
@@ -21,45 +17,16 @@ pub(crate) enum Found<'b> {
     Record { body: &'b [u8], rest: &'b [u8] },
 }
 
-/// The place of the closed gate behind the records of a file.
-pub(crate) fn gate_of(bytes: &[u8]) -> Result<u64, JournalErr>
-    ensures image { IfOk result (λ end. (bodies : List (List ℕ)) × IsImage bytes.now bodies × (end ≡ end_of bodies)) }
-    ensures within { IfOk result (λ end. end + 1 ≤ length bytes.now) }
-    ensures refused { (at : ℕ) → result ≡ Err (NotAJournal at) → IsNoJournal bytes.now at }
-    ensures not_failed { result ≡ Err Failed → ⊥ }
-    ensures not_full { (len : ℕ) → result ≡ Err (Full len) → ⊥ }
+/// The place at which bytes begin with no header: the first that differs, or their length where that is below 16.
+pub(crate) fn header_fault(bytes: &[u8]) -> Option<usize>
+    ensures none { IfNone result (take 16 bytes.now ≡ header) }
+    ensures long { IfNone result (16 ≤ length bytes.now) }
+    ensures some { IfSome result (λ at. IsTooShort bytes.now at ⊎ HasOtherHeader bytes.now at) }
 {
     if bytes.len() < HEADER_BYTES {
-        let at = bytes.len() as u64;
-        return Err(JournalErr::NotAJournal { at });
+        return Some(bytes.len());
     }
-    if let Some(at) = first_difference(bytes, &EMPTY[..HEADER_BYTES]) {
-        return Err(JournalErr::NotAJournal { at: at as u64 });
-    }
-    gate_behind(&bytes[HEADER_BYTES..])
-}
-
-/// The place of the closed gate behind the records in `behind`, which stands behind the header.
-fn gate_behind(behind: &[u8]) -> Result<u64, JournalErr>
-    requires { 16 + length behind.now < 2 ^ 64 }
-    ensures image { IfOk result (λ end. (bodies : List (List ℕ)) × IsImage (header ++ behind.now) bodies × (end ≡ end_of bodies)) }
-    ensures within { IfOk result (λ end. end + 1 ≤ 16 + length behind.now) }
-    ensures refused { (at : ℕ) → result ≡ Err (NotAJournal at) → IsCutShort (header ++ behind.now) at }
-    ensures not_failed { result ≡ Err Failed → ⊥ }
-    ensures not_full { (len : ℕ) → result ≡ Err (Full len) → ⊥ }
-{
-    let mut end = HEADER_BYTES as u64;
-    let mut rest = behind;
-    loop {
-        match found_in(rest) {
-            Found::Closed => return Ok(end),
-            Found::Cut => return Err(JournalErr::NotAJournal { at: end }),
-            Found::Record { body, rest: after } => {
-                end += 9 + body.len() as u64;
-                rest = after;
-            }
-        }
-    }
+    first_difference(bytes, &EMPTY[..HEADER_BYTES])
 }
 
 /// The first place at which `bytes` and `wanted` differ, within the length of `wanted`.
@@ -97,4 +64,17 @@ pub(crate) fn found_in(bytes: &[u8]) -> Found<'_>
     }
     let (body, rest) = content.split_at(len as usize);
     Found::Record { body, rest }
+}
+
+/// How many bytes show whether the record at the front of `bytes` is whole: all of it, where its length stands there.
+pub(crate) fn wanted_of(bytes: &[u8]) -> u64
+    ensures { Suffices bytes.now result }
+{
+    let [_, behind @ ..] = bytes else {
+        return 0;
+    };
+    let Some((len, _)) = behind.split_first_chunk::<8>() else {
+        return 0;
+    };
+    u64::from_le_bytes(*len).saturating_add(RECORD_BYTES as u64)
 }

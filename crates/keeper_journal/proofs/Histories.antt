@@ -8,9 +8,6 @@ use Rattle.keeper_core.specs.declared.changes.Changes.{Changes}
 use Rattle.disk_journal.specs.Image.{end_of}
 use Rattle.keeper_journal.specs.Body.{IsBodyOf}
 use Rattle.keeper_journal.specs.History.{rows_after, rows_of, next_after, next_of, MayFollow, SayFrom, Say, IsFaultyAt}
-use Rattle.disk_journal.specs.Records.{HasLeft, GivesNext}
-use Rattle.disk_journal.specs.declared.records.Walk.{Walk}
-use Rattle.disk_journal.proofs.Images.{end_of-nil, end_of-push, end_of-front}
 use Rattle.keeper_journal.specs.Following.{Follows, SaysNoneAfter, HasReplayed}
 use Rattle.keeper_journal.specs.declared.following.Replay.{Replay}
 use Rattle.keeper_journal.proofs.Bodies.{same_body}
@@ -90,65 +87,27 @@ one_faulty_place bodies at other p q =
     let front = one_front 1 p.before p.body p.behind p.commits q.before q.body q.behind q.commits (sym p.bodies_are ∙ q.bodies_are) p.say q.say p.says_none q.says_none in
     p.gate ∙ ap end_of front ∙ sym q.gate
 
--- a loop over all bodies has the rest left, and what the commits before that leave
-pub record ReplayedSoFar (all rest : List (List ℕ)) (replay : Replay) (at : ℕ) : Type 0 where
-  pub before : List (List ℕ)
-  pub commits : List Changes
-  pub bodies_are : all ≡ before ++ rest
-  pub say : Say before commits
-  pub rows : replay.table.rows ≡ rows_of commits
-  pub next : replay.next ≡ next_of commits
-  pub gate : at ≡ end_of before
+pub replayed_none : (replay : Replay) → replay.table.rows ≡ empty → replay.next ≡ 1 → HasReplayed [] replay
+replayed_none replay rows next = record { commits = []; say = tt; rows = rows; next = next }
 
-pub replayed_none : (all : List (List ℕ)) (replay : Replay) → replay.table.rows ≡ empty → replay.next ≡ 1 → ReplayedSoFar all all replay 16
-replayed_none all replay rows next = record { before = []; commits = []; bodies_are = refl; say = tt; rows = rows; next = next; gate = sym end_of-nil }
-
-pub replayed_more : (all rest after : List (List ℕ)) (body : List ℕ) (old new : Replay) (at : ℕ) → ReplayedSoFar all rest old at → rest ≡ body ∷ after → Follows body old new → ReplayedSoFar all after new (at + (9 + length body))
-replayed_more all rest after body old new at so_far is follows =
+pub replayed_more : (bodies : List (List ℕ)) (body : List ℕ) (old new : Replay) → HasReplayed bodies old → Follows body old new → HasReplayed (bodies ++ body ∷ []) new
+replayed_more bodies body old new so_far follows =
     let may : MayFollow (next_of so_far.commits) follows.commit = subst (λ (n : ℕ). MayFollow n follows.commit) so_far.next follows.may in
     record {
-      before = so_far.before ++ body ∷ [];
       commits = so_far.commits ++ follows.commit ∷ [];
-      bodies_are = so_far.bodies_are ∙ ap (λ (r : List (List ℕ)). so_far.before ++ r) is ∙ sym (append_assoc so_far.before (body ∷ []) after);
-      say = say_more 1 so_far.before so_far.commits body follows.commit so_far.say follows.says may;
+      say = say_more 1 bodies so_far.commits body follows.commit so_far.say follows.says may;
       rows = follows.rows ∙ ap (λ (r : Rows). after_changes r follows.commit.list) so_far.rows ∙ sym (rows-more empty so_far.commits follows.commit);
       next = follows.next ∙ sym (next-more 1 so_far.commits follows.commit);
-      gate = omega (arith, so_far.gate, end_of-push so_far.before body);
     }
 
--- each gate's place is a number of 64 bits where the last is
-pub gates_fit : (all rest after : List (List ℕ)) (body : List ℕ) (replay : Replay) (at : ℕ) → ReplayedSoFar all rest replay at → rest ≡ body ∷ after → end_of all < 2 ^ 64 → at + (9 + length body) < 2 ^ 64
-gates_fit all rest after body replay at so_far is fits =
-    let whole : all ≡ (so_far.before ++ body ∷ []) ++ after = so_far.bodies_are ∙ ap (λ (r : List (List ℕ)). so_far.before ++ r) is ∙ sym (append_assoc so_far.before (body ∷ []) after) in
-    omega (arith, ap end_of whole, end_of-front (so_far.before ++ body ∷ []) after, end_of-push so_far.before body, so_far.gate, fits)
-
-pub is_faulty : (all rest after : List (List ℕ)) (body : List ℕ) (replay : Replay) (at : ℕ) → ReplayedSoFar all rest replay at → rest ≡ body ∷ after → SaysNoneAfter replay.next body → IsFaultyAt all at
-is_faulty all rest after body replay at so_far is none = record {
-  before = so_far.before;
+pub is_faulty : (before behind : List (List ℕ)) (body : List ℕ) (replay : Replay) (at : ℕ) → HasReplayed before replay → SaysNoneAfter replay.next body → at ≡ end_of before → IsFaultyAt ((before ++ body ∷ []) ++ behind) at
+is_faulty before behind body replay at so_far none gate = record {
+  before = before;
   body = body;
-  behind = after;
+  behind = behind;
   commits = so_far.commits;
-  bodies_are = so_far.bodies_are ∙ ap (λ (r : List (List ℕ)). so_far.before ++ r) is;
+  bodies_are = append_assoc before (body ∷ []) behind;
   say = so_far.say;
   says_none = subst (λ (n : ℕ). SaysNoneAfter n body) so_far.next none;
-  gate = so_far.gate;
-}
-
-pub replayed_all : (all rest : List (List ℕ)) (replay : Replay) (at : ℕ) → ReplayedSoFar all rest replay at → rest ≡ [] → HasReplayed all replay
-replayed_all all rest replay at so_far is =
-    let whole : so_far.before ≡ all = sym (so_far.bodies_are ∙ ap (λ (r : List (List ℕ)). so_far.before ++ r) is ∙ append-nil so_far.before) in
-    record { commits = so_far.commits; say = subst (λ (b : List (List ℕ)). Say b so_far.commits) whole so_far.say; rows = so_far.rows; next = so_far.next }
-
--- a loop over the bodies of a walk
-pub record WalkedSoFar (all : List (List ℕ)) (walk : Walk) (replay : Replay) (at : ℕ) : Type 0 where
-  pub rest : List (List ℕ)
-  pub left : HasLeft walk rest
-  pub so_far : ReplayedSoFar all rest replay at
-
-pub walked_more : (all : List (List ℕ)) (old new : Walk) (body : List ℕ) (before after : Replay) (at : ℕ) → (walked : WalkedSoFar all old before at) → GivesNext walked.rest new (Some body) → Follows body before after
-    → WalkedSoFar all new after (at + (9 + length body))
-walked_more all old new body before after at walked given follows = record {
-  rest = given.0;
-  left = given.2;
-  so_far = replayed_more all walked.rest given.0 body before after at walked.so_far given.1 follows;
+  gate = gate;
 }

@@ -1,7 +1,10 @@
 -- What a body does to the rows and the next version so far.
-use Rattle.std.specs.Prelude.{◌≡◌, ℕ, List}
+use Rattle.std.specs.Prelude.{◌≡◌, ℕ, List, Bool, true, false}
+use Rattle.side_world.specs.declared.disk.Disk.{Ghosts}
 use Rattle.keeper_core.specs.Changes.{after_changes}
 use Rattle.keeper_core.specs.declared.changes.Changes.{Changes}
+use Rattle.disk_journal.specs.Opening.{HasGiven, HasGivenAll}
+use Rattle.disk_journal.specs.declared.opening.Opening.{Opening}
 use Rattle.keeper_journal.specs.Body.{IsBodyOf}
 use Rattle.keeper_journal.specs.History.{MayFollow, Say, rows_of, next_of}
 use Rattle.keeper_journal.specs.declared.following.Replay.{Replay}
@@ -24,3 +27,20 @@ pub record HasReplayed (bodies : List (List ℕ)) (replay : Replay) : Type 0 whe
   pub say : Say bodies commits
   pub rows : replay.table.rows ≡ rows_of commits
   pub next : replay.next ≡ next_of commits
+
+-- The bodies that were given so far, by calls since this disk, say commits, and all were made.
+pub record HasFollowed {D : Type 0} (disking : Ghosts D) (first : D) (opening : Opening D disking) (replay : Replay) : Type 0 where
+  pub bodies : List (List ℕ)
+  pub given : HasGiven disking first opening bodies
+  pub replayed : HasReplayed bodies replay
+
+-- so do all bodies
+pub record HasFollowedAll {D : Type 0} (disking : Ghosts D) (first : D) (opening : Opening D disking) (replay : Replay) : Type 0 where
+  pub bodies : List (List ℕ)
+  pub given : HasGivenAll disking first opening bodies
+  pub replayed : HasReplayed bodies replay
+
+-- one more body was followed, or there is none
+abbrev pub FollowsNext : {D : Type 0} (disking : Ghosts D) → D → Opening D disking → Replay → Bool → Type 0
+FollowsNext disking first opening replay true = HasFollowed disking first opening replay
+FollowsNext disking first opening replay false = HasFollowedAll disking first opening replay

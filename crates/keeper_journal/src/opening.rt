@@ -34,12 +34,12 @@ pub(crate) fn opened<D: Disk>(
     ensures no_fault_given_back { IfErr result (λ e. (e.1 ≡ Failed → ⊥) → D.faults e.0 ≡ D.faults disk) }
     ensures no_fewer_given_back { IfErr result (λ e. D.faults disk ≤ D.faults e.0) }
 {
-    let (journal, records) = match Journal::open(alloc, disk, limit) {
-        Ok(opened) => opened,
+    let mut opening = match Journal::open(alloc, disk, limit) {
+        Ok(opening) => opening,
         Err(error) => return Err(error),
     };
-    match replay(alloc, records.walk(), secret) {
-        Ok(replay) => Ok(JournalKeeper::over(alloc, journal, replay)),
-        Err(error) => Err((journal.into_disk(), error)),
+    match replay(alloc, &mut opening, secret) {
+        Ok(replay) => Ok(JournalKeeper::over(alloc, opening.into_journal(), replay)),
+        Err(error) => Err((opening.into_disk(), error)),
     }
 }

@@ -1,42 +1,98 @@
-ghost use Rattle.std.specs.Prelude.{◌<◌, ◌^◌, ℕ, List, IfOk, IsErrOf};
-ghost use Rattle.disk_journal.specs.Image.{end_of};
-ghost use Rattle.disk_journal.specs.Records.{HasLeft};
+ghost use Rattle.std.specs.Prelude.{◌≡◌, ◌<◌, ◌≤◌, ℕ, List, [], ◌++◌, Ok, Err, true, IfOk, OnOk, IsErrOf};
+ghost use Rattle.side_world.specs.Faults.{Rose};
+ghost use Rattle.keeper_core.specs.declared.changes.Changes.{Changes};
+ghost use Rattle.disk_journal.specs.Image.{IsImage};
+ghost use Rattle.disk_journal.specs.Moments.{Reads, ChangesNothing};
+ghost use Rattle.disk_journal.specs.Opening.{opening_disk, opening_limit, left_of, HasGiven, HasGivenAll};
+ghost use Rattle.disk_journal.specs.Refusal.{IsNoJournal};
 ghost use Rattle.disk_journal.specs.declared.error.JournalErr.TheVariants.{Failed, NotAJournal, Full};
-ghost use Rattle.keeper_journal.specs.History.{IsFaultyAt};
-ghost use Rattle.keeper_journal.specs.Following.{HasReplayed};
+ghost use Rattle.keeper_journal.specs.History.{IsHistory, IsRefusedAt};
+ghost use Rattle.keeper_journal.specs.Following.{HasFollowed, HasFollowedAll, FollowsNext};
 
 use crate::BodyErr;
 use crate::following::Replay;
-use disk_journal::{JournalErr, Walk};
+use disk_journal::{JournalErr, Opening};
+use side_world::Disk;
 use std::alloc::Global;
 
-/// The place of the first gate of a file.
-const FIRST_GATE: u64 = 16;
-/// What a record has beside its body.
-const RECORD_BYTES: u64 = 9;
-
-/// What the commits leave that the bodies of a walk say, or the gate of the first body that says none which may follow. `secret` are random
-/// bytes, for the hash of keys.
-pub(crate) fn replay(
+/// What the commits leave that the bodies of an opening say, or the gate of the first body that says none which may follow. `secret` are
+/// random bytes, for the hash of keys.
+pub(crate) fn replay<D: Disk>(
     alloc: Global,
-    mut walk: Walk<'_>,
+    opening: &mut Opening<D>,
     secret: [u8; 16],
 ) -> Result<Replay, JournalErr>
-    requires { (bodies : List (List ℕ)) × HasLeft walk bodies × (end_of bodies < 2 ^ 64) }
-    ensures replayed { (bodies : List (List ℕ)) → HasLeft walk.entry bodies → IfOk result (HasReplayed bodies) }
-    ensures faulty { (bodies : List (List ℕ)) → HasLeft walk.entry bodies → (at : ℕ) → IsErrOf result (NotAJournal at) → IsFaultyAt bodies at }
-    ensures not_failed { IsErrOf result Failed → ⊥ }
+    ensures replayed { (first : D) → HasGiven D.Disk first opening.old [] → IfOk result (HasFollowedAll D.Disk first opening.new) }
+    ensures refused { (first : D) → HasGiven D.Disk first opening.old [] → (at : ℕ) → IsErrOf result (NotAJournal at) → Reads D.Disk first (λ bytes. IsRefusedAt bytes at) }
+    ensures refused_only { (first : D) → HasGiven D.Disk first opening.old [] → (at : ℕ) → IsErrOf result (NotAJournal at) → Reads D.Disk first (λ bytes. (commits : List Changes) → IsHistory bytes commits → ⊥) }
+    ensures changed { (first : D) → HasGiven D.Disk first opening.old [] → ChangesNothing D.Disk first (opening_disk opening.new) }
+    ensures limit { opening_limit opening.new ≡ opening_limit opening.old }
+    ensures failed { IsErrOf result Failed → Rose (D.faults (opening_disk opening.old)) (D.faults (opening_disk opening.new)) }
+    ensures no_fault { (IsErrOf result Failed → ⊥) → D.faults (opening_disk opening.new) ≡ D.faults (opening_disk opening.old) }
     ensures not_full { (len : ℕ) → IsErrOf result (Full len) → ⊥ }
+    ensures no_fewer { D.faults (opening_disk opening.old) ≤ D.faults (opening_disk opening.new) }
 {
     let mut replay = Replay::new(alloc, secret);
-    let mut at = FIRST_GATE;
-    while let Some(body) = walk.next_body() {
-        match replay.follow(alloc, body) {
-            Ok(()) => {}
-            Err(BodyErr::NotABody) => return Err(JournalErr::NotAJournal { at }),
-            Err(BodyErr::NoMemory) => return Err(JournalErr::NoMemory),
+    loop {
+        match follow_next(alloc, opening, &mut replay) {
+            Ok(true) => {}
+            Ok(false) => return Ok(replay),
+            Err(error) => return Err(error),
         }
-        at += RECORD_BYTES + body.len() as u64;
     }
-    Ok(replay)
+}
+
+/// Follows the next body, and tells whether there is one. Where a body says no commit that may follow, it reads on: a file that is no
+/// journal is refused as such.
+fn follow_next<D: Disk>(
+    alloc: Global,
+    opening: &mut Opening<D>,
+    replay: &mut Replay,
+) -> Result<bool, JournalErr>
+    ensures follows { (first : D) → HasFollowed D.Disk first opening.old replay.old → IfOk result (FollowsNext D.Disk first opening.new replay.new) }
+    ensures refused { (first : D) → HasFollowed D.Disk first opening.old replay.old → (at : ℕ) → result ≡ Err (NotAJournal at) → Reads D.Disk first (λ bytes. IsRefusedAt bytes at) }
+    ensures refused_only { (first : D) → HasFollowed D.Disk first opening.old replay.old → (at : ℕ) → result ≡ Err (NotAJournal at) → Reads D.Disk first (λ bytes. (commits : List Changes) → IsHistory bytes commits → ⊥) }
+    ensures changed { (first : D) → HasFollowed D.Disk first opening.old replay.old → ChangesNothing D.Disk first (opening_disk opening.new) }
+    ensures fewer { result ≡ Ok true → left_of opening.new < left_of opening.old }
+    ensures limit { opening_limit opening.new ≡ opening_limit opening.old }
+    ensures failed { result ≡ Err JournalErr.Failed → Rose (D.faults (opening_disk opening.old)) (D.faults (opening_disk opening.new)) }
+    ensures no_fault { (result ≡ Err JournalErr.Failed → ⊥) → D.faults (opening_disk opening.new) ≡ D.faults (opening_disk opening.old) }
+    ensures not_full { (len : ℕ) → result ≡ Err (Full len) → ⊥ }
+    ensures no_fewer { D.faults (opening_disk opening.old) ≤ D.faults (opening_disk opening.new) }
+{
+    let at = opening.gate();
+    match opening.advance() {
+        Ok(true) => {}
+        Ok(false) => return Ok(false),
+        Err(error) => return Err(error),
+    }
+    match replay.follow(alloc, opening.body()) {
+        Ok(()) => Ok(true),
+        Err(BodyErr::NoMemory) => Err(JournalErr::NoMemory),
+        Err(BodyErr::NotABody) => match pass_rest(opening) {
+            Ok(()) => Err(JournalErr::NotAJournal { at }),
+            Err(error) => Err(error),
+        },
+    }
+}
+
+/// Goes on to the closed gate.
+fn pass_rest<D: Disk>(opening: &mut Opening<D>) -> Result<(), JournalErr>
+    ensures all { (first : D) (bodies : List (List ℕ)) → HasGiven D.Disk first opening.old bodies → OnOk result ((more : List (List ℕ)) × HasGivenAll D.Disk first opening.new (bodies ++ more)) }
+    ensures refused { (first : D) (bodies : List (List ℕ)) → HasGiven D.Disk first opening.old bodies → (at : ℕ) → result ≡ Err (NotAJournal at) → Reads D.Disk first (λ bytes. IsNoJournal bytes at) }
+    ensures refused_only { (first : D) (bodies : List (List ℕ)) → HasGiven D.Disk first opening.old bodies → (at : ℕ) → result ≡ Err (NotAJournal at) → Reads D.Disk first (λ bytes. (others : List (List ℕ)) → IsImage bytes others → ⊥) }
+    ensures changed { (first : D) (bodies : List (List ℕ)) → HasGiven D.Disk first opening.old bodies → ChangesNothing D.Disk first (opening_disk opening.new) }
+    ensures limit { opening_limit opening.new ≡ opening_limit opening.old }
+    ensures failed { result ≡ Err JournalErr.Failed → Rose (D.faults (opening_disk opening.old)) (D.faults (opening_disk opening.new)) }
+    ensures no_fault { (result ≡ Err JournalErr.Failed → ⊥) → D.faults (opening_disk opening.new) ≡ D.faults (opening_disk opening.old) }
+    ensures not_full { (len : ℕ) → result ≡ Err (Full len) → ⊥ }
+    ensures no_fewer { D.faults (opening_disk opening.old) ≤ D.faults (opening_disk opening.new) }
+{
+    loop {
+        match opening.advance() {
+            Ok(true) => {}
+            Ok(false) => return Ok(()),
+            Err(error) => return Err(error),
+        }
+    }
 }
