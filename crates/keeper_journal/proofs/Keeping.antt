@@ -1,6 +1,8 @@
 -- Which commits a keeper keeps, from what its journal holds.
-use Rattle.std.proofs.Common.{◌≡◌, ◌⊎◌, inl, inr, ◌≤◌, ◌<◌, ◌^◌, ℕ, List, [], ◌∷◌, ◌++◌, Option, Some, None, sym, ◌∙◌, ap, subst}
+use Rattle.std.proofs.Common.{◌≡◌, ◌⊎◌, inl, inr, ◌≤◌, ◌<◌, ◌^◌, ℕ, Bool, false, List, [], ◌∷◌, ◌++◌, Option, Some, None, sym, ◌∙◌, ap, subst}
 use Rattle.std.proofs.Props.{props}
+use Rattle.std.proofs.lemmas.Bool.{false≢true}
+use Rattle.std.specs.Prelude.{is_some}
 use Rattle.std.specs.FinMap.{empty}
 use Rattle.side_world.specs.declared.disk.Disk.{Ghosts}
 use Rattle.keeper_core.specs.Rows.{Rows, IsCounted}
@@ -48,6 +50,11 @@ says_doubt bodies doubted commits doubt bytes say in_doubt (inr old) = inr (doub
 pub kept_file : (bodies : List (List ℕ)) (doubted : Option (List ℕ)) (commits : List Changes) (doubt : Option Changes) (bytes : List ℕ) → Say bodies commits → SaysDoubt (next_of commits) doubted doubt
     → IsFile bodies doubted bytes → WithDoubt (IsHistory bytes) commits doubt
 kept_file bodies doubted commits doubt bytes say in_doubt file = says_doubt bodies doubted commits doubt bytes say in_doubt (with_doubt bytes bodies doubted file)
+
+-- where no body is in doubt, it is one of just those commits
+pub just_kept : (bodies : List (List ℕ)) (doubted : Option (List ℕ)) (commits : List Changes) (bytes : List ℕ) → Say bodies commits → is_some doubted ≡ false → IsFile bodies doubted bytes → IsHistory bytes commits
+just_kept bodies None commits bytes say none file = record { bodies = bodies; image = file; say = say }
+just_kept bodies (Some body) commits bytes say none file = absurd (false≢true (sym none))
 
 pub doubt_says : (bodies : List (List ℕ)) (doubted : Option (List ℕ)) (commits : List Changes) (doubt : Option Changes) (commit : Changes) (bytes : List ℕ) → Say bodies commits → SaysDoubt (next_of commits) doubted doubt
     → storing.IsWithDoubt bodies doubted bytes → IsWithOneAtMost commits doubt commit bytes

@@ -14,7 +14,7 @@ use Rattle.disk_journal.specs.declared.error.JournalErr.TheVariants.{NotAJournal
 use Rattle.disk_journal.specs.declared.journal.Journal.{Journal}
 use Rattle.disk_journal.proofs.Crashes.{OnlyNow}
 use Rattle.disk_journal.proofs.Runs as runs
-use Rattle.keeper_journal.specs.AnyKeeper.{any_leads, KeptByAny, AnyReads}
+use Rattle.keeper_journal.specs.AnyKeeper.{any_leads, KeptByAny, AnyReads, IsWhole}
 use Rattle.keeper_journal.specs.declared.any_keeper.AnyKeeper.{AnyKeeper}
 use Rattle.keeper_journal.specs.declared.any_keeper.AnyKeeper.TheVariants as any
 use Rattle.keeper_journal.specs.History.{IsHistory}
@@ -22,7 +22,7 @@ use Rattle.keeper_journal.specs.JournalKeeper.{rows_in, next_in, disk_in}
 use Rattle.keeper_journal.specs.Kept.{Kept, KeptAs}
 use Rattle.keeper_journal.specs.Run.{HasAtMostOneMore, IsCall, KeepsOfRun, AfterACrash}
 use Rattle.keeper_journal.specs.declared.journal_keeper.JournalKeeper.{JournalKeeper}
-use Rattle.keeper_journal.proofs.Keeping.{kept_file}
+use Rattle.keeper_journal.proofs.Keeping.{kept_file, just_kept}
 
 -- a history is of some bytes
 some_bytes : (bytes : List ℕ) (commits : List Changes) → IsHistory bytes commits → length bytes ≢ 0
@@ -63,6 +63,17 @@ module _ {D : Type 0} (disking : Ghosts D) where
       subst (λ (cs : List Changes). HasAtMostOneMore (commits ++ cs) bytes) (sym (made_is answers) ∙ is)
       (runs.at_most_doubt (IsHistory bytes) (commits ++ acknowledged answers) then.0
       (kept_file then.1.bodies then.1.doubted (commits ++ acknowledged answers) then.0 bytes then.1.say then.1.in_doubt (then.1.holds.file.read bytes told)))
+
+  -- and what it has where its journal is not torn
+  pub disk_has_just : (first last : AnyKeeper D disking) (answers : List (Option Changes)) (commits made : List Changes) (doubt : Option Changes) → any_leads first answers last → core.acknowledged answers ≡ made → KeptByAny first commits doubt
+      → IsWhole last → AnyReads last (λ bytes. IsHistory bytes (commits ++ made))
+  disk_has_just (any.Memory first) (any.Memory last) answers commits made doubt leads is kept whole = tt
+  disk_has_just (any.Memory first) (any.Journal last) answers commits made doubt leads is kept whole = absurd leads
+  disk_has_just (any.Journal first) (any.Memory last) answers commits made doubt leads is kept whole = tt
+  disk_has_just (any.Journal first) (any.Journal last) answers commits made doubt leads is kept whole = λ bytes told.
+      let then = runs.held_behind disking disk_in (Kept disking) IsHistory first last answers commits doubt leads kept in
+      subst (λ (cs : List Changes). IsHistory bytes (commits ++ cs)) (sym (made_is answers) ∙ is)
+      (just_kept then.1.bodies then.1.doubted (commits ++ acknowledged answers) bytes then.1.say (sym then.1.holds.torn ∙ whole) (then.1.holds.file.read bytes told))
 
 module _ {D E : Type 0} (disking : Ghosts D) (others : Ghosts E) (only : OnlyNow disking) (disk : E) (as_long : (bytes : List ℕ) → others.contents disk ≡ Some bytes → others.size disk ≡ length bytes) where
   some_disk : (commits : List Changes) (c : List ℕ) → IsHistory c commits → others.contents disk ≡ Some c → others.size disk ≢ 0

@@ -1,5 +1,5 @@
 -- What a keeper of either kind shows.
-use Rattle.std.specs.Prelude.{ℕ, Bool, true, List, [], ◌++◌, Option, Some, None, refl}
+use Rattle.std.specs.Prelude.{◌≡◌, ℕ, Bool, true, false, List, [], ◌++◌, Option, Some, None, refl}
 use Rattle.side_world.specs.declared.disk.Disk.{Ghosts}
 use Rattle.keeper_core.specs.Rows.{Rows, bytes_in, IsCounted}
 use Rattle.keeper_core.specs.Changes.{after_changes}
@@ -8,6 +8,7 @@ use Rattle.keeper_core.specs.MemoryKeeper as memory
 use Rattle.keeper_core.specs.declared.changes.Change.{Change}
 use Rattle.keeper_core.specs.declared.changes.Changes.{Changes}
 use Rattle.keeper_journal.specs.JournalKeeper as journal
+use Rattle.disk_journal.specs.Journal.{torn_of}
 use Rattle.disk_journal.specs.Moments.{Reads}
 use Rattle.keeper_journal.specs.Kept.{Kept}
 use Rattle.keeper_journal.specs.Run.{Leads, leads_on}
@@ -62,6 +63,11 @@ KeptByAny {disking = disking} (Journal keeper) commits doubt = Kept disking keep
 abbrev pub AnyReads : {D : Type 0} {disking : Ghosts D} → AnyKeeper D disking → (List ℕ → Type 0) → Type 0
 AnyReads (Memory keeper) P = Unit {0}
 AnyReads {disking = disking} (Journal keeper) P = Reads disking (journal.disk_in keeper) P
+
+-- its journal, where it has one, is not torn: no commit failed at its gate since the last one that was made, or that repaired it
+abbrev pub IsWhole : {D : Type 0} {disking : Ghosts D} → AnyKeeper D disking → Type 0
+IsWhole (Memory keeper) = Unit {0}
+IsWhole (Journal keeper) = torn_of (journal.journal_in keeper) ≡ false
 
 -- its disk, where it has one
 abbrev pub any_disk : {D : Type 0} {disking : Ghosts D} → AnyKeeper D disking → Option D

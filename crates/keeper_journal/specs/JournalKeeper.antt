@@ -1,5 +1,6 @@
 -- What a keeper over a journal shows.
 use Rattle.std.specs.Prelude.{ℕ, ◌+◌, List}
+use Rattle.std.specs.declared.hash.DefaultHasher.{DefaultHasher}
 use Rattle.side_world.specs.declared.disk.Disk.{Ghosts}
 use Rattle.keeper_core.specs.Rows.{Rows}
 use Rattle.keeper_core.specs.declared.changes.Change.{Change}
@@ -10,6 +11,10 @@ use Rattle.keeper_journal.specs.declared.journal_keeper.JournalKeeper.{JournalKe
 
 abbrev pub rows_in : {D : Type 0} {disking : Ghosts D} → JournalKeeper D disking → Rows
 rows_in keeper = keeper.table.rows
+
+-- the hasher that keys are fed to
+abbrev pub hasher_in : {D : Type 0} {disking : Ghosts D} → JournalKeeper D disking → DefaultHasher
+hasher_in keeper = keeper.table.hasher
 
 abbrev pub next_in : {D : Type 0} {disking : Ghosts D} → JournalKeeper D disking → ℕ
 next_in keeper = keeper.next

@@ -17,7 +17,7 @@ impl<D: Disk> Keeper for JournalKeeper<D> {
     ghost use Rattle.disk_journal.specs.Journal.{torn_of};
     ghost use Rattle.disk_journal.specs.Moments.{AtEachMoment};
     ghost use Rattle.keeper_journal.specs.History.{IsWithOneAtMost};
-    ghost use Rattle.keeper_journal.specs.JournalKeeper.{rows_in, next_in, journal_in, disk_in, size_in, limit_in, size_with};
+    ghost use Rattle.keeper_journal.specs.JournalKeeper.{rows_in, next_in, journal_in, disk_in, size_in, limit_in, size_with, hasher_in};
     ghost use Rattle.keeper_journal.specs.Kept.{Kept, IsUndone, IsTooLong};
     ghost use Rattle.keeper_journal.specs.Run.{Leads, leads_on};
 
@@ -83,6 +83,7 @@ impl<D: Disk> Keeper for JournalKeeper<D> {
         ensures failed { result ≡ Err KeepErr.Failed → Rose (D.faults (disk_in self.old)) (D.faults (disk_in self.new)) }
         ensures unchanged { OnErr result ((rows_in self.new ≡ rows_in self.old) × (next_in self.new ≡ next_in self.old) × (size_in self.new ≡ size_in self.old)) }
         ensures stays { limit_in self.new ≡ limit_in self.old }
+        ensures hasher { hasher_in self.new ≡ hasher_in self.old }
         ensures rises { Rises true (D.faults (disk_in self.old)) (D.faults (disk_in self.new)) }
         ensures steady { (result ≡ Err KeepErr.Failed → ⊥) → D.faults (disk_in self.new) ≡ D.faults (disk_in self.old) }
 

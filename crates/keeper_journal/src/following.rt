@@ -2,6 +2,7 @@ ghost use Rattle.std.specs.Prelude.{◌≡◌, ◌↔◌, IsTrue, OnOk, IsErrOf}
 ghost use Rattle.std.specs.FinMap.{empty};
 ghost use Rattle.keeper_core.specs.Changes.{IsBelow, VersionsAreBelow};
 ghost use Rattle.keeper_core.specs.Rows.{IsCounted};
+ghost use Rattle.keeper_core.specs.Table.{fed};
 ghost use Rattle.keeper_journal.specs.Body.{IsBodyOf};
 ghost use Rattle.keeper_journal.specs.History.{MayFollow};
 
@@ -28,6 +29,7 @@ impl Replay {
     pub(crate) fn new(alloc: Global, secret: [u8; 16]) -> Replay
         ensures rows { result.table.rows ≡ empty }
         ensures next { result.next ≡ 1 }
+        ensures hasher { result.table.hasher ≡ fed secret }
     {
         Replay {
             table: RowTable::new(alloc, secret),
@@ -39,6 +41,7 @@ impl Replay {
     pub(crate) fn follow(&mut self, alloc: Global, body: &[u8]) -> Result<(), BodyErr>
         ensures followed { OnOk result (Follows body.now self.old self.new) }
         ensures none { IsErrOf result NotABody → SaysNoneAfter self.old.next body.now }
+        ensures hasher { self.new.table.hasher ≡ self.old.table.hasher }
     {
         let commit = match decode(alloc, body) {
             Ok(commit) => commit,

@@ -29,7 +29,8 @@ impl<D: Disk> JournalKeeper<D> {
     ghost use Rattle.disk_journal.specs.Moments.{Reads, ChangesNothing};
     ghost use Rattle.disk_journal.specs.declared.error.JournalErr.TheVariants.{NotAJournal, Full};
     ghost use Rattle.keeper_journal.specs.History.{IsHistory, IsRefusedAt};
-    ghost use Rattle.keeper_journal.specs.JournalKeeper.{rows_in, next_in, disk_in, limit_in};
+    ghost use Rattle.keeper_core.specs.Table.{fed};
+    ghost use Rattle.keeper_journal.specs.JournalKeeper.{rows_in, next_in, disk_in, limit_in, hasher_in};
     ghost use Rattle.keeper_journal.specs.Kept.{Kept};
 
     /// Makes a disk of length 0 a journal without commits, and opens any other. `limit` is the greatest length of the file behind
@@ -60,6 +61,10 @@ impl<D: Disk> JournalKeeper<D> {
         ensures given_back { D.size disk ≢ 0 → IfErr result (λ e. ChangesNothing D.Disk disk e.0) }
 
         ensures limit { IfOk result (λ keeper. limit_in keeper ≡ limit) }
+
+        // Its keys are fed to std's hasher behind the secret.
+        ensures hasher { IfOk result (λ keeper. hasher_in keeper ≡ fed secret) }
+
         ensures failed { IfErr result (λ e. e.1 ≡ JournalErr.Failed → Rose (D.faults disk) (D.faults e.0)) }
         ensures not_full { IfErr result (λ e. (len : ℕ) → e.1 ≡ Full len → ⊥) }
         ensures no_fault { IfOk result (λ keeper. D.faults (disk_in keeper) ≡ D.faults disk) }
@@ -82,6 +87,7 @@ impl<D: Disk> JournalKeeper<D> {
         ensures journal { result.journal ≡ journal }
         ensures rows { rows_in result ≡ replay.table.rows }
         ensures next { next_in result ≡ replay.next }
+        ensures hasher { hasher_in result ≡ replay.table.hasher }
     {
         JournalKeeper {
             alloc,
