@@ -1,5 +1,6 @@
 -- What a keeper of either kind shows.
 use Rattle.std.specs.Prelude.{◌≡◌, ℕ, Bool, true, false, List, [], ◌++◌, Option, Some, None, refl}
+use Rattle.std.specs.declared.hash.DefaultHasher.{DefaultHasher}
 use Rattle.side_world.specs.declared.disk.Disk.{Ghosts}
 use Rattle.keeper_core.specs.Rows.{Rows, bytes_in, IsCounted}
 use Rattle.keeper_core.specs.Changes.{after_changes}
@@ -18,6 +19,11 @@ use Rattle.keeper_journal.specs.declared.any_keeper.AnyKeeper.TheVariants.{Memor
 abbrev pub any_rows : {D : Type 0} {disking : Ghosts D} → AnyKeeper D disking → Rows
 any_rows (Memory keeper) = memory.rows_in keeper
 any_rows (Journal keeper) = journal.rows_in keeper
+
+-- the hasher that keys are fed to
+abbrev pub any_hasher : {D : Type 0} {disking : Ghosts D} → AnyKeeper D disking → DefaultHasher
+any_hasher (Memory keeper) = memory.hasher_in keeper
+any_hasher (Journal keeper) = journal.hasher_in keeper
 
 abbrev pub any_next : {D : Type 0} {disking : Ghosts D} → AnyKeeper D disking → ℕ
 any_next (Memory keeper) = memory.next_of keeper

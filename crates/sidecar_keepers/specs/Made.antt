@@ -1,12 +1,15 @@
 -- Keepers as a start makes them, over the disks that are told before it and after it.
 use Rattle.std.specs.Prelude.{◌≡◌, ◌≢◌, ℕ, List, [], ◌∷◌, ◌++◌, Option, Some, None}
 use Rattle.std.specs.FinMap.{empty}
+use Rattle.std.specs.List.{All}
 use Rattle.side_world.specs.declared.disk.Disk.{Ghosts}
 use Rattle.side_world.specs.Outside.{Disks, IsNewDisk, IsTaken}
 use Rattle.keeper_core.specs.declared.changes.Changes.{Changes}
 use Rattle.keeper_core.specs.declared.memory_keeper.MemoryKeeper.{MemoryKeeper}
+use Rattle.keeper_core.specs.Table.{fed}
 use Rattle.keeper_core.specs.MemoryKeeper.{rows_in, next_of, limit_of, faults_of, failing_of, commits_of}
 use Rattle.disk_journal.specs.Moments.{Reads, ChangesNothing}
+use Rattle.keeper_journal.specs.AnyKeeper.{any_hasher}
 use Rattle.keeper_journal.specs.History.{IsHistory}
 use Rattle.keeper_journal.specs.JournalKeeper.{disk_in, limit_in}
 use Rattle.keeper_journal.specs.Kept.{Kept}
@@ -16,6 +19,10 @@ use Rattle.keeper_journal.specs.declared.any_keeper.AnyKeeper.TheVariants.{Memor
 use Rattle.resource_spec.specs.declared.component.ComponentKind.TheVariants.{StateMemory, StateJournal}
 use Rattle.resource_spec.specs.Component.{Loaded}
 use Rattle.resource_spec.specs.Load.{journal_of}
+
+-- the keys of each keeper are fed to std's hasher behind these secret bytes
+abbrev pub HashBehind : {D : Type 0} {disking : Ghosts D} → List ℕ → List (AnyKeeper D disking) → Type 0
+HashBehind secret keepers = All (λ keeper. any_hasher keeper ≡ fed secret) keepers
 
 -- a keeper in memory that has no rows: its limit is 256 MiB, and no commit of it is to fail
 pub record IsNewInMemory (keeper : MemoryKeeper) : Type 0 where

@@ -3,7 +3,10 @@ ghost use Rattle.std.specs.Vec.{vec_capacity};
 ghost use Rattle.side_world.specs.Told.{Tells};
 ghost use Rattle.disk_journal.specs.declared.error.JournalErr.TheVariants.{Full};
 ghost use Rattle.sidecar_keepers.specs.Stores.{stores_of, takes_of};
-ghost use Rattle.sidecar_keepers.specs.Made.{IsNewInMemory, IsOpened, AreMade, HasMadeMore};
+ghost use Rattle.keeper_core.specs.Table.{fed};
+ghost use Rattle.keeper_core.specs.MemoryKeeper.{hasher_in};
+ghost use Rattle.keeper_journal.specs.JournalKeeper as journal;
+ghost use Rattle.sidecar_keepers.specs.Made.{IsNewInMemory, IsOpened, AreMade, HasMadeMore, HashBehind};
 ghost use Rattle.sidecar_keepers.specs.Refused.{Counts, IsAnswerTo, IsCause, IsRefused};
 
 use disk_journal::JournalErr;
@@ -45,6 +48,7 @@ pub fn start_keepers<O: Outside>(
     outside: &mut O,
 ) -> Result<Vec<AnyKeeper<O::Disk>>, KeepersErr>
     ensures made { IfOk result (λ keepers. AreMade O.Disk.Disk (stores_of components.now) keepers.items (O.disks outside.old) (O.disks outside.new)) }
+    ensures hasher { IfOk result (λ keepers. HashBehind secret keepers.items) }
     ensures takes { OnOk result (Tells (O.calls outside.old) (O.calls outside.new) (takes_of components.now)) }
     ensures no_fault { OnOk result (O.faults outside.new ≡ O.faults outside.old) }
 
@@ -77,6 +81,7 @@ fn add_keeper<O: Outside>(
 ) -> Result<(), KeepersErr>
     requires room { vec_len keepers.old < vec_capacity keepers.old }
     ensures made { OnOk result (HasMadeMore O.Disk.Disk (stores_of (component.now ∷ [])) keepers.old.items keepers.new.items (O.disks outside.old) (O.disks outside.new)) }
+    ensures hasher { HashBehind secret keepers.old.items → OnOk result (HashBehind secret keepers.new.items) }
     ensures long { vec_len keepers.new ≤ vec_len keepers.old + 1 }
     ensures capacity { vec_capacity keepers.old ≤ vec_capacity keepers.new }
     ensures takes { Tells (O.calls outside.old) (O.calls outside.new) (takes_of (component.now ∷ [])) }
@@ -105,7 +110,8 @@ fn add_keeper<O: Outside>(
 
 /// A keeper in memory, without rows.
 fn in_memory(alloc: Global, secret: [u8; 16]) -> MemoryKeeper
-    ensures { IsNewInMemory result }
+    ensures new { IsNewInMemory result }
+    ensures hasher { hasher_in result ≡ fed secret }
 {
     MemoryKeeper::new(alloc, MEMORY_LIMIT, Places::new(alloc), secret)
 }
@@ -118,6 +124,7 @@ fn over_journal<O: Outside>(
     outside: &mut O,
 ) -> Result<JournalKeeper<O::Disk>, KeepersErr>
     requires { component.now.kind ≡ ComponentKind.StateJournal }
+    ensures hasher { IfOk result (λ keeper. journal.hasher_in keeper ≡ fed secret) }
     ensures opened { IfOk result (λ keeper. IsOpened O.Disk.Disk component.now keeper (O.disks outside.old) (O.disks outside.new)) }
     ensures takes { Tells (O.calls outside.old) (O.calls outside.new) (takes_of (component.now ∷ [])) }
     ensures no_fault { OnOk result (O.faults outside.new ≡ O.faults outside.old) }

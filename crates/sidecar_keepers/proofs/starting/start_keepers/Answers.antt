@@ -21,6 +21,7 @@ loop-place-preserved g c =
     let low : c.loop-place.place < length c.args.components.now = omega (arith, c.loop-place-test.true, c.len-place-end.ensures.exact) in record {
       made = made_more g.O.Disk.Disk c.args.components.now c.loop-place.place c.at.result.now low c.at.ensures c.loop-place.keepers.items c.add_keeper.new.keepers.items
           (g.O.Outside.disks c.args.outside.now) (g.O.Outside.disks c.loop-place.outside) (g.O.Outside.disks c.add_keeper.new.outside) h.made e.made;
+      hasher = e.hasher h.hasher;
       takes = takes_on g.O.Disk.Disk c.args.components.now c.loop-place.place c.at.result.now low c.at.ensures
           (g.O.Outside.calls c.args.outside.now) (g.O.Outside.calls c.loop-place.outside) (g.O.Outside.calls c.add_keeper.new.outside) h.takes e.takes;
       no_fault = e.no_fault ∙ h.no_fault;
