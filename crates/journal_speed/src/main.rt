@@ -1,4 +1,4 @@
-//! Measures what an append to a journal over a file costs, beside the same writes and syncs without a journal.
+//! Measures what an append to a journal over a file costs, beside as many syncs behind two plain writes.
 #![tactic(auto)]
 
 mod appends;

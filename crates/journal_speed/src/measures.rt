@@ -39,7 +39,7 @@ fn through_a_journal<R: Clock + Files<File = File>>(
     Ok((each(begin.elapsed(rt)?, taken), taken))
 }
 
-/// The nanoseconds of the same writes and syncs to a new file, and how many there were.
+/// The nanoseconds of two plain writes with a sync behind each, to a new file, and how many there were.
 fn plainly<R: Clock + Files<File = File>>(rt: &R, appends: u32) -> io::Result<(u128, u32)> {
     let mut disk = HostDisk::open(rt, PLAIN)?;
     let begin = Instant::now(rt)?;

@@ -1,10 +1,11 @@
 ghost use Rattle.std.specs.Prelude.{◌≡◌, ◌≤◌, ◌<◌, ◌^◌, ℕ, List, None, IfOk, IfErr};
 ghost use Rattle.side_world.specs.Faults.{Rose};
+ghost use Rattle.keeper_core.specs.Table.{fed};
 ghost use Rattle.keeper_core.specs.declared.changes.Changes.{Changes};
 ghost use Rattle.disk_journal.specs.Moments.{Reads, ChangesNothing};
 ghost use Rattle.disk_journal.specs.declared.error.JournalErr.TheVariants.{Failed, NotAJournal, Full};
 ghost use Rattle.keeper_journal.specs.History.{IsHistory, IsRefusedAt};
-ghost use Rattle.keeper_journal.specs.JournalKeeper.{disk_in, limit_in};
+ghost use Rattle.keeper_journal.specs.JournalKeeper.{disk_in, limit_in, hasher_in};
 ghost use Rattle.keeper_journal.specs.Kept.{Kept};
 
 use crate::JournalKeeper;
@@ -26,6 +27,7 @@ pub(crate) fn opened<D: Disk>(
     ensures refused { IfErr result (λ e. (at : ℕ) → e.1 ≡ NotAJournal at → Reads D.Disk disk (λ bytes. IsRefusedAt bytes at)) }
     ensures refused_only { IfErr result (λ e. (at : ℕ) → e.1 ≡ NotAJournal at → Reads D.Disk disk (λ bytes. (commits : List Changes) → IsHistory bytes commits → ⊥)) }
     ensures limit { IfOk result (λ keeper. limit_in keeper ≡ limit) }
+    ensures hasher { IfOk result (λ keeper. hasher_in keeper ≡ fed secret) }
     ensures opened { IfOk result (λ keeper. ChangesNothing D.Disk disk (disk_in keeper)) }
     ensures given_back { IfErr result (λ e. ChangesNothing D.Disk disk e.0) }
     ensures failed { IfErr result (λ e. e.1 ≡ Failed → Rose (D.faults disk) (D.faults e.0)) }

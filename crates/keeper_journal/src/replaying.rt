@@ -1,5 +1,6 @@
 ghost use Rattle.std.specs.Prelude.{◌≡◌, ◌<◌, ◌≤◌, ℕ, List, [], ◌++◌, Ok, Err, true, IfOk, OnOk, IsErrOf};
 ghost use Rattle.side_world.specs.Faults.{Rose};
+ghost use Rattle.keeper_core.specs.Table.{fed};
 ghost use Rattle.keeper_core.specs.declared.changes.Changes.{Changes};
 ghost use Rattle.disk_journal.specs.Image.{IsImage};
 ghost use Rattle.disk_journal.specs.Moments.{Reads, ChangesNothing};
@@ -23,6 +24,7 @@ pub(crate) fn replay<D: Disk>(
     secret: [u8; 16],
 ) -> Result<Replay, JournalErr>
     ensures replayed { (first : D) → HasGiven D.Disk first opening.old [] → IfOk result (HasFollowedAll D.Disk first opening.new) }
+    ensures hasher { IfOk result (λ replay. replay.table.hasher ≡ fed secret) }
     ensures refused { (first : D) → HasGiven D.Disk first opening.old [] → (at : ℕ) → IsErrOf result (NotAJournal at) → Reads D.Disk first (λ bytes. IsRefusedAt bytes at) }
     ensures refused_only { (first : D) → HasGiven D.Disk first opening.old [] → (at : ℕ) → IsErrOf result (NotAJournal at) → Reads D.Disk first (λ bytes. (commits : List Changes) → IsHistory bytes commits → ⊥) }
     ensures changed { (first : D) → HasGiven D.Disk first opening.old [] → ChangesNothing D.Disk first (opening_disk opening.new) }
@@ -50,6 +52,7 @@ fn follow_next<D: Disk>(
     replay: &mut Replay,
 ) -> Result<bool, JournalErr>
     ensures follows { (first : D) → HasFollowed D.Disk first opening.old replay.old → IfOk result (FollowsNext D.Disk first opening.new replay.new) }
+    ensures hasher { replay.new.table.hasher ≡ replay.old.table.hasher }
     ensures refused { (first : D) → HasFollowed D.Disk first opening.old replay.old → (at : ℕ) → result ≡ Err (NotAJournal at) → Reads D.Disk first (λ bytes. IsRefusedAt bytes at) }
     ensures refused_only { (first : D) → HasFollowed D.Disk first opening.old replay.old → (at : ℕ) → result ≡ Err (NotAJournal at) → Reads D.Disk first (λ bytes. (commits : List Changes) → IsHistory bytes commits → ⊥) }
     ensures changed { (first : D) → HasFollowed D.Disk first opening.old replay.old → ChangesNothing D.Disk first (opening_disk opening.new) }
