@@ -28,7 +28,7 @@ module _ {D : Type 0} {disking : Ghosts D} where
 
 module _ {D : Type 0} (disking : Ghosts D) (first : D) where
   -- Calls since this disk have given these bodies, and changed nothing: the next gate stands behind them. Where it tells what a read gives,
-  -- that is their records, and then anything, and a crash leaves no less.
+  -- that is their records, and then anything, and a crash leaves just that.
   pub record HasGiven (opening : Opening D disking) (bodies : List (List ℕ)) : Type 0 where
     pub lengths : HaveLengths bodies
     pub gate : gate_of opening ≡ end_of bodies

@@ -56,7 +56,8 @@ impl<D: Disk> Journal<D> {
         }
     }
 
-    /// Opens the journal of a disk, and gives its bodies, copied; else as `open`.
+    /// Opens the journal of a disk, and gives its bodies, copied. `limit`, the sync and the refusals are those of `open`, and those of
+    /// `Opening::advance`; the disk is given back.
     pub fn load(alloc: Global, disk: D, limit: u64) -> Result<(Journal<D>, Bodies), (D, JournalErr)>
         // Where the disk tells what a read gives, these are its bodies, and no others are.
         ensures image { IfOk result (λ opened. Reads D.Disk disk (λ bytes. IsImage bytes opened.1)) }
