@@ -12,9 +12,18 @@ mod links;
 mod outsides;
 
 /// A device that is called by the lines of a text.
-trait Device {
+trait Device: Drop {
+    /// The device that the line `new` begins, with what stands behind that word.
+    fn begin(alloc: Global, given: &str) -> Result<Self, NoMemory>;
+
     /// Makes a call: its name, what it is given, and what it answers.
     fn answer(&mut self, alloc: Global, name: &str, given: &str) -> Result<Blob, NoMemory>;
+}
+
+/// Begins a device anew.
+fn renew<D: Device>(alloc: Global, device: &mut D, given: &str) -> Result<(), NoMemory> {
+    *device = D::begin(alloc, given)?;
+    Ok(())
 }
 
 /// Plays one line.
@@ -26,20 +35,19 @@ fn plays_line<D: Device>(
 ) -> Result<(), NoMemory> {
     let (call, wanted) = line.split_once('=').unwrap_or((line, ""));
     let (name, given) = cut(call);
+    if name == "new" {
+        return renew(alloc, device, given);
+    }
     let answer = device.answer(alloc, name, given)?;
     assert_eq!(rt; answer.bytes(), wanted.as_bytes(), "{line}");
     Ok(())
 }
 
 /// Plays a text.
-fn plays<D: Device>(
-    rt: &impl Abort,
-    alloc: Global,
-    device: &mut D,
-    text: &str,
-) -> Result<(), NoMemory> {
+fn plays<D: Device, R: Abort>(rt: &R, alloc: Global, text: &str) -> Result<(), NoMemory> {
+    let mut device = D::begin(alloc, "")?;
     for line in text.lines() {
-        plays_line(rt, alloc, device, line)?;
+        plays_line(rt, alloc, &mut device, line)?;
     }
     Ok(())
 }
@@ -56,6 +64,24 @@ fn said(alloc: Global, text: &str) -> Result<Blob, NoMemory> {
 /// `ok`, or `failed`.
 fn outcome<T, E>(alloc: Global, ended: &Result<T, E>) -> Result<Blob, NoMemory> {
     said(alloc, if ended.is_ok() { "ok" } else { "failed" })
+}
+
+/// The number that a text is; 0 where it is none.
+fn number_in(text: &str) -> u64 {
+    text.parse().unwrap_or(0)
+}
+
+/// A number as a text.
+fn digits(alloc: Global, number: u64) -> Result<Blob, NoMemory> {
+    said(alloc, format!(in alloc; "{number}")?.as_str())
+}
+
+/// The byte that these are, or `-` where they are not one.
+fn only(bytes: &[u8]) -> u8 {
+    match bytes {
+        [byte] => *byte,
+        _ => b'-',
+    }
 }
 
 /// The digits of a text as numbers; other letters say nothing.

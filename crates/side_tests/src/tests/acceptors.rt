@@ -1,15 +1,13 @@
-use super::{Device, cut, list, plays, said};
+use super::{Device, cut, list, only, plays, said};
 use side_base::{Blob, NoMemory, Places};
-use side_memory::{
-    AcceptorAnswer, AcceptorAnswers, AcceptorNote, MemoryAcceptor, Sizes, Visit, Visited,
-};
+use side_memory::{AcceptorAnswer, AcceptorAnswers, AcceptorNote, MemoryAcceptor, Sizes, Visit};
 use side_world::{Accepted, Acceptor, Sink, Source, gather, send};
 use std::alloc::Global;
 use std::test::Fail;
 
-fn visit(alloc: Global, input: &[u8]) -> Result<Visit, NoMemory> {
+fn visit(alloc: Global, letter: u8) -> Result<Visit, NoMemory> {
     Ok(Visit {
-        input: Blob::from_bytes(alloc, input)?,
+        input: Blob::from_bytes(alloc, &[letter])?,
         read_sizes: Sizes::new(alloc),
         failing_reads: Places::new(alloc),
         write_sizes: Sizes::new(alloc),
@@ -17,15 +15,20 @@ fn visit(alloc: Global, input: &[u8]) -> Result<Visit, NoMemory> {
     })
 }
 
-// The answers that a text names: `i` idle, `c` closed, any other letter a connection that sends it.
-fn answers(alloc: Global, text: &str) -> Result<AcceptorAnswers, NoMemory> {
+// The answer that a letter names: `i` idle, `c` closed, any other a connection that sends it.
+fn answer_of(alloc: Global, letter: u8) -> Result<AcceptorAnswer, NoMemory> {
+    match letter {
+        b'i' => Ok(AcceptorAnswer::Idle),
+        b'c' => Ok(AcceptorAnswer::Closed),
+        _ => Ok(AcceptorAnswer::Conn(visit(alloc, letter)?)),
+    }
+}
+
+// The answers that a text names.
+pub(super) fn answers(alloc: Global, text: &str) -> Result<AcceptorAnswers, NoMemory> {
     let mut answers = AcceptorAnswers::new(alloc);
     for letter in text.bytes() {
-        answers.push(match letter {
-            b'i' => AcceptorAnswer::Idle,
-            b'c' => AcceptorAnswer::Closed,
-            _ => AcceptorAnswer::Conn(visit(alloc, &[letter])?),
-        })?;
+        answers.push(answer_of(alloc, letter)?)?;
     }
     Ok(answers)
 }
@@ -34,10 +37,7 @@ fn answers(alloc: Global, text: &str) -> Result<AcceptorAnswers, NoMemory> {
 fn talk<S: Source, N: Sink>(alloc: Global, source: &mut S, sink: &mut N) -> u8 {
     let _ = send(sink, b"!");
     match gather(alloc, source, 10) {
-        Ok(read) => match read.bytes() {
-            [letter] => *letter,
-            _ => b'-',
-        },
+        Ok(read) => only(read.bytes()),
         Err(_) => b'-',
     }
 }
@@ -69,25 +69,23 @@ fn five_answers(alloc: Global, acceptor: &mut MemoryAcceptor) -> Result<Blob, No
     Ok(letters)
 }
 
-fn wrote(visited: &Visited) -> u8 {
-    match visited.sink.bytes() {
-        [letter] => *letter,
-        _ => b'-',
+// The letter of an answer that is told: of a connection that came back what was written to it.
+fn letter(note: &AcceptorNote) -> u8 {
+    match note {
+        AcceptorNote::Conn(Some(visited)) => only(visited.sink.bytes()),
+        AcceptorNote::Conn(None) => b'o',
+        AcceptorNote::Idle => b'i',
+        AcceptorNote::Closed => b'c',
+        AcceptorNote::Failed => b'f',
     }
 }
 
-// The letters of the answers that are told: of a connection that came back what was written to it.
+// The letters of the answers that are told.
 fn told(alloc: Global, acceptor: &MemoryAcceptor) -> Result<Blob, NoMemory> {
     let mut letters = Blob::new(alloc);
     if let Some(notes) = acceptor.notes() {
         for note in notes {
-            letters.push_byte(match note {
-                AcceptorNote::Conn(Some(visited)) => wrote(visited),
-                AcceptorNote::Conn(None) => b'o',
-                AcceptorNote::Idle => b'i',
-                AcceptorNote::Closed => b'c',
-                AcceptorNote::Failed => b'f',
-            })?;
+            letters.push_byte(letter(note))?;
         }
     }
     Ok(letters)
@@ -95,19 +93,18 @@ fn told(alloc: Global, acceptor: &MemoryAcceptor) -> Result<Blob, NoMemory> {
 
 // `new` begins one with these answers, which fails at the listed calls.
 impl Device for MemoryAcceptor {
-    fn answer(&mut self, alloc: Global, name: &str, given: &str) -> Result<Blob, NoMemory> {
-        if name == "new" {
-            let (text, failing) = cut(given);
-            *self = MemoryAcceptor::new(alloc, answers(alloc, text)?, list(alloc, failing)?);
-            return Ok(Blob::new(alloc));
+    fn begin(alloc: Global, given: &str) -> Result<MemoryAcceptor, NoMemory> {
+        let (text, failing) = cut(given);
+        let failing = list(alloc, failing)?;
+        Ok(MemoryAcceptor::new(alloc, answers(alloc, text)?, failing))
+    }
+
+    fn answer(&mut self, alloc: Global, name: &str, _: &str) -> Result<Blob, NoMemory> {
+        match name {
+            "accept" => five_answers(alloc, self),
+            "told" => told(alloc, self),
+            _ => said(alloc, "unknown"),
         }
-        if name == "accept" {
-            return five_answers(alloc, self);
-        }
-        if name == "told" {
-            return told(alloc, self);
-        }
-        said(alloc, "unknown")
     }
 }
 
@@ -125,7 +122,5 @@ told=cii!c";
 
 #[test]
 fn an_acceptor_answers_its_list(rt: HostRuntime) -> Result<(), Fail> {
-    let alloc = rt.alloc();
-    let mut acceptor = MemoryAcceptor::new(alloc, AcceptorAnswers::new(alloc), Places::new(alloc));
-    Ok(plays(&rt, alloc, &mut acceptor, ACCEPTORS)?)
+    Ok(plays::<MemoryAcceptor, _>(&rt, rt.alloc(), ACCEPTORS)?)
 }

@@ -1,4 +1,4 @@
-use super::{Device, cut, list, outcome, plays, said};
+use super::{Device, cut, list, number_in, outcome, plays, said};
 use side_base::{Blob, NoMemory, Places};
 use side_memory::{MemorySink, MemorySource, Sizes};
 use side_world::{BytesSource, Failed, GatherErr, Source, gather, send};
@@ -20,7 +20,7 @@ fn counts<S: Source>(alloc: Global, source: &mut S) -> Result<Blob, NoMemory> {
 
 // All that a source gives up to a limit.
 fn gathered<S: Source>(alloc: Global, source: &mut S, limit: &str) -> Result<Blob, NoMemory> {
-    match gather(alloc, source, limit.parse().unwrap_or(0)) {
+    match gather(alloc, source, number_in(limit) as usize) {
         Ok(read) => Ok(read),
         Err(GatherErr::Failed) => said(alloc, "failed"),
         Err(GatherErr::NoMemory) => Err(NoMemory),
@@ -29,21 +29,20 @@ fn gathered<S: Source>(alloc: Global, source: &mut S, limit: &str) -> Result<Blo
 
 // `new` begins one of these bytes, whose reads give so many each and fail at the listed places.
 impl Device for MemorySource {
-    fn answer(&mut self, alloc: Global, name: &str, given: &str) -> Result<Blob, NoMemory> {
-        if name == "counts" {
-            return counts(alloc, self);
-        }
-        if name == "gather" {
-            return gathered(alloc, self, given);
-        }
+    fn begin(alloc: Global, given: &str) -> Result<MemorySource, NoMemory> {
         let (bytes, rest) = cut(given);
         let (sizes, failing) = cut(rest);
-        *self = MemorySource::new(
-            said(alloc, bytes)?,
-            list(alloc, sizes)?,
-            list(alloc, failing)?,
-        );
-        Ok(Blob::new(alloc))
+        let bytes = said(alloc, bytes)?;
+        let sizes = list(alloc, sizes)?;
+        Ok(MemorySource::new(bytes, sizes, list(alloc, failing)?))
+    }
+
+    fn answer(&mut self, alloc: Global, name: &str, given: &str) -> Result<Blob, NoMemory> {
+        match name {
+            "counts" => counts(alloc, self),
+            "gather" => gathered(alloc, self, given),
+            _ => said(alloc, "unknown"),
+        }
     }
 }
 
@@ -72,27 +71,26 @@ gather 100=failed";
 
 #[test]
 fn a_source_gives_its_pieces(rt: HostRuntime) -> Result<(), Fail> {
-    let alloc = rt.alloc();
-    let mut source = MemorySource::new(Blob::new(alloc), list(alloc, "")?, list(alloc, "")?);
-    Ok(plays(&rt, alloc, &mut source, SOURCES)?)
+    Ok(plays::<MemorySource, _>(&rt, rt.alloc(), SOURCES)?)
 }
 
-// `new` begins one whose writes take so many bytes each and fail at the listed places, `room` one with room for eight.
+// `new` begins one whose writes take so many bytes each and fail at the listed places, `new room` one with room for eight.
 impl Device for MemorySink {
-    fn answer(&mut self, alloc: Global, name: &str, given: &str) -> Result<Blob, NoMemory> {
-        if name == "send" {
-            return outcome(alloc, &send(self, given.as_bytes()));
-        }
-        if name == "bytes" {
-            return Blob::from_bytes(alloc, self.bytes());
-        }
-        if name == "room" {
-            *self = MemorySink::with_room(alloc, 8, Sizes::new(alloc), Places::new(alloc))?;
-            return Ok(Blob::new(alloc));
+    fn begin(alloc: Global, given: &str) -> Result<MemorySink, NoMemory> {
+        if given == "room" {
+            return MemorySink::with_room(alloc, 8, Sizes::new(alloc), Places::new(alloc));
         }
         let (sizes, failing) = cut(given);
-        *self = MemorySink::new(alloc, list(alloc, sizes)?, list(alloc, failing)?);
-        Ok(Blob::new(alloc))
+        let sizes = list(alloc, sizes)?;
+        Ok(MemorySink::new(alloc, sizes, list(alloc, failing)?))
+    }
+
+    fn answer(&mut self, alloc: Global, name: &str, given: &str) -> Result<Blob, NoMemory> {
+        match name {
+            "send" => outcome(alloc, &send(self, given.as_bytes())),
+            "bytes" => Blob::from_bytes(alloc, self.bytes()),
+            _ => said(alloc, "unknown"),
+        }
     }
 }
 
@@ -112,15 +110,13 @@ bytes=r
 new 12 2
 send response=failed
 bytes=res
-room
+new room
 send response=ok
 bytes=response";
 
 #[test]
 fn a_sink_gets_all_or_a_prefix(rt: HostRuntime) -> Result<(), Fail> {
-    let alloc = rt.alloc();
-    let mut sink = MemorySink::new(alloc, Sizes::new(alloc), Places::new(alloc));
-    Ok(plays(&rt, alloc, &mut sink, SINKS)?)
+    Ok(plays::<MemorySink, _>(&rt, rt.alloc(), SINKS)?)
 }
 
 #[test]

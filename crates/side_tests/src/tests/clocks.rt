@@ -1,25 +1,30 @@
-use super::{Device, cut, list, plays, said};
+use super::{Device, cut, digits, list, number_in, plays, said};
 use side_base::{Blob, Moment, NoMemory};
 use side_memory::MemoryClock;
 use side_world::Clock;
 use std::alloc::Global;
 use std::test::Fail;
 
+// `new` begins one at a moment, which goes on by the listed steps.
 impl Device for MemoryClock {
+    fn begin(alloc: Global, given: &str) -> Result<MemoryClock, NoMemory> {
+        let (first, steps) = cut(given);
+        let steps = list(alloc, steps)?;
+        match Moment::at(number_in(first)) {
+            Some(first) => Ok(MemoryClock::new(alloc, first, steps)),
+            None => Err(NoMemory),
+        }
+    }
+
     fn answer(&mut self, alloc: Global, name: &str, given: &str) -> Result<Blob, NoMemory> {
-        if name == "new" {
-            let (first, steps) = cut(given);
-            if let Some(first) = Moment::at(first.parse().unwrap_or(0)) {
-                *self = MemoryClock::new(alloc, first, list(alloc, steps)?);
+        match name {
+            "pause" => {
+                self.pause(number_in(given));
+                Ok(Blob::new(alloc))
             }
-            return Ok(Blob::new(alloc));
+            "now" => digits(alloc, self.now().ms()),
+            _ => said(alloc, "unknown"),
         }
-        if name == "pause" {
-            self.pause(given.parse().unwrap_or(0));
-            return Ok(Blob::new(alloc));
-        }
-        let now = self.now().ms();
-        said(alloc, format!(in alloc; "{now}")?.as_str())
     }
 }
 
@@ -46,8 +51,5 @@ now=253402300799999";
 
 #[test]
 fn a_clock_goes_by_its_steps_and_pauses(rt: HostRuntime) -> Result<(), Fail> {
-    let alloc = rt.alloc();
-    let first = Moment::at(0).ok_or("a moment")?;
-    let mut clock = MemoryClock::new(alloc, first, list(alloc, "")?);
-    Ok(plays(&rt, alloc, &mut clock, READINGS)?)
+    Ok(plays::<MemoryClock, _>(&rt, rt.alloc(), READINGS)?)
 }

@@ -1,9 +1,8 @@
-use super::{Device, cut, list, outcome, plays, said};
+use super::{Device, cut, digits, list, number_in, outcome, plays, said};
 use side_base::{Blob, NoMemory};
 use side_memory::{MemoryDisk, Tear};
 use side_world::{Disk, Failed};
 use std::alloc::Global;
-use std::process::Abort;
 use std::test::Fail;
 
 // A tear in two letters: `F` and how many bytes are kept of the front, `B` of the back, `N` and the byte that stands for each.
@@ -53,10 +52,6 @@ fn byte_at(disk: &mut MemoryDisk, at: usize) -> Result<u8, Failed> {
     Ok(piece[0])
 }
 
-fn number(digits: &str) -> usize {
-    digits.parse().unwrap_or(0)
-}
-
 fn read(alloc: Global, disk: &mut MemoryDisk, at: usize) -> Result<Blob, NoMemory> {
     match byte_at(disk, at) {
         Ok(byte) => Blob::from_bytes(alloc, &[byte]),
@@ -66,47 +61,36 @@ fn read(alloc: Global, disk: &mut MemoryDisk, at: usize) -> Result<Blob, NoMemor
 
 fn len(alloc: Global, disk: &mut MemoryDisk) -> Result<Blob, NoMemory> {
     match disk.len() {
-        Ok(len) => said(alloc, format!(in alloc; "{len}")?.as_str()),
+        Ok(len) => digits(alloc, len),
         Err(Failed) => said(alloc, "failed"),
     }
 }
 
+// `new` begins one of these bytes, which fails at the listed calls.
 impl Device for MemoryDisk {
+    fn begin(alloc: Global, given: &str) -> Result<MemoryDisk, NoMemory> {
+        let (bytes, failing) = cut(given);
+        MemoryDisk::new(alloc, bytes.as_bytes(), list(alloc, failing)?)
+    }
+
     fn answer(&mut self, alloc: Global, name: &str, given: &str) -> Result<Blob, NoMemory> {
         let (first, rest) = cut(given);
-        if name == "len" {
-            return len(alloc, self);
+        let number = number_in(first) as usize;
+        match name {
+            "len" => len(alloc, self),
+            "sync" => outcome(alloc, &self.sync()),
+            "write" => outcome(alloc, &write(self, number, rest.as_bytes())),
+            "read" => read(alloc, self, number),
+            "image" => image(alloc, self, number, rest),
+            _ => said(alloc, "unknown"),
         }
-        if name == "sync" {
-            return outcome(alloc, &self.sync());
-        }
-        if name == "write" {
-            return outcome(alloc, &write(self, number(first), rest.as_bytes()));
-        }
-        if name == "read" {
-            return read(alloc, self, number(first));
-        }
-        if name == "image" {
-            return image(alloc, self, number(first), rest);
-        }
-        said(alloc, "unknown")
     }
 }
 
-// Plays a text to a disk of these bytes, which fails at the listed calls.
-fn plays_anew(
-    rt: &impl Abort,
-    alloc: Global,
-    bytes: &[u8],
-    failing: &str,
-    text: &str,
-) -> Result<(), NoMemory> {
-    let mut disk = MemoryDisk::new(alloc, bytes, list(alloc, failing)?)?;
-    plays(rt, alloc, &mut disk, text)
-}
-
-// What a crash leaves at each moment of a write and a sync.
-const MOMENTS: &str = "\
+// What a crash leaves at each moment of a write and a sync; writes are torn one by one, the one that failed too; and a disk fails at
+// its listed calls, and at no other.
+const DISKS: &str = "\
+new abcd
 write 2 XYZ=ok
 sync=ok
 image 0 F9=abcd
@@ -115,20 +99,16 @@ image 1 F1=abXd
 image 1 B1=abcdZ
 image 1 N?=ab???
 image 2 F0=abXYZ
-image 1=abXYZ";
-
-// Writes are torn one by one, the one that failed too.
-const TEARS: &str = "\
+image 1=abXYZ
+new  2
 write 0 abc=ok
 write 3 de=ok
 write 1 --=failed
 image 3 F9 F9 F9=a--de
 image 3 N? F0 F0=???
 image 3 F0 F2 F0=
-image 3 B1 B1 F0=\0\0c\0e";
-
-// A disk fails at its listed calls, and at no other.
-const FAILURES: &str = "\
+image 3 B1 B1 F0=\0\0c\0e
+new ab 0123
 len=failed
 read 1=failed
 write 2 c=failed
@@ -139,8 +119,5 @@ image 1=abc";
 
 #[test]
 fn a_disk_tells_what_a_crash_leaves(rt: HostRuntime) -> Result<(), Fail> {
-    let alloc = rt.alloc();
-    plays_anew(&rt, alloc, b"abcd", "", MOMENTS)?;
-    plays_anew(&rt, alloc, b"", "2", TEARS)?;
-    Ok(plays_anew(&rt, alloc, b"ab", "0123", FAILURES)?)
+    Ok(plays::<MemoryDisk, _>(&rt, rt.alloc(), DISKS)?)
 }

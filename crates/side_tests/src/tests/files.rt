@@ -1,5 +1,5 @@
-use super::{Device, cut, list, plays, said};
-use side_base::{Blob, Names, NoMemory, Places, Text};
+use super::{Device, cut, digits, list, plays, said};
+use side_base::{Blob, Names, NoMemory, Text};
 use side_memory::MemoryFiles;
 use side_world::{Files, FilesCall, FilesErr};
 use std::alloc::Global;
@@ -43,22 +43,26 @@ fn read(alloc: Global, files: &mut MemoryFiles, name: &str) -> Result<Blob, NoMe
 // How many bytes a read gives.
 fn len(alloc: Global, files: &mut MemoryFiles, name: &str) -> Result<Blob, NoMemory> {
     let len = read(alloc, files, name)?.len();
-    said(alloc, format!(in alloc; "{len}")?.as_str())
+    digits(alloc, len as u64)
 }
 
-// How many listings and reads are told.
-fn calls(alloc: Global, files: &MemoryFiles) -> Result<Blob, NoMemory> {
-    let mut lists = 0usize;
-    let mut reads = 0usize;
+// `l` for a listing, and `r` for a read.
+fn letter(call: &FilesCall) -> u8 {
+    match call {
+        FilesCall::List { .. } => b'l',
+        FilesCall::Read { .. } => b'r',
+    }
+}
+
+// The letters of the calls that are told.
+fn told(alloc: Global, files: &MemoryFiles) -> Result<Blob, NoMemory> {
+    let mut letters = Blob::new(alloc);
     if let Some(calls) = files.calls() {
         for call in calls {
-            match call {
-                FilesCall::List { .. } => lists = lists.saturating_add(1),
-                FilesCall::Read { .. } => reads = reads.saturating_add(1),
-            }
+            letters.push_byte(letter(call))?;
         }
     }
-    said(alloc, format!(in alloc; "{lists} {reads}")?.as_str())
+    Ok(letters)
 }
 
 // A file of so many bytes where a number is given, and else of its own name.
@@ -69,29 +73,31 @@ fn bytes(alloc: Global, name: &str, len: &str) -> Result<Blob, NoMemory> {
     }
 }
 
-// `new` begins with an empty folder `e` and the listed failing calls, `add` puts a file into the folder `d`.
+// Puts a file into the folder `d`.
+fn add(alloc: Global, files: &mut MemoryFiles, given: &str) -> Result<Blob, NoMemory> {
+    let (name, len) = cut(given);
+    let file = Text::from_str(alloc, name)?;
+    files.add_file(b"d", file, bytes(alloc, name, len)?)?;
+    Ok(Blob::new(alloc))
+}
+
+// `new` begins with an empty folder `e` and the listed failing calls.
 impl Device for MemoryFiles {
+    fn begin(alloc: Global, given: &str) -> Result<MemoryFiles, NoMemory> {
+        let mut files = MemoryFiles::new(alloc, list(alloc, given)?);
+        files.add_folder(b"e")?;
+        Ok(files)
+    }
+
     fn answer(&mut self, alloc: Global, name: &str, given: &str) -> Result<Blob, NoMemory> {
-        if name == "list" {
-            return listed(alloc, self, given);
+        match name {
+            "list" => listed(alloc, self, given),
+            "read" => read(alloc, self, given),
+            "len" => len(alloc, self, given),
+            "told" => told(alloc, self),
+            "add" => add(alloc, self, given),
+            _ => said(alloc, "unknown"),
         }
-        if name == "read" {
-            return read(alloc, self, given);
-        }
-        if name == "len" {
-            return len(alloc, self, given);
-        }
-        if name == "calls" {
-            return calls(alloc, self);
-        }
-        if name == "add" {
-            let (file, len) = cut(given);
-            self.add_file(b"d", Text::from_str(alloc, file)?, bytes(alloc, file, len)?)?;
-            return Ok(Blob::new(alloc));
-        }
-        *self = MemoryFiles::new(alloc, list(alloc, given)?);
-        self.add_folder(b"e")?;
-        Ok(Blob::new(alloc))
     }
 }
 
@@ -110,7 +116,7 @@ list d=.yaml,B.yaml,a.yaml,ab.yaml,b.yml,
 list d=failed
 list e=
 list f=failed
-calls=4 0
+told=llll
 new 1
 add a.yaml
 add b.yaml
@@ -121,11 +127,9 @@ read b.yaml=failed
 read z.yaml=failed
 read o=too long: 1048577
 len c=1048576
-calls=0 5";
+told=rrrrr";
 
 #[test]
 fn a_folder_lists_its_names_and_a_file_is_read(rt: HostRuntime) -> Result<(), Fail> {
-    let alloc = rt.alloc();
-    let mut files = MemoryFiles::new(alloc, Places::new(alloc));
-    Ok(plays(&rt, alloc, &mut files, FILES)?)
+    Ok(plays::<MemoryFiles, _>(&rt, rt.alloc(), FILES)?)
 }

@@ -1,5 +1,5 @@
-use super::{Device, cut, list, plays, said};
-use side_base::{Blob, Fields, LinkRequest, Method, NoMemory, Places, Response, Text};
+use super::{Device, cut, list, only, plays, said};
+use side_base::{Blob, Fields, LinkRequest, Method, NoMemory, Response, Text};
 use side_memory::{LinkAnswers, MemoryLink};
 use side_world::{Link, LinkErr};
 use std::alloc::Global;
@@ -9,30 +9,39 @@ const TARGET: &[u8] = b"/orders";
 
 fn request(alloc: Global) -> Result<LinkRequest, NoMemory> {
     Ok(LinkRequest {
-        host: Text::from_str(alloc, "127.0.0.1")?,
+        host: Text::from_static(alloc, "127.0.0.1"),
         port: 8080,
         method: Method::Post,
         target: Blob::from_bytes(alloc, TARGET)?,
         fields: Fields::new(alloc),
-        body: Blob::from_bytes(alloc, b"{}")?,
+        body: Blob::new(alloc),
     })
 }
 
-// The answers that a text names: a digit is a status in hundreds, `x` an expiry, `m` want of memory, `f` a failure.
+fn response(alloc: Global, letter: u8) -> Result<Response, NoMemory> {
+    let body = Blob::from_bytes(alloc, &[letter])?;
+    Ok(Response {
+        status: (letter as u16 % 16) * 100,
+        fields: Fields::new(alloc),
+        body,
+    })
+}
+
+// The answer that a letter names: a digit is a status in hundreds, `x` an expiry, `m` want of memory, `f` a failure.
+fn answer_of(alloc: Global, letter: u8) -> Result<Result<Response, LinkErr>, NoMemory> {
+    match letter {
+        b'x' => Ok(Err(LinkErr::Expired)),
+        b'm' => Ok(Err(LinkErr::NoMemory)),
+        b'f' => Ok(Err(LinkErr::Failed)),
+        _ => Ok(Ok(response(alloc, letter)?)),
+    }
+}
+
+// The answers that a text names.
 fn answers(alloc: Global, text: &str) -> Result<LinkAnswers, NoMemory> {
     let mut answers = LinkAnswers::new(alloc);
     for letter in text.bytes() {
-        let answer = match letter {
-            b'x' => Err(LinkErr::Expired),
-            b'm' => Err(LinkErr::NoMemory),
-            b'f' => Err(LinkErr::Failed),
-            _ => Ok(Response {
-                status: (letter as u16 % 16) * 100,
-                fields: Fields::new(alloc),
-                body: Blob::from_bytes(alloc, &[letter])?,
-            }),
-        };
-        answers.push(answer)?;
+        answers.push(answer_of(alloc, letter)?)?;
     }
     Ok(answers)
 }
@@ -40,24 +49,30 @@ fn answers(alloc: Global, text: &str) -> Result<LinkAnswers, NoMemory> {
 // The letter of an answer, as above.
 fn letter(answer: &Result<Response, LinkErr>) -> u8 {
     match answer {
-        Ok(response) => match response.body.bytes() {
-            [letter] => *letter,
-            _ => b'?',
-        },
+        Ok(response) => only(response.body.bytes()),
         Err(LinkErr::Expired) => b'x',
         Err(LinkErr::NoMemory) => b'm',
         Err(LinkErr::Failed) => b'f',
     }
 }
 
-// The letters of what six calls answer.
-fn six_calls(alloc: Global, link: &mut MemoryLink) -> Result<Blob, NoMemory> {
-    let request = request(alloc)?;
+// The letter of what a call answers.
+fn call(link: &mut MemoryLink, request: &LinkRequest) -> u8 {
+    letter(&link.call(request, 100))
+}
+
+// The letters of what six calls of a request answer.
+fn calls_of(alloc: Global, link: &mut MemoryLink, request: &LinkRequest) -> Result<Blob, NoMemory> {
     let mut letters = Blob::new(alloc);
     for _ in 0..6 {
-        letters.push_byte(letter(&link.call(&request, 100)))?;
+        letters.push_byte(call(link, request))?;
     }
     Ok(letters)
+}
+
+fn six_calls(alloc: Global, link: &mut MemoryLink) -> Result<Blob, NoMemory> {
+    let request = request(alloc)?;
+    calls_of(alloc, link, &request)
 }
 
 // The letters of the calls that a link tells.
@@ -75,19 +90,18 @@ fn told(alloc: Global, link: &MemoryLink) -> Result<Blob, NoMemory> {
 
 // `new` begins one with these answers, which fails at the listed calls.
 impl Device for MemoryLink {
-    fn answer(&mut self, alloc: Global, name: &str, given: &str) -> Result<Blob, NoMemory> {
-        if name == "new" {
-            let (text, failing) = cut(given);
-            *self = MemoryLink::new(alloc, answers(alloc, text)?, list(alloc, failing)?);
-            return Ok(Blob::new(alloc));
+    fn begin(alloc: Global, given: &str) -> Result<MemoryLink, NoMemory> {
+        let (text, failing) = cut(given);
+        let failing = list(alloc, failing)?;
+        Ok(MemoryLink::new(alloc, answers(alloc, text)?, failing))
+    }
+
+    fn answer(&mut self, alloc: Global, name: &str, _: &str) -> Result<Blob, NoMemory> {
+        match name {
+            "call" => six_calls(alloc, self),
+            "told" => told(alloc, self),
+            _ => said(alloc, "unknown"),
         }
-        if name == "call" {
-            return six_calls(alloc, self);
-        }
-        if name == "told" {
-            return told(alloc, self);
-        }
-        said(alloc, "unknown")
     }
 }
 
@@ -111,7 +125,5 @@ told=ff23ff";
 
 #[test]
 fn a_link_answers_its_list(rt: HostRuntime) -> Result<(), Fail> {
-    let alloc = rt.alloc();
-    let mut link = MemoryLink::new(alloc, LinkAnswers::new(alloc), Places::new(alloc));
-    Ok(plays(&rt, alloc, &mut link, LINKS)?)
+    Ok(plays::<MemoryLink, _>(&rt, rt.alloc(), LINKS)?)
 }

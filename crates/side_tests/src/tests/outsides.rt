@@ -1,10 +1,8 @@
+use super::acceptors::answers;
 use super::disks::image;
-use super::{Device, cut, list, plays, said};
+use super::{Device, cut, digits, list, plays, said};
 use side_base::{Blob, Moment, NoMemory, Places};
-use side_memory::{
-    AcceptorAnswer, AcceptorAnswers, LinkAnswers, MemoryDisk, MemoryOutside, MemoryParts,
-    WorkerScript,
-};
+use side_memory::{LinkAnswers, MemoryAcceptor, MemoryDisk, MemoryOutside, Steps, WorkerScript};
 use side_world::{Accepted, Acceptor, Disk, Failed, Outside};
 use std::alloc::Global;
 use std::test::Fail;
@@ -18,19 +16,25 @@ fn write_front(disk: &mut MemoryDisk, piece: &[u8]) -> Result<(), Failed> {
     disk.write_at(0, piece)
 }
 
-// Takes a disk, writes over its front, and gives it back: the length that it was taken with, and whether the write failed.
+// The length of a disk, and how a write over its front ended.
+fn overwritten(alloc: Global, disk: &mut MemoryDisk, piece: &str) -> Result<Blob, NoMemory> {
+    let mut text = digits(alloc, disk.len().unwrap_or(8))?;
+    let end: &[u8] = match write_front(disk, piece.as_bytes()) {
+        Ok(()) => b" written",
+        Err(Failed) => b" failed",
+    };
+    text.push(end)?;
+    Ok(text)
+}
+
+// Takes a disk, writes over its front, and gives it back: the length that it was taken with, and how the write ended.
 fn used(alloc: Global, outside: &mut MemoryOutside, given: &str) -> Result<Blob, NoMemory> {
     let (path, piece) = cut(given);
     match outside.take_disk(path.as_bytes()) {
         Ok(mut disk) => {
-            let len = disk.len().unwrap_or(8);
-            let end = if write_front(&mut disk, piece.as_bytes()).is_err() {
-                "failed"
-            } else {
-                "written"
-            };
+            let text = overwritten(alloc, &mut disk, piece);
             outside.give_disk(path.as_bytes(), disk);
-            said(alloc, format!(in alloc; "{len} {end}")?.as_str())
+            text
         }
         Err(Failed) => said(alloc, "not taken"),
     }
@@ -44,106 +48,109 @@ fn held(alloc: Global, outside: &MemoryOutside, path: &str) -> Result<Blob, NoMe
     }
 }
 
-// How many writes and syncs the disk `j` has noted, and what a crash that tears the first one leaves.
+// How many writes and syncs a disk has noted, and what a crash that tears the first one leaves.
+fn notes_of(alloc: Global, disk: &MemoryDisk) -> Result<Blob, NoMemory> {
+    let mut text = digits(alloc, disk.moment() as u64)?;
+    text.push(b" ")?;
+    text.push(image(alloc, disk, 1, "F1")?.bytes())?;
+    Ok(text)
+}
+
+// The same of the disk `j`.
 fn noted(alloc: Global, outside: &MemoryOutside) -> Result<Blob, NoMemory> {
     match outside.disk(b"j") {
-        Some(disk) => {
-            let moment = disk.moment();
-            let torn = image(alloc, disk, 1, "F1")?;
-            let mut text = said(alloc, format!(in alloc; "{moment} ")?.as_str())?;
-            text.push(torn.bytes())?;
-            Ok(text)
-        }
+        Some(disk) => notes_of(alloc, disk),
         None => said(alloc, "none"),
     }
 }
 
-fn script(alloc: Global, answer: AcceptorAnswer) -> Result<Option<WorkerScript>, NoMemory> {
-    let mut answers = AcceptorAnswers::new(alloc);
-    answers.push(answer)?;
-    let Some(first) = Moment::at(5) else {
-        return Ok(None);
-    };
-    Ok(Some(WorkerScript {
-        answers,
+// A worker whose acceptor answers what a text names, and whose clock begins at this moment.
+fn script(alloc: Global, text: &str, first: Moment) -> Result<WorkerScript, NoMemory> {
+    Ok(WorkerScript {
+        answers: answers(alloc, text)?,
         failing_accepts: Places::new(alloc),
         link_answers: LinkAnswers::new(alloc),
         failing_calls: Places::new(alloc),
         first,
-        steps: list(alloc, "")?,
-    }))
+        steps: Steps::new(alloc),
+    })
 }
 
-fn add_worker(
-    alloc: Global,
-    outside: &mut MemoryOutside,
-    answer: AcceptorAnswer,
-) -> Result<(), NoMemory> {
-    match script(alloc, answer)? {
-        Some(script) => outside.add_worker(script),
+fn add_worker(alloc: Global, outside: &mut MemoryOutside, text: &str) -> Result<(), NoMemory> {
+    match Moment::at(5) {
+        Some(first) => outside.add_worker(script(alloc, text, first)?),
         None => Ok(()),
     }
 }
 
-// How many answers the acceptor of a worker that was given back tells.
-fn answered(alloc: Global, back: Option<&MemoryParts>) -> Result<Blob, NoMemory> {
-    let Some(parts) = back else {
-        return said(alloc, "none");
-    };
-    match parts.acceptor.notes() {
-        Some(notes) => {
-            let told = notes.len();
-            said(alloc, format!(in alloc; "{told}")?.as_str())
-        }
+// How many answers an acceptor tells.
+fn answered(alloc: Global, acceptor: &MemoryAcceptor) -> Result<Blob, NoMemory> {
+    match acceptor.notes() {
+        Some(notes) => digits(alloc, notes.len() as u64),
         None => said(alloc, "untold"),
     }
 }
 
-// Lets a worker accept once.
-fn worked(alloc: Global, outside: &mut MemoryOutside, number: u32) -> Result<Blob, NoMemory> {
-    match outside.worker(3500, number) {
-        Ok(mut parts) => {
-            let idle = matches!(parts.acceptor.accept(), Accepted::Idle);
-            outside.give_worker(number, parts);
-            said(alloc, if idle { "idle" } else { "not idle" })
-        }
-        Err(Failed) => said(alloc, "failed"),
+// The same of the acceptor of a worker that was given back.
+fn back(alloc: Global, outside: &MemoryOutside, number: u32) -> Result<Blob, NoMemory> {
+    match outside.back(number) {
+        Some(parts) => answered(alloc, &parts.acceptor),
+        None => said(alloc, "none"),
     }
 }
 
-// Numbers 7 and 8, a disk `j` of three bytes, and two workers, with the listed failing calls of the outside and of the disk.
-fn outside(alloc: Global, given: &str) -> Result<MemoryOutside, NoMemory> {
-    let (failing, of_disk) = cut(given);
-    let mut outside = MemoryOutside::new(alloc, list(alloc, "78")?, list(alloc, failing)?);
-    outside.add_disk(b"j", b"abc", list(alloc, of_disk)?)?;
-    add_worker(alloc, &mut outside, AcceptorAnswer::Idle)?;
-    add_worker(alloc, &mut outside, AcceptorAnswer::Closed)?;
-    Ok(outside)
+// Accepts once.
+fn accepted(acceptor: &mut MemoryAcceptor) -> &'static str {
+    match acceptor.accept() {
+        Accepted::Idle => "idle",
+        _ => "not idle",
+    }
 }
 
+// Lets a worker accept once.
+fn worked(outside: &mut MemoryOutside, number: u32) -> &'static str {
+    match outside.worker(3500, number) {
+        Ok(mut parts) => {
+            let answer = accepted(&mut parts.acceptor);
+            outside.give_worker(number, parts);
+            answer
+        }
+        Err(Failed) => "failed",
+    }
+}
+
+// Adds a disk `j` of three bytes, with its listed failing calls, and two workers, of which the second finds the acceptor closed.
+fn furnish(alloc: Global, outside: &mut MemoryOutside, failing: &str) -> Result<(), NoMemory> {
+    outside.add_disk(b"j", b"abc", list(alloc, failing)?)?;
+    add_worker(alloc, outside, "i")?;
+    add_worker(alloc, outside, "c")
+}
+
+// The number of a worker; 9 where a text is none.
+fn worker_in(text: &str) -> u32 {
+    text.parse().unwrap_or(9)
+}
+
+// `new` begins one with the numbers 7 and 8, a disk and two workers, and with the listed failing calls of the outside and of the disk.
 impl Device for MemoryOutside {
+    fn begin(alloc: Global, given: &str) -> Result<MemoryOutside, NoMemory> {
+        let (failing, of_disk) = cut(given);
+        let numbers = list(alloc, "78")?;
+        let mut outside = MemoryOutside::new(alloc, numbers, list(alloc, failing)?);
+        furnish(alloc, &mut outside, of_disk)?;
+        Ok(outside)
+    }
+
     fn answer(&mut self, alloc: Global, name: &str, given: &str) -> Result<Blob, NoMemory> {
-        if name == "use" {
-            return used(alloc, self, given);
+        match name {
+            "use" => used(alloc, self, given),
+            "held" => held(alloc, self, given),
+            "noted" => noted(alloc, self),
+            "number" => digits(alloc, self.start_number()),
+            "work" => said(alloc, worked(self, worker_in(given))),
+            "back" => back(alloc, self, worker_in(given)),
+            _ => said(alloc, "unknown"),
         }
-        if name == "held" {
-            return held(alloc, self, given);
-        }
-        if name == "noted" {
-            return noted(alloc, self);
-        }
-        if name == "number" {
-            let number = self.start_number();
-            return said(alloc, format!(in alloc; "{number}")?.as_str());
-        }
-        if name == "work" {
-            return worked(alloc, self, given.parse().unwrap_or(9));
-        }
-        if name == "back" {
-            return answered(alloc, self.back(given.parse().unwrap_or(9)));
-        }
-        *self = outside(alloc, given)?;
-        Ok(Blob::new(alloc))
     }
 }
 
@@ -176,7 +183,5 @@ back 0=1";
 
 #[test]
 fn an_outside_lends_its_parts(rt: HostRuntime) -> Result<(), Fail> {
-    let alloc = rt.alloc();
-    let mut outside = outside(alloc, "")?;
-    Ok(plays(&rt, alloc, &mut outside, OUTSIDES)?)
+    Ok(plays::<MemoryOutside, _>(&rt, rt.alloc(), OUTSIDES)?)
 }
