@@ -1,5 +1,6 @@
 pub mod Counting
 pub mod Givings
+pub mod Hashing
 pub mod Makings
 pub mod OwnPaths
 pub mod Places
