@@ -5,6 +5,7 @@ use Rattle.std.proofs.Math.Seq.{take-length}
 use Rattle.std.proofs.lemmas.List.{length-replicate, length-take-le, take_at, take-append-le, drop-append-le}
 use Rattle.std.proofs.lemmas.Bool.{cases_order}
 use Rattle.std.proofs.lemmas.Nat.{le_bytes_8, from_le_bytes-to_le_bytes_8}
+use Rattle.std.specs.Prelude.{slice_index}
 use Rattle.std.specs.Int.{w64, to_le_bytes, from_le_bytes}
 use Rattle.disk_journal.specs.Image.{record_of}
 use Rattle.disk_journal.specs.Parsing.{BeginsWith}
@@ -122,6 +123,11 @@ module _ (bytes : List ℕ) (are : AreBytes bytes) (some : 1 ≤ length bytes) (
           has_length = omega (arith, long, is, below eight eight_are);
           bytes_are = all ∙ ap (λ z. 1 ∷ z) (ap (λ z. eight ++ z) parts ∙ sym (append_assoc eight body rest) ∙ ap (λ z. (z ++ body) ++ rest) (sym says));
         }
+
+-- a part of a record begins with an open gate
+pub open_gate : (bytes more : List ℕ) → 1 ≤ length bytes → IsPart (bytes ++ more) → slice_index bytes 0 ≡ 1
+open_gate [] more some part = absurd (omega (arith, some))
+open_gate (gate ∷ behind) more some part = cc part.whole
 
 at_least_one : (missing : List ℕ) → missing ≢ [] → 1 ≤ length missing
 at_least_one [] some = absurd (some refl)

@@ -10,7 +10,7 @@ pub enum JournalErr {
     NotAJournal { at: u64 },
     /// `len`, the file's length after the record in bytes, exceeds the limit.
     Full { len: u128 },
-    /// There is no memory for the bodies.
+    /// There is no memory for what is held of the file, or for its bodies.
     NoMemory,
 }
 

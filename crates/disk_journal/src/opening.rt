@@ -6,7 +6,7 @@ use side_world::Disk;
 
 /// A journal that is being opened: it gives the bodies one after the other, from the first, and then the journal.
 ///
-/// It holds one block of the file at a time, of 1 MiB at most, or a record that is longer.
+/// It holds one block of the file at a time, of 1 MiB at most, or an open record that is longer, or what is left of the file where such a record runs past its end.
 #[derive(Drop)]
 pub struct Opening<D: Disk> {
     pub(crate) window: Window<D>,
@@ -50,7 +50,7 @@ impl<D: Disk> Opening<D> {
         }
     }
 
-    /// The body that was given last.
+    /// The body to which `advance` went on, as long as nothing else was called since it answered `true`.
     pub fn body(&self) -> &[u8]
         ensures { result.now ≡ body_of self.now }
     {

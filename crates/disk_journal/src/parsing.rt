@@ -1,7 +1,7 @@
 //! Where the bytes of a file have their records, and where they are no journal.
 ghost use Rattle.std.specs.Prelude.{◌≡◌, ◌≢◌, ◌⊎◌, ◌<◌, ◌≤◌, length, take, slice_index, IfSome, IfNone};
 ghost use Rattle.disk_journal.specs.Image.{header};
-ghost use Rattle.disk_journal.specs.Parsing.{IsFound, Suffices};
+ghost use Rattle.disk_journal.specs.Parsing.{IsFound, IsClosed, Suffices};
 ghost use Rattle.disk_journal.specs.Refusal.{IsTooShort, HasOtherHeader};
 
 use crate::formatting::{EMPTY, HEADER_BYTES, RECORD_BYTES};
@@ -66,13 +66,18 @@ pub(crate) fn found_in(bytes: &[u8]) -> Found<'_>
     Found::Record { body, rest }
 }
 
-/// How many bytes show whether the record at the front of `bytes` is whole: all of it, where its length stands there.
+/// How many bytes show whether the record at the front of `bytes` is whole: all of it, where its length stands there. Behind a closed gate
+/// there is no record, and none are wanted.
 pub(crate) fn wanted_of(bytes: &[u8]) -> u64
-    ensures { Suffices bytes.now result }
+    ensures suffices { Suffices bytes.now result }
+    ensures closed { IsClosed bytes.now → result ≡ 0 }
 {
-    let [_, behind @ ..] = bytes else {
+    let [open, behind @ ..] = bytes else {
         return 0;
     };
+    if *open != 1 {
+        return 0;
+    }
     let Some((len, _)) = behind.split_first_chunk::<8>() else {
         return 0;
     };

@@ -13,4 +13,4 @@ returns-in-Cut-clause-ends g c at is =
     let first = c.in_ok-hold.ensures in
     let second = c.in_ok-hold-2.ensures in
     ends_there (held_of one) (held_of two) second.held.0 c.wanted_of-wanted.result (place_of one) (place_of two) (size (disk_of one)) (size (disk_of two)) first.enough second.enough second.all second.held.1 second.place second.same.size
-    (omega (arith, two.short, two.sized, length-drop two.start two.buffer.items)) (subst (λ z. Suffices z c.wanted_of-wanted.result) c.held.ensures c.wanted_of-wanted.ensures) (subst IsPart c.held-2.ensures c.in-Cut.ensures)
+    (omega (arith, two.short, two.sized, length-drop two.start two.buffer.items)) (subst (λ z. Suffices z c.wanted_of-wanted.result) c.held.ensures c.wanted_of-wanted.ensures.suffices) (subst IsPart c.held-2.ensures c.in-Cut.ensures)
