@@ -22,7 +22,7 @@ use Rattle.sidecar_words.specs.declared.given.Words.{Words}
 use Rattle.sidecar_cli.specs.Configured.{IsConfigured, Says}
 use Rattle.sidecar_cli.specs.Play.{IsClosed, IsDown, IsFinished, IsUp}
 use Rattle.sidecar_cli.specs.Status.{spent_or}
-use Rattle.sidecar_cli.specs.World.{OutsideAt, WorldAt}
+use Rattle.sidecar_cli.specs.World.{OutsideAt, WorldAt, secret_of}
 use Rattle.sidecar_cli.specs.declared.status.Status.{Status}
 use Rattle.sidecar_cli.specs.declared.status.Status.TheVariants as ends
 use Rattle.sidecar_cli.specs.declared.status.Device.TheVariants.{Acceptor, Outside}
@@ -55,10 +55,10 @@ status_at ended.NoMemory = ends.NoMemory
 abbrev pub status_after_serving : End → Option ℕ → Status
 status_after_serving end spent = spent_or (option_or (spent_at end) spent) (status_at end)
 
--- A number was asked for each of so many streams of random words, in order, and two more behind them
-abbrev pub AsksForStreams : (ℕ → Stream) → ℕ → List Stream → Option (List ℕ) → Option (List ℕ) → Type 0
-AsksForStreams words_of count streams numbers numbers' =
-    (seeds : List ℕ) × (one : ℕ) × (other : ℕ) × (length seeds ≡ count) × (streams ≡ map words_of seeds) × Tells numbers numbers' (seeds ++ one ∷ other ∷ [])
+-- A number was asked for each of so many streams of random words, in order, and two more behind them, of which the secret is
+abbrev pub AsksForStreams : (ℕ → Stream) → ℕ → List Stream → List ℕ → Option (List ℕ) → Option (List ℕ) → Type 0
+AsksForStreams words_of count streams secret numbers numbers' =
+    (seeds : List ℕ) × (one : ℕ) × (other : ℕ) × (length seeds ≡ count) × (streams ≡ map words_of seeds) × Tells numbers numbers' (seeds ++ one ∷ other ∷ []) × (secret ≡ secret_of one other)
 
 module _ {D : Type 0} {disking : Keeps D} {keeping : Ghosts (AnyKeeper D disking)} (kinds : Kinds (Store (AnyKeeper D disking) keeping)) where
   -- workers were opened over these objects, ran and were met, with one stream of random words each; the disks and the numbers of the outside were left

@@ -1,5 +1,6 @@
 -- What a run has of the outside, as it shows it.
-use Rattle.std.specs.Prelude.{ℕ, List, Option}
+use Rattle.std.specs.Prelude.{ℕ, List, ◌++◌, Option}
+use Rattle.std.specs.Int.{w64, to_le_bytes}
 use Rattle.rand_core.specs.Stream.{Stream}
 use Rattle.rand_core.specs.declared.Rng.{Ghosts as Draws}
 use Rattle.rand_core.specs.declared.seedable_rng.SeedableRng.{Ghosts as Seeds}
@@ -68,6 +69,10 @@ OverWorld gives takes notes holds asks times lends P world world' result =
 abbrev pub OverOutside : {E O D A' L' C' S' N' X : Type 0} → Takes E → Lends O D A' L' C' S' N' → (SinkAt → SinkAt → OutsideAt → OutsideAt → X → Type 0) → E → E → O → O → X → Type 0
 OverOutside notes lends P note note' outside outside' result =
     P (sink_at notes note) (sink_at notes note') (outside_at lends outside) (outside_at lends outside') result
+
+-- the secret bytes of two numbers: eight of each, the lowest first
+abbrev pub secret_of : ℕ → ℕ → List ℕ
+secret_of one other = to_le_bytes w64 one ++ to_le_bytes w64 other
 
 -- the random words of such a generator, by the number from which it begins
 abbrev pub words_by : {R S : Type 0} → Draws R → Seeds R S → ℕ → Stream

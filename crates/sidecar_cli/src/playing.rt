@@ -7,7 +7,7 @@ ghost use Rattle.sidecar_core.specs.Started.{IsRoomFor};
 ghost use Rattle.sidecar_keepers.specs.Kinds.{AllFit};
 ghost use Rattle.sidecar_keepers.specs.Stores.{stores_of};
 ghost use Rattle.sidecar_cli.specs.Play.{IsBegun, IsClosed, IsFinished, IsKept, IsPlay, IsServedBy, IsSession};
-ghost use Rattle.sidecar_cli.specs.World.{OverOutside, OverWorld, outside_at, words_by};
+ghost use Rattle.sidecar_cli.specs.World.{OverOutside, OverWorld, outside_at, secret_of, words_by};
 
 use crate::configuring::{configured, without_resources};
 use crate::counting::tell_ledgers;
@@ -43,7 +43,7 @@ pub(crate) fn play<S: Source, N: Sink, E: Sink, F: Files, L: Link, C: Clock, O: 
 
 /// The number from which the random words begin, and secret bytes, of two further numbers.
 fn start_numbers<O: Outside>(outside: &mut O) -> (u64, [u8; 16])
-    ensures asked { (one : ℕ) × (other : ℕ) × Tells (O.numbers outside.old) (O.numbers outside.new) (result.0 ∷ one ∷ other ∷ []) }
+    ensures asked { (one : ℕ) × (other : ℕ) × Tells (O.numbers outside.old) (O.numbers outside.new) (result.0 ∷ one ∷ other ∷ []) × (result.1 ≡ secret_of one other) }
     ensures disks { O.disks outside.new ≡ O.disks outside.old }
     ensures calls { O.calls outside.new ≡ O.calls outside.old }
     ensures backs { O.backs outside.new ≡ O.backs outside.old }
@@ -193,7 +193,9 @@ pub(crate) fn close<O: Outside>(
 }
 
 /// The secret bytes of two numbers.
-pub(crate) fn secret(one: u64, other: u64) -> [u8; 16] {
+pub(crate) fn secret(one: u64, other: u64) -> [u8; 16]
+    ensures { result ≡ secret_of one other }
+{
     let mut bytes = [0; 16];
     bytes[..8].copy_from_slice(&one.to_le_bytes());
     bytes[8..].copy_from_slice(&other.to_le_bytes());
