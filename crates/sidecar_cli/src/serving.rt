@@ -62,7 +62,7 @@ fn worker_numbers<O: Outside>(
     workers: u32,
     outside: &mut O,
 ) -> Result<Numbers, NoMemory>
-    ensures asked { IfOk result (λ numbers. AsksForStreams (words_by ⟦<Pcg64 as Rng>⟧ ⟦<Pcg64 as SeedableRng>⟧) workers (map (λ rng. ⟦<Pcg64 as Rng>⟧.stream rng) numbers.rngs.items) numbers.secret (O.numbers outside.old) (O.numbers outside.new)) }
+    ensures asked { IfOk result (λ made. AsksForStreams (words_by ⟦<Pcg64 as Rng>⟧ ⟦<Pcg64 as SeedableRng>⟧) workers (map (λ rng. ⟦<Pcg64 as Rng>⟧.stream rng) made.rngs.items) made.secret (O.numbers outside.old) (O.numbers outside.new)) }
     ensures disks { O.disks outside.new ≡ O.disks outside.old }
     ensures calls { O.calls outside.new ≡ O.calls outside.old }
     ensures backs { O.backs outside.new ≡ O.backs outside.old }
