@@ -14,7 +14,7 @@ use Rattle.disk_journal.specs.declared.error.JournalErr.TheVariants.{NotAJournal
 use Rattle.disk_journal.specs.declared.journal.Journal.{Journal}
 use Rattle.disk_journal.proofs.Crashes.{OnlyNow}
 use Rattle.disk_journal.proofs.Runs as runs
-use Rattle.keeper_journal.specs.AnyKeeper.{any_leads, KeptByAny, AnyReads, IsWhole}
+use Rattle.keeper_journal.specs.AnyKeeper.{any_leads, KeptByAny, AnyReads, HasJust, IsWhole}
 use Rattle.keeper_journal.specs.declared.any_keeper.AnyKeeper.{AnyKeeper}
 use Rattle.keeper_journal.specs.declared.any_keeper.AnyKeeper.TheVariants as any
 use Rattle.keeper_journal.specs.History.{IsHistory}
@@ -66,7 +66,7 @@ module _ {D : Type 0} (disking : Ghosts D) where
 
   -- and what it has where its journal is not torn
   pub disk_has_just : (first last : AnyKeeper D disking) (answers : List (Option Changes)) (commits made : List Changes) (doubt : Option Changes) → any_leads first answers last → core.acknowledged answers ≡ made → KeptByAny first commits doubt
-      → IsWhole last → AnyReads last (λ bytes. IsHistory bytes (commits ++ made))
+      → IsWhole last → HasJust last (commits ++ made)
   disk_has_just (any.Memory first) (any.Memory last) answers commits made doubt leads is kept whole = tt
   disk_has_just (any.Memory first) (any.Journal last) answers commits made doubt leads is kept whole = absurd leads
   disk_has_just (any.Journal first) (any.Memory last) answers commits made doubt leads is kept whole = tt

@@ -11,6 +11,7 @@ use Rattle.keeper_core.specs.declared.changes.Changes.{Changes}
 use Rattle.keeper_journal.specs.JournalKeeper as journal
 use Rattle.disk_journal.specs.Journal.{torn_of}
 use Rattle.disk_journal.specs.Moments.{Reads}
+use Rattle.keeper_journal.specs.History.{IsHistory}
 use Rattle.keeper_journal.specs.Kept.{Kept}
 use Rattle.keeper_journal.specs.Run.{Leads, leads_on}
 use Rattle.keeper_journal.specs.declared.any_keeper.AnyKeeper.{AnyKeeper}
@@ -69,6 +70,10 @@ KeptByAny {disking = disking} (Journal keeper) commits doubt = Kept disking keep
 abbrev pub AnyReads : {D : Type 0} {disking : Ghosts D} → AnyKeeper D disking → (List ℕ → Type 0) → Type 0
 AnyReads (Memory keeper) P = Unit {0}
 AnyReads {disking = disking} (Journal keeper) P = Reads disking (journal.disk_in keeper) P
+
+-- its disk has just these commits
+abbrev pub HasJust : {D : Type 0} {disking : Ghosts D} → AnyKeeper D disking → List Changes → Type 0
+HasJust keeper commits = AnyReads keeper (λ bytes. IsHistory bytes commits)
 
 -- its journal, where it has one, is not torn: no commit failed at its gate since the last one that was made, or that repaired it
 abbrev pub IsWhole : {D : Type 0} {disking : Ghosts D} → AnyKeeper D disking → Type 0

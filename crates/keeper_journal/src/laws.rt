@@ -9,7 +9,7 @@ ghost use Rattle.disk_journal.specs.declared.error.JournalErr.TheVariants.{NotAJ
 ghost use Rattle.keeper_journal.specs.Body.{IsBodyOf};
 ghost use Rattle.keeper_journal.specs.History.{IsHistory, IsRefusedAt};
 ghost use Rattle.keeper_journal.specs.JournalKeeper.{disk_in, next_in, size_in, limit_in, size_with};
-ghost use Rattle.keeper_journal.specs.AnyKeeper.{KeptByAny, AnyReads, IsWhole};
+ghost use Rattle.keeper_journal.specs.AnyKeeper.{KeptByAny, AnyReads, HasJust, IsWhole};
 ghost use Rattle.keeper_journal.specs.declared.any_keeper.AnyKeeper.{AnyKeeper};
 ghost use Rattle.keeper_journal.specs.Run.{HasAtMostOneMore, IsCall, KeepsOfRun, LeavesWhatWasMade, AfterACrash};
 ghost use Rattle.keeper_journal.specs.declared.journal_keeper.JournalKeeper.{JournalKeeper};
@@ -61,7 +61,7 @@ pub fn a_crash_leaves_what_was_acknowledged<D: Disk>()
 /// order, and then at most one more; just those, where its journal is not torn.
 pub fn a_disk_has_what_was_made<D: Disk>()
     ensures most { (first last : AnyKeeper D D.Disk) (kept made : List Changes) (doubt : Option Changes) → HasMade ⟦<AnyKeeper<D> as Keeper>⟧ first last made → KeptByAny first kept doubt → AnyReads last (HasAtMostOneMore (kept ++ made)) }
-    ensures just { (first last : AnyKeeper D D.Disk) (kept made : List Changes) (doubt : Option Changes) → HasMade ⟦<AnyKeeper<D> as Keeper>⟧ first last made → KeptByAny first kept doubt → IsWhole last → AnyReads last (λ bytes. IsHistory bytes (kept ++ made)) }
+    ensures just { (first last : AnyKeeper D D.Disk) (kept made : List Changes) (doubt : Option Changes) → HasMade ⟦<AnyKeeper<D> as Keeper>⟧ first last made → KeptByAny first kept doubt → IsWhole last → HasJust last (kept ++ made) }
 {}
 
 /// Starts on what a crash at such a moment left: it keeps just those commits, and so has their rows and their next version; it is never
