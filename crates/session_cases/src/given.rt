@@ -2,7 +2,7 @@
 
 use case_text::{Section, name_in, number_in};
 use side_base::{Places, Text};
-use side_memory::Sizes;
+use side_memory::{Sizes, Steps};
 use std::alloc::Global;
 
 /// The words of a case that gives none.
@@ -28,6 +28,17 @@ pub(crate) fn sizes(alloc: Global, sections: &[Section<'_>]) -> Sizes {
         }
     }
     sizes
+}
+
+/// How far each reading of the clock moves it on, in milliseconds.
+pub(crate) fn steps(alloc: Global, sections: &[Section<'_>]) -> Steps {
+    let mut steps = Steps::new(alloc);
+    if let Some(numbers) = name_in(sections, "steps") {
+        for number in numbers.split(' ') {
+            let _ = steps.push(u64::from(number_in(number)));
+        }
+    }
+    steps
 }
 
 fn add_word(alloc: Global, words: &mut Vec<Text>, word: &str) {

@@ -1,10 +1,11 @@
 // A case, played and compared.
 
-use crate::given::words;
+use crate::given::{sizes, words};
 use crate::world::{Made, world};
 use case_text::{Lines, Piece, Section, joined_text, name_in, sections, text_of};
 use itoa::Buffer;
 use side_base::Text;
+use side_memory::Sizes;
 use sidecar_cli::sidecar_main;
 use std::alloc::Global;
 use std::sync::Wait;
@@ -25,6 +26,8 @@ fn is_known(word: &str) -> bool {
         | "disk"
         | "input"
         | "reads"
+        | "cuts"
+        | "steps"
         | "source-fails"
         | "sink-fails"
         | "note-fails"
@@ -67,12 +70,41 @@ fn compare_all(alloc: Global, sections: &[Section<'_>], world: &Made, status: u8
     lines
 }
 
-// What is wrong of a case whose sections are these.
-fn report<W: Threads + Wait + Sync>(rt: &W, alloc: Global, sections: &[Section<'_>]) -> Text {
-    let mut world = world(alloc, sections);
+// What is wrong of a case whose sections are these, where the reads bring so many bytes at most.
+fn report<W: Threads + Wait + Sync>(
+    rt: &W,
+    alloc: Global,
+    sections: &[Section<'_>],
+    reads: Sizes,
+) -> Text {
+    let mut world = world(alloc, sections, reads);
     let words = words(alloc, sections);
     let status = sidecar_main(rt, alloc, words.as_slice(), &mut world);
     compare_all(alloc, sections, &world, status.code()).into_text()
+}
+
+// What is wrong where the input comes in two pieces, cut behind each of its bytes in turn.
+fn report_of_cuts<W: Threads + Wait + Sync>(
+    rt: &W,
+    alloc: Global,
+    sections: &[Section<'_>],
+) -> Text {
+    let mut lines = Lines::new(alloc);
+    for place in 1..=joined_text(alloc, sections, "input").len().max(1) {
+        let mut reads = Sizes::new(alloc);
+        let _ = reads.push(place);
+        lines.add(report(rt, alloc, sections, reads).as_str());
+    }
+    lines.into_text()
+}
+
+// What is wrong of a case, in one piece or in many.
+fn whole_report<W: Threads + Wait + Sync>(rt: &W, alloc: Global, sections: &[Section<'_>]) -> Text {
+    if name_in(sections, "cuts").is_some() {
+        report_of_cuts(rt, alloc, sections)
+    } else {
+        report(rt, alloc, sections, sizes(alloc, sections))
+    }
 }
 
 // A report below the title of its case, if it says anything.
@@ -87,7 +119,7 @@ fn with_title(alloc: Global, case: &Piece<'_>, report: &Text) -> Text {
 
 fn play<W: Threads + Wait + Sync>(rt: &W, alloc: Global, case: &Piece<'_>) -> Text {
     match sections(alloc, case) {
-        Ok(sections) => with_title(alloc, case, &report(rt, alloc, sections.as_slice())),
+        Ok(sections) => with_title(alloc, case, &whole_report(rt, alloc, &sections)),
         Err(_) => Text::from_static(alloc, "no memory\n"),
     }
 }

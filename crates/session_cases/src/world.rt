@@ -1,11 +1,10 @@
 // The world of a case, in memory.
 
-use crate::given::{places, sizes};
+use crate::given::{places, steps};
 use case_text::{Section, joined_text, text_of};
 use side_base::{Moment, Places, Sequence, Text};
 use side_memory::{
     MemoryClock, MemoryFiles, MemoryLink, MemoryOutside, MemorySink, MemorySource, Numbers, Sizes,
-    Steps,
 };
 use sidecar_cli::World;
 use std::alloc::Global;
@@ -57,10 +56,9 @@ fn outside(alloc: Global, sections: &[Section<'_>]) -> MemoryOutside {
     outside
 }
 
-fn source(alloc: Global, sections: &[Section<'_>]) -> MemorySource {
+fn source(alloc: Global, sections: &[Section<'_>], reads: Sizes) -> MemorySource {
     let input = joined_text(alloc, sections, "input");
-    let failing = places(alloc, sections, "source-fails");
-    MemorySource::new(input, sizes(alloc, sections), failing)
+    MemorySource::new(input, reads, places(alloc, sections, "source-fails"))
 }
 
 // A sink of which the calls behind this word fail.
@@ -76,15 +74,15 @@ fn first_moment() -> Moment {
     }
 }
 
-/// The world of a case.
-pub(crate) fn world(alloc: Global, sections: &[Section<'_>]) -> Made {
+/// The world of a case, whose reads bring so many bytes at most.
+pub(crate) fn world(alloc: Global, sections: &[Section<'_>], reads: Sizes) -> Made {
     World {
-        source: source(alloc, sections),
+        source: source(alloc, sections, reads),
         sink: sink(alloc, sections, "sink-fails"),
         note: sink(alloc, sections, "note-fails"),
         files: files(alloc, sections),
         link: MemoryLink::new(alloc, Sequence::new(alloc), Sequence::new(alloc)),
-        clock: MemoryClock::new(alloc, first_moment(), Steps::new(alloc)),
+        clock: MemoryClock::new(alloc, first_moment(), steps(alloc, sections)),
         outside: outside(alloc, sections),
     }
 }
