@@ -17,40 +17,51 @@ fn long_chunk(alloc: Global) -> Result<Vec<u8>, AllocError> {
     Ok(bytes)
 }
 
-/// Whether more bytes are needed.
-fn needs(answer: Result<Step, FrameErr>) -> bool {
-    match answer {
-        Ok(Step::Need) => true,
-        Ok(_) => false,
-        Err(_) => false,
+/// Whether more bytes are needed behind this piece.
+fn needs_more(framer: &mut Framer, piece: &[u8]) -> Result<bool, AllocError> {
+    framer.feed(piece)?;
+    match framer.next() {
+        Ok(Step::Need) => Ok(true),
+        Ok(_) | Err(_) => Ok(false),
     }
 }
 
-/// The most bytes that are held behind a piece, where 64 MiB of such chunks come and then a chunk that is too long; 0 where
-/// something else is given.
-fn most_held(alloc: Global) -> Result<usize, AllocError> {
-    let chunk = long_chunk(alloc)?;
-    let mut framer = Framer::new(alloc);
-    framer.feed(HEAD.as_bytes())?;
+/// The most bytes that are held behind one of so many pieces; 0 where something else than more bytes is asked for.
+fn most_held(framer: &mut Framer, piece: &[u8], pieces: u32) -> Result<usize, AllocError> {
     let mut most = 0;
-    for _ in 0..4096 {
-        framer.feed(&chunk)?;
-        most = framer.held().max(most);
-        if !needs(framer.next()) {
+    for _ in 0..pieces {
+        if !needs_more(framer, piece)? {
             return Ok(0);
         }
+        most = framer.held().max(most);
     }
-    framer.feed(LONG.as_bytes())?;
-    if framer.next().err() == Some(FrameErr::TooLong) {
-        Ok(most)
-    } else {
-        Ok(0)
-    }
+    Ok(most)
 }
 
-/// One chunk, and 4,095 bytes of content.
+/// Whether this piece makes the content too long.
+fn is_too_long(framer: &mut Framer, piece: &[u8]) -> Result<bool, AllocError> {
+    framer.feed(piece)?;
+    Ok(framer.next().err() == Some(FrameErr::TooLong))
+}
+
+/// What is held at most of 64 MiB of such chunks, and whether a further chunk makes the content too long.
+fn outcome(framer: &mut Framer, chunk: &[u8]) -> Result<(usize, bool), AllocError> {
+    framer.feed(HEAD.as_bytes())?;
+    let most = most_held(framer, chunk, 4096)?;
+    Ok((most, is_too_long(framer, LONG.as_bytes())?))
+}
+
+/// The same of a framer of its own.
+fn fresh_outcome(alloc: Global) -> Result<(usize, bool), AllocError> {
+    let chunk = long_chunk(alloc)?;
+    outcome(&mut Framer::new(alloc), &chunk)
+}
+
+/// One chunk is held, and 4,095 bytes of content.
 #[test]
 fn long_chunk_lines_are_dropped(rt: HostRuntime) -> Result<(), Fail> {
-    assert_eq!(rt; most_held(rt.alloc())?, 20_482);
+    let (most, is_too_long) = fresh_outcome(rt.alloc())?;
+    assert_eq!(rt; most, 20_482);
+    assert!(rt; is_too_long);
     Ok(())
 }

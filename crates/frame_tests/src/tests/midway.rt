@@ -27,9 +27,6 @@ fn first_request(alloc: Global, bytes: &[u8]) -> Result<Option<Request>, FrameEr
 #[test]
 fn a_stream_may_be_left(rt: HostRuntime) -> Result<(), Fail> {
     let found = first_request(rt.alloc(), b"GET /a HTTP/1.1\r\nHost: a\r\n\r\nGET /b HT")?;
-    match found {
-        Some(request) => assert_eq!(rt; request.target.bytes(), b"/a".as_slice()),
-        None => assert!(rt; false),
-    }
+    assert!(rt; found.is_some_and(|request| request.target.bytes() == b"/a".as_slice()));
     Ok(())
 }
