@@ -17,23 +17,23 @@ fn long_chunk(alloc: Global) -> Result<Vec<u8>, AllocError> {
     Ok(bytes)
 }
 
-/// Whether more bytes are needed behind this piece.
-fn needs_more(framer: &mut Framer, piece: &[u8]) -> Result<bool, AllocError> {
-    framer.feed(piece)?;
+/// Whether more bytes are needed.
+fn needs(framer: &mut Framer) -> bool {
     match framer.next() {
-        Ok(Step::Need) => Ok(true),
-        Ok(_) | Err(_) => Ok(false),
+        Ok(Step::Need) => true,
+        Ok(_) | Err(_) => false,
     }
 }
 
-/// The most bytes that are held behind one of so many pieces; 0 where something else than more bytes is asked for.
+/// The most bytes that are held behind one of so many pieces, before it is looked at; 0 where something else than more bytes is asked for.
 fn most_held(framer: &mut Framer, piece: &[u8], pieces: u32) -> Result<usize, AllocError> {
     let mut most = 0;
     for _ in 0..pieces {
-        if !needs_more(framer, piece)? {
+        framer.feed(piece)?;
+        most = framer.held().max(most);
+        if !needs(framer) {
             return Ok(0);
         }
-        most = framer.held().max(most);
     }
     Ok(most)
 }
