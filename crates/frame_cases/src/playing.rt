@@ -1,4 +1,4 @@
-// A case, played and compared.
+// A case, played and compared. Where memory lacks for a part, that part is missing, and the case differs.
 
 use crate::given::is_among;
 use crate::messages::{play_request, play_response};
@@ -6,7 +6,6 @@ use crate::routing::{play_error, play_routes, play_target};
 use crate::sets::{is_method, play_set};
 use crate::streams::play_stream;
 use case_text::{Lines, Piece, Section, sections};
-use side_base::{NoMemory, Text};
 use std::alloc::Global;
 
 /// The words of sections, but for the methods.
@@ -22,12 +21,7 @@ fn add_unknown(sections: &[Section<'_>], lines: &mut Lines) {
 }
 
 // Plays a case whose first section has this word.
-fn play_of(
-    alloc: Global,
-    word: &str,
-    sections: &[Section<'_>],
-    lines: &mut Lines,
-) -> Result<(), NoMemory> {
+fn play_of(alloc: Global, word: &str, sections: &[Section<'_>], lines: &mut Lines) {
     match word {
         "stream" => play_stream(alloc, sections, lines),
         "response" => play_response(alloc, sections, lines),
@@ -40,17 +34,12 @@ fn play_of(
 }
 
 // Plays a case whose first section has this word, which is a method.
-fn play_method(
-    alloc: Global,
-    word: &str,
-    sections: &[Section<'_>],
-    lines: &mut Lines,
-) -> Result<(), NoMemory> {
+fn play_method(alloc: Global, word: &str, sections: &[Section<'_>], lines: &mut Lines) {
     if is_method(word) {
-        return play_routes(alloc, sections, lines);
+        play_routes(alloc, sections, lines);
+    } else {
+        lines.add_line("nothing is asked", "");
     }
-    lines.add_line("nothing is asked", "");
-    Ok(())
 }
 
 fn first_word<'a>(sections: &[Section<'a>]) -> &'a str {
@@ -60,36 +49,24 @@ fn first_word<'a>(sections: &[Section<'a>]) -> &'a str {
     }
 }
 
-// A report below the title of its case, if it says anything.
-fn with_title(alloc: Global, case: &Piece<'_>, report: &Text) -> Result<Text, NoMemory> {
-    let mut lines = Lines::new(alloc);
-    if !report.is_empty() {
-        lines.add_line("== ", str::from_utf8(case.head).unwrap_or("no text"));
-        lines.add(report.as_str());
-    }
-    lines.done()
+fn play_sections(alloc: Global, sections: &[Section<'_>], lines: &mut Lines) {
+    add_unknown(sections, lines);
+    play_of(alloc, first_word(sections), sections, lines);
 }
 
-fn play(alloc: Global, case: &Piece<'_>) -> Result<Text, NoMemory> {
-    let sections = sections(alloc, case)?;
-    let mut lines = Lines::new(alloc);
-    add_unknown(sections.as_slice(), &mut lines);
-    play_of(
-        alloc,
-        first_word(sections.as_slice()),
-        sections.as_slice(),
-        &mut lines,
-    )?;
-    with_title(alloc, case, &lines.done()?)
+/// Adds what is wrong of a case; nothing where it is right.
+pub(crate) fn play(alloc: Global, case: &Piece<'_>, lines: &mut Lines) {
+    match sections(alloc, case) {
+        Ok(sections) => play_sections(alloc, &sections, lines),
+        Err(_) => lines.add_line("no memory", ""),
+    }
 }
 
-/// What is wrong of a case; nothing where it is right. Where the reader of the case finds no memory it is played again.
-pub(crate) fn played(alloc: Global, case: &Piece<'_>) -> Text {
-    match play(alloc, case) {
-        Ok(report) => report,
-        Err(_) => match play(alloc, case) {
-            Ok(report) => report,
-            Err(_) => Text::from_static(alloc, "no memory\n"),
-        },
-    }
+/// Whether nothing is wrong of a case.
+pub(crate) fn is_right(alloc: Global, case: &Piece<'_>) -> bool {
+    let mut lines = Lines::new(alloc);
+    play(alloc, case, &mut lines);
+    let is_right = lines.is_empty();
+    drop(lines);
+    is_right
 }

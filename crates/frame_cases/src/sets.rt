@@ -28,43 +28,34 @@ pub(crate) fn is_method(word: &str) -> bool {
     is_among(NAMES, word)
 }
 
-fn with(set: Methods, name: &str) -> Methods {
-    match name {
-        "DELETE" => Methods {
-            delete: true,
-            ..set
-        },
-        "GET" => Methods { get: true, ..set },
-        "HEAD" => Methods { head: true, ..set },
-        "OPTIONS" => Methods {
-            options: true,
-            ..set
-        },
-        "PATCH" => Methods { patch: true, ..set },
-        "POST" => Methods { post: true, ..set },
-        "PUT" => Methods { put: true, ..set },
-        _ => set,
-    }
-}
-
 fn set_of(names: &str) -> Methods {
-    let mut set = Methods::NONE;
-    for name in names.split(' ') {
-        set = with(set, name);
+    Methods {
+        delete: is_among(names, "DELETE"),
+        get: is_among(names, "GET"),
+        head: is_among(names, "HEAD"),
+        options: is_among(names, "OPTIONS"),
+        patch: is_among(names, "PATCH"),
+        post: is_among(names, "POST"),
+        put: is_among(names, "PUT"),
     }
-    set
 }
 
-// The names of the methods that a set has, a space before each.
-fn had(alloc: Global, set: Methods) -> Result<Blob, NoMemory> {
-    let mut text = Blob::new(alloc);
-    for name in NAMES.split(' ') {
-        if set.has(method_of(name)) {
-            text.push(b" ")?;
-            text.push(name.as_bytes())?;
-        }
+fn add_if(is: bool, name: &str, had: &mut Lines) {
+    if is {
+        had.add(name);
     }
-    Ok(text)
+}
+
+// Adds the names of the methods that a set has, a space behind each.
+fn add_had(set: Methods, had: &mut Lines) {
+    add_if(set.has(Method::Delete), "DELETE ", had);
+    add_if(set.has(Method::Get), "GET ", had);
+    add_if(set.has(Method::Head), "HEAD ", had);
+    add_if(set.has(Method::Options), "OPTIONS ", had);
+    add_if(set.has(Method::Patch), "PATCH ", had);
+    add_if(set.has(Method::Post), "POST ", had);
+    add_if(set.has(Method::Put), "PUT ", had);
+    add_if(set.has(Method::Other), "OTHER ", had);
 }
 
 /// Appends the text of a set. A call that found no memory is made again.
@@ -75,23 +66,31 @@ pub(crate) fn push_allow(set: Methods, out: &mut Blob) -> Result<(), NoMemory> {
     }
 }
 
+fn compare_had(alloc: Global, set: Methods, wanted: &str, lines: &mut Lines) {
+    let mut had = Lines::new(alloc);
+    add_had(set, &mut had);
+    lines.compare("has", wanted.as_bytes(), had.as_str().trim_end().as_bytes());
+    drop(had);
+}
+
+// Writes what stands before the text of a set, and that text.
+fn push_line(set: Methods, out: &mut Blob) -> Result<(), NoMemory> {
+    out.push(b"Allow: ")?;
+    push_allow(set, out)
+}
+
+fn compare_allow(alloc: Global, set: Methods, wanted: &[u8], lines: &mut Lines) {
+    let mut out = Blob::new(alloc);
+    let _ = push_line(set, &mut out);
+    lines.compare("allow", wanted, out.bytes());
+    drop(out);
+}
+
 /// Adds where a set of methods does not have those that it should, or is not written as it should.
-pub(crate) fn play_set(
-    alloc: Global,
-    sections: &[Section<'_>],
-    lines: &mut Lines,
-) -> Result<(), NoMemory> {
+pub(crate) fn play_set(alloc: Global, sections: &[Section<'_>], lines: &mut Lines) {
     let set = set_of(name_in(sections, "set").unwrap_or(""));
-    let wanted = named(alloc, sections, "allow")?;
-    let had = had(alloc, set)?;
-    let mut out = Blob::from_bytes(alloc, b"Allow: ")?;
-    push_allow(set, &mut out)?;
-    let has = name_in(sections, "has").unwrap_or("").as_bytes();
-    lines.compare(
-        "has",
-        has,
-        had.bytes().strip_prefix(b" ".as_slice()).unwrap_or(b""),
-    );
-    lines.compare("allow", wanted.bytes(), out.bytes());
-    Ok(())
+    let wanted = named(alloc, sections, "allow");
+    compare_had(alloc, set, name_in(sections, "has").unwrap_or(""), lines);
+    compare_allow(alloc, set, wanted.bytes(), lines);
+    drop(wanted);
 }

@@ -1,10 +1,9 @@
 // What a framer gives for a stream.
 
 use crate::given::{has, named};
-use case_text::{Lines, Section, joined, name_in, number_in};
+use case_text::{Lines, Section, joined_text, name_in, number_in};
 use http_frames::{FrameErr, Framer, Step, closes};
-use itoa::Buffer;
-use side_base::{Blob, NoMemory, Request};
+use side_base::{NoMemory, Request};
 use std::alloc::Global;
 
 /// Sizes of the pieces in which a stream comes whose case names none.
@@ -18,43 +17,50 @@ enum After {
     Over,
 }
 
+/// How a stream comes.
+#[derive(Clone, Copy)]
+enum Way {
+    /// In pieces of this size.
+    Pieces(usize),
+    /// In two pieces, of which the first has this length.
+    Cut(usize),
+}
+
 // Writes a request: `<length>` of its content, with `!` where it closes the connection.
-fn write_request(text: &mut Blob, request: &Request) -> Result<(), NoMemory> {
-    text.push(b"<")?;
-    text.push(Buffer::new().format(request.body.len()).as_bytes())?;
-    if closes(request) {
-        text.push(b"!>")
-    } else {
-        text.push(b">")
-    }
+fn write_request(text: &mut Lines, request: &Request) {
+    text.add_number("<", request.body.len() as u64);
+    text.add(if closes(request) { "!>" } else { ">" });
 }
 
 // Writes a step: a request, or `+` for `Continue`.
-fn write_step(text: &mut Blob, step: &Step) -> Result<After, NoMemory> {
+fn write_step(text: &mut Lines, step: &Step) -> After {
     match step {
         Step::Request(request) => {
-            write_request(text, request)?;
-            Ok(After::More)
+            write_request(text, request);
+            After::More
         }
         Step::Continue => {
-            text.push(b"+")?;
-            Ok(After::More)
+            text.add("+");
+            After::More
         }
-        Step::Need => Ok(After::Need),
+        Step::Need => After::Need,
     }
 }
 
+// Writes a step, and lets it go.
+fn tell_step(text: &mut Lines, step: Step) -> After {
+    let after = write_step(text, &step);
+    drop(step);
+    after
+}
+
 // Writes the name of a refusal, with `?` where it is not given again.
-fn write_refusal(
-    text: &mut Blob,
-    error: FrameErr,
-    again: Option<FrameErr>,
-) -> Result<After, NoMemory> {
-    text.push(error.name().as_bytes())?;
+fn write_refusal(text: &mut Lines, error: FrameErr, again: Option<FrameErr>) -> After {
+    text.add(error.name());
     if again != Some(error) {
-        text.push(b"?")?;
+        text.add("?");
     }
-    Ok(After::Over)
+    After::Over
 }
 
 // What a framer gives next. A call that found no memory is made again.
@@ -75,131 +81,114 @@ fn feed(framer: &mut Framer, piece: &[u8]) -> Result<(), NoMemory> {
 }
 
 // Asks a framer once and writes its answer.
-fn ask(framer: &mut Framer, text: &mut Blob) -> Result<After, NoMemory> {
+fn ask(framer: &mut Framer, text: &mut Lines) -> After {
     match next(framer) {
-        Ok(step) => write_step(text, &step),
+        Ok(step) => tell_step(text, step),
         Err(error) => write_refusal(text, error, framer.next().err()),
     }
 }
 
-// Feeds a piece and writes what the framer gives then. Whether the stream goes on.
-fn tell(framer: &mut Framer, text: &mut Blob, piece: &[u8]) -> Result<bool, NoMemory> {
-    feed(framer, piece)?;
+// Writes what a framer gives, up to where it needs more. Whether the stream goes on.
+fn ask_all(framer: &mut Framer, text: &mut Lines) -> bool {
     for _ in 0..u64::MAX {
-        match ask(framer, text)? {
+        match ask(framer, text) {
             After::More => {}
-            After::Need => return Ok(true),
-            After::Over => return Ok(false),
+            After::Need => return true,
+            After::Over => return false,
         }
     }
-    Ok(true)
+    true
+}
+
+// Feeds a piece and writes what the framer gives then. Whether the stream goes on.
+fn tell(framer: &mut Framer, text: &mut Lines, piece: &[u8]) -> bool {
+    if feed(framer, piece).is_err() {
+        text.add("no memory");
+        return false;
+    }
+    ask_all(framer, text)
 }
 
 // Writes `.` where no byte is held.
-fn tell_end(framer: &Framer, text: &mut Blob) -> Result<(), NoMemory> {
+fn tell_end(framer: &Framer, text: &mut Lines) {
     if framer.is_between() {
-        text.push(b".")
-    } else {
-        Ok(())
+        text.add(".");
     }
 }
 
 // Writes what a framer gives for the bytes, fed in pieces of this size, and `.` at the end where no byte is held.
-fn tell_all(
-    framer: &mut Framer,
-    text: &mut Blob,
-    bytes: &[u8],
-    size: usize,
-) -> Result<(), NoMemory> {
+fn tell_in_pieces(framer: &mut Framer, text: &mut Lines, bytes: &[u8], size: usize) {
     for piece in bytes.chunks(size.max(1)) {
-        if !tell(framer, text, piece)? {
-            return Ok(());
+        if !tell(framer, text, piece) {
+            return;
         }
     }
-    tell_end(framer, text)
+    tell_end(framer, text);
 }
 
 // The same, fed in two pieces, of which the first has this length.
-fn tell_in_two(
-    framer: &mut Framer,
-    text: &mut Blob,
-    bytes: &[u8],
-    at: usize,
-) -> Result<(), NoMemory> {
+fn tell_in_two(framer: &mut Framer, text: &mut Lines, bytes: &[u8], at: usize) {
     let (front, back) = bytes.split_at(at.min(bytes.len()));
-    if tell(framer, text, front)? {
-        tell(framer, text, back)?;
+    if tell(framer, text, front) {
+        tell(framer, text, back);
     }
-    tell_end(framer, text)
+    tell_end(framer, text);
 }
 
-fn play_cut(
-    alloc: Global,
-    bytes: &[u8],
-    at: usize,
-    wanted: &[u8],
-    lines: &mut Lines,
-) -> Result<(), NoMemory> {
-    let mut text = Blob::new(alloc);
-    tell_in_two(&mut Framer::new(alloc), &mut text, bytes, at)?;
-    lines.compare("in two pieces", wanted, text.bytes());
-    Ok(())
+fn tell_in(framer: &mut Framer, text: &mut Lines, bytes: &[u8], way: Way) {
+    match way {
+        Way::Pieces(size) => tell_in_pieces(framer, text, bytes, size),
+        Way::Cut(at) => tell_in_two(framer, text, bytes, at),
+    }
 }
 
-fn play_cuts(
-    alloc: Global,
-    bytes: &[u8],
-    wanted: &[u8],
-    lines: &mut Lines,
-) -> Result<(), NoMemory> {
+// Writes what a framer of its own gives for the bytes.
+fn tell_anew(alloc: Global, text: &mut Lines, bytes: &[u8], way: Way) {
+    let mut framer = Framer::new(alloc);
+    tell_in(&mut framer, text, bytes, way);
+    drop(framer);
+}
+
+// Adds where a stream that comes in this way does not give what it should.
+fn play_way(alloc: Global, bytes: &[u8], way: Way, name: &str, wanted: &[u8], lines: &mut Lines) {
+    let mut text = Lines::new(alloc);
+    tell_anew(alloc, &mut text, bytes, way);
+    lines.compare(name, wanted, text.as_str().as_bytes());
+    drop(text);
+}
+
+fn play_cuts(alloc: Global, bytes: &[u8], wanted: &[u8], lines: &mut Lines) {
     for at in 0..bytes.len() {
-        play_cut(alloc, bytes, at, wanted, lines)?;
+        play_way(alloc, bytes, Way::Cut(at), "in two pieces", wanted, lines);
     }
-    Ok(())
 }
 
-fn play_size(
-    alloc: Global,
-    bytes: &[u8],
-    size: &str,
-    wanted: &[u8],
-    lines: &mut Lines,
-) -> Result<(), NoMemory> {
-    let mut text = Blob::new(alloc);
-    tell_all(
-        &mut Framer::new(alloc),
-        &mut text,
-        bytes,
-        number_in(size) as usize,
-    )?;
-    lines.compare(size, wanted, text.bytes());
-    Ok(())
-}
-
-fn play_sizes(
-    alloc: Global,
-    bytes: &[u8],
-    sizes: &str,
-    wanted: &[u8],
-    lines: &mut Lines,
-) -> Result<(), NoMemory> {
+fn play_sizes(alloc: Global, bytes: &[u8], sizes: &str, wanted: &[u8], lines: &mut Lines) {
     for size in sizes.split(' ') {
-        play_size(alloc, bytes, size, wanted, lines)?;
+        let way = Way::Pieces(number_in(size) as usize);
+        play_way(alloc, bytes, way, size, wanted, lines);
     }
-    Ok(())
+}
+
+fn play_ways(
+    alloc: Global,
+    sections: &[Section<'_>],
+    bytes: &[u8],
+    wanted: &[u8],
+    lines: &mut Lines,
+) {
+    if has(sections, "cut") {
+        play_cuts(alloc, bytes, wanted, lines);
+    }
+    let sizes = name_in(sections, "pieces").unwrap_or(SIZES);
+    play_sizes(alloc, bytes, sizes, wanted, lines);
 }
 
 /// Adds where a stream does not give what it should, in pieces of each size and, where the case says so, cut in two at each place.
-pub(crate) fn play_stream(
-    alloc: Global,
-    sections: &[Section<'_>],
-    lines: &mut Lines,
-) -> Result<(), NoMemory> {
-    let bytes = joined(alloc, sections, "stream")?;
-    let wanted = named(alloc, sections, "gives")?;
-    let sizes = name_in(sections, "pieces").unwrap_or(SIZES);
-    if has(sections, "cut") {
-        play_cuts(alloc, bytes.bytes(), wanted.bytes(), lines)?;
-    }
-    play_sizes(alloc, bytes.bytes(), sizes, wanted.bytes(), lines)
+pub(crate) fn play_stream(alloc: Global, sections: &[Section<'_>], lines: &mut Lines) {
+    let bytes = joined_text(alloc, sections, "stream");
+    let wanted = named(alloc, sections, "gives");
+    play_ways(alloc, sections, bytes.bytes(), wanted.bytes(), lines);
+    drop(wanted);
+    drop(bytes);
 }

@@ -3,26 +3,20 @@
 use crate::found::{add_at, add_document, add_get};
 use crate::tree::add_tree;
 use case_text::{Lines, Section};
-use side_base::{NoMemory, Text};
+use side_base::Text;
 use std::alloc::Global;
 use yaml_subset::{Docs, YamlErr};
 
 // The answer to a section, of a file that is read.
-fn add_answer(
-    alloc: Global,
-    docs: &Docs,
-    section: &Section<'_>,
-    lines: &mut Lines,
-) -> Result<(), NoMemory> {
+fn add_found(alloc: Global, docs: &Docs, section: &Section<'_>, lines: &mut Lines) {
     match section.word {
         "tree" => add_tree(docs, lines),
         "count" => lines.add_number_line("", docs.count() as u64),
         "doc" => add_document(docs, section.name, lines),
         "get" => add_get(docs, section.name, lines),
-        "at" => return add_at(alloc, docs, section.name, lines),
+        "at" => add_at(alloc, docs, section.name, lines),
         _ => lines.add_line("read", ""),
     }
-    Ok(())
 }
 
 // With which byte that begins which is left out.
@@ -37,24 +31,25 @@ fn add_byte(error: &YamlErr, lines: &mut Lines) {
 }
 
 // How a file is refused.
-fn add_refusal(alloc: Global, error: &YamlErr, lines: &mut Lines) -> Result<(), NoMemory> {
-    let text = error.text(alloc)?;
+fn add_refusal(alloc: Global, error: &YamlErr, lines: &mut Lines) {
+    let text = error
+        .text(alloc)
+        .unwrap_or(Text::from_static(alloc, "no memory"));
     lines.add(text.as_str());
+    drop(text);
     add_byte(error, lines);
     lines.add("\n");
-    Ok(())
 }
 
 /// The answer to a section.
-pub(crate) fn answer(
+pub(crate) fn add_answer(
     alloc: Global,
     read: &Result<Docs, YamlErr>,
     section: &Section<'_>,
-) -> Result<Text, NoMemory> {
-    let mut lines = Lines::new(alloc);
+    lines: &mut Lines,
+) {
     match read {
-        Ok(docs) => add_answer(alloc, docs, section, &mut lines)?,
-        Err(error) => add_refusal(alloc, error, &mut lines)?,
+        Ok(docs) => add_found(alloc, docs, section, lines),
+        Err(error) => add_refusal(alloc, error, lines),
     }
-    lines.done()
 }

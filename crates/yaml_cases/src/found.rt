@@ -7,26 +7,27 @@ use side_base::NoMemory;
 use std::alloc::Global;
 use yaml_subset::{At, Docs, Part};
 
-/// What stands at the end of a path from a part: the names in it stand behind one another, with a slash between them.
-fn add_end(
-    alloc: Global,
-    docs: &Docs,
-    p: Part,
-    path: &str,
-    lines: &mut Lines,
-) -> Result<(), NoMemory>
+// The names of a path, which stand behind one another, with a slash between them.
+fn names_of<'a>(alloc: Global, path: &'a str) -> Result<Vec<&'a str>, NoMemory> {
+    path.split('/').collect(alloc)
+}
+
+// What stands at the end of a path from a part.
+fn add_end(docs: &Docs, p: Part, names: &[&str], lines: &mut Lines)
     requires { IsPart docs.now p }
 {
-    let mut names = Vec::new(alloc);
-    for name in path.split('/') {
-        names.push(name)?;
-    }
-    match docs.at(p, &names) {
+    match docs.at(p, names) {
         At::Absent => lines.add_line("absent", ""),
         At::Wrong(passed) => lines.add_number_line("wrong ", passed as u64),
         At::Here(here) => add_part(docs, here, lines),
     }
-    Ok(())
+}
+
+fn add_at_names(docs: &Docs, names: &[&str], lines: &mut Lines) {
+    match docs.root(0) {
+        Some(p) => add_end(docs, p, names, lines),
+        None => {}
+    }
 }
 
 // The member of the last name, in the member of the name before it, and so on.
@@ -47,15 +48,10 @@ fn add_member(docs: &Docs, from: Part, path: &str, lines: &mut Lines)
 }
 
 /// What stands at the end of a path, which begins at the first document.
-pub(crate) fn add_at(
-    alloc: Global,
-    docs: &Docs,
-    path: &str,
-    lines: &mut Lines,
-) -> Result<(), NoMemory> {
-    match docs.root(0) {
-        Some(p) => add_end(alloc, docs, p, path, lines),
-        None => Ok(()),
+pub(crate) fn add_at(alloc: Global, docs: &Docs, path: &str, lines: &mut Lines) {
+    match names_of(alloc, path) {
+        Ok(names) => add_at_names(docs, &names, lines),
+        Err(_) => lines.add_line("no memory", ""),
     }
 }
 

@@ -12,15 +12,13 @@ fn add_spaces(file: &mut Blob, count: u32) -> Result<(), NoMemory> {
 }
 
 // So many sequences within one another, and this in the innermost.
-fn nested(alloc: Global, levels: u32, last: &[u8]) -> Result<Blob, NoMemory> {
-    let mut file = Blob::new(alloc);
+fn add_nested(file: &mut Blob, levels: u32, last: &[u8]) -> Result<(), NoMemory> {
     for level in 0..levels {
-        add_spaces(&mut file, level)?;
+        add_spaces(file, level)?;
         file.push(b"-\n")?;
     }
-    add_spaces(&mut file, levels)?;
-    file.push(last)?;
-    Ok(file)
+    add_spaces(file, levels)?;
+    file.push(last)
 }
 
 /// Whether a section of this word gives something, and asks nothing.
@@ -32,25 +30,39 @@ pub(crate) fn is_given(word: &str) -> bool {
 }
 
 // Lines of which the last one has no end.
-fn cut(mut text: Blob) -> Blob {
-    text.truncate(text.len().saturating_sub(1));
-    text
+fn cut(text: &[u8]) -> &[u8] {
+    match text.split_last() {
+        Some((_, front)) => front,
+        None => text,
+    }
 }
 
-// The bytes of the file that a section is.
-fn file_in(alloc: Global, section: &Section<'_>) -> Result<Blob, NoMemory> {
-    let text = text_of(alloc, section);
+// The bytes of the file that a section of this word and text is.
+fn add_bytes(file: &mut Blob, section: &Section<'_>, text: &[u8]) -> Result<(), NoMemory> {
     match section.word {
-        "nested" => nested(alloc, number_in(section.name), cut(text).bytes()),
-        "cut" => Ok(cut(text)),
-        _ => Ok(text),
+        "nested" => add_nested(file, number_in(section.name), cut(text)),
+        "cut" => file.push(cut(text)),
+        _ => file.push(text),
     }
 }
 
-/// The bytes of a case's file; none where it has no file.
-pub(crate) fn file_of(alloc: Global, sections: &[Section<'_>]) -> Result<Blob, NoMemory> {
-    match sections.iter().find(|section| is_given(section.word)) {
-        Some(section) => file_in(alloc, section),
-        None => Ok(Blob::new(alloc)),
+fn add_section(alloc: Global, section: &Section<'_>, file: &mut Blob) -> Result<(), NoMemory> {
+    let text = text_of(alloc, section);
+    let added = add_bytes(file, section, text.bytes());
+    drop(text);
+    added
+}
+
+/// Adds the bytes of a case's file; none where it has no file.
+pub(crate) fn add_file(
+    alloc: Global,
+    sections: &[Section<'_>],
+    file: &mut Blob,
+) -> Result<(), NoMemory> {
+    for section in sections {
+        if is_given(section.word) {
+            return add_section(alloc, section, file);
+        }
     }
+    Ok(())
 }

@@ -1,87 +1,83 @@
-// A case, played and compared.
+// A case, played and compared. Where memory lacks for a part, that part is missing, and the case differs.
 
-use crate::asked::answer;
-use crate::given::{file_of, is_given};
+use crate::asked::add_answer;
+use crate::given::{add_file, is_given};
 use case_text::{Lines, Piece, Section, sections, text_of};
-use side_base::{NoMemory, Text};
+use side_base::Blob;
 use std::alloc::Global;
 use yaml_subset::{Docs, YamlErr, read_docs};
 
-// Adds where what is wanted of a section is not what is answered.
-fn judge(
-    alloc: Global,
-    read: &Result<Docs, YamlErr>,
-    section: &Section<'_>,
-    lines: &mut Lines,
-) -> Result<(), NoMemory> {
-    let got = answer(alloc, read, section)?;
+// Adds where what is wanted of a section is not this answer.
+fn compare(alloc: Global, section: &Section<'_>, got: &str, lines: &mut Lines) {
     let wanted = text_of(alloc, section);
-    lines.compare(section.word, wanted.bytes(), got.bytes());
-    Ok(())
+    lines.compare(section.word, wanted.bytes(), got.as_bytes());
+    drop(wanted);
 }
 
-// What is wrong of the sections that ask.
+// Adds where what is wanted of a section is not what is answered.
+fn judge(alloc: Global, read: &Result<Docs, YamlErr>, section: &Section<'_>, lines: &mut Lines) {
+    let mut got = Lines::new(alloc);
+    add_answer(alloc, read, section, &mut got);
+    compare(alloc, section, got.as_str(), lines);
+    drop(got);
+}
+
+// Adds what is wrong of the sections that ask; whether there is one.
 fn judge_all(
     alloc: Global,
     read: &Result<Docs, YamlErr>,
     sections: &[Section<'_>],
     lines: &mut Lines,
-) -> Result<(), NoMemory> {
+) -> bool {
+    let mut asks = false;
     for section in sections {
         if !is_given(section.word) {
-            judge(alloc, read, section, lines)?;
+            judge(alloc, read, section, lines);
+            asks = true;
         }
     }
-    Ok(())
+    asks
 }
 
-fn asks(sections: &[Section<'_>]) -> bool {
-    sections.iter().any(|section| !is_given(section.word))
-}
-
-// What is wrong of a case whose sections are these.
-fn report_of(alloc: Global, sections: &[Section<'_>]) -> Result<Text, NoMemory> {
-    let mut lines = Lines::new(alloc);
-    if asks(sections) {
-        let file = file_of(alloc, sections)?;
-        let read = read_docs(alloc, file.bytes());
-        judge_all(alloc, &read, sections, &mut lines)?;
-    } else {
+// Adds what is wrong of the sections of a file that is read.
+fn judge_read(
+    alloc: Global,
+    read: &Result<Docs, YamlErr>,
+    sections: &[Section<'_>],
+    lines: &mut Lines,
+) {
+    if !judge_all(alloc, read, sections, lines) {
         lines.add_line("nothing is asked", "");
     }
-    lines.done()
 }
 
-// A report below the title of its case, if it says anything.
-fn with_title(alloc: Global, case: &Piece<'_>, report: &Text) -> Result<Text, NoMemory> {
+fn play_file(alloc: Global, file: &[u8], sections: &[Section<'_>], lines: &mut Lines) {
+    let read = read_docs(alloc, file);
+    judge_read(alloc, &read, sections, lines);
+}
+
+fn play_sections(alloc: Global, sections: &[Section<'_>], lines: &mut Lines) {
+    let mut file = Blob::new(alloc);
+    match add_file(alloc, sections, &mut file) {
+        Ok(()) => play_file(alloc, file.bytes(), sections, lines),
+        Err(_) => lines.add_line("no memory", ""),
+    }
+    drop(file);
+}
+
+/// Adds what is wrong of a case; nothing where it is right.
+pub(crate) fn play(alloc: Global, case: &Piece<'_>, lines: &mut Lines) {
+    match sections(alloc, case) {
+        Ok(sections) => play_sections(alloc, &sections, lines),
+        Err(_) => lines.add_line("no memory", ""),
+    }
+}
+
+/// Whether nothing is wrong of a case.
+pub(crate) fn is_right(alloc: Global, case: &Piece<'_>) -> bool {
     let mut lines = Lines::new(alloc);
-    if !report.is_empty() {
-        lines.add_bytes("== ", case.head);
-        lines.add(report.as_str());
-    }
-    lines.done()
-}
-
-fn play(alloc: Global, case: &Piece<'_>) -> Result<Text, NoMemory> {
-    let sections = sections(alloc, case)?;
-    let report = report_of(alloc, sections.as_slice())?;
-    with_title(alloc, case, &report)
-}
-
-// The same, with want of memory as a difference.
-fn played_once(alloc: Global, case: &Piece<'_>) -> Text {
-    match play(alloc, case) {
-        Ok(report) => report,
-        Err(_) => Text::from_static(alloc, "no memory\n"),
-    }
-}
-
-/// What is wrong of a case; nothing where it is right. One that differs is played again, since memory may have lacked.
-pub(crate) fn played(alloc: Global, case: &Piece<'_>) -> Text {
-    let report = played_once(alloc, case);
-    if report.is_empty() {
-        report
-    } else {
-        played_once(alloc, case)
-    }
+    play(alloc, case, &mut lines);
+    let is_right = lines.is_empty();
+    drop(lines);
+    is_right
 }

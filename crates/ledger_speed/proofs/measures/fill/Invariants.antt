@@ -1,6 +1,0 @@
-use Rattle.std.proofs.Common.{◌≤◌}
-use Rattle.ledger_core.specs.Ledger.{IsReached}
-use Rattle.ledger_speed.proofs.measures.fill.Given as goal
-
-abbrev pub invariant-loop : goal.invariant-loop
-invariant-loop l = record { reached : IsReached 1 l.ledger; used : l.ledger.used ≤ l.counter }
