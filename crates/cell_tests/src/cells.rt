@@ -1,4 +1,4 @@
-ghost use Rattle.std.specs.Prelude.{◌≡◌, ◌+◌, ◌<◌, true, false, length, All, vec_len, IfOk};
+ghost use Rattle.std.specs.Prelude.{◌≡◌, ◌+◌, ◌<◌, true, false, length, All, vec_len, IfOk, OnOk};
 ghost use Rattle.std.specs.List.{fold};
 ghost use Rattle.std.proofs.Common.{rules};
 ghost use Rattle.turn_cell.specs.Sitting.{IsSeatOf};
@@ -15,8 +15,8 @@ use turn_cell::{ApiErr, Exhausted, Object, Seat, TurnCell};
 /// How long the first step of a register with a clock takes, in milliseconds.
 const HOLD_MS: u64 = 20;
 
-/// How often a thread calls its cell.
-const CALLS: usize = 1000;
+/// How many threads call a cell at most.
+const THREADS: usize = 8;
 
 /// A register that keeps how long the last text written was, and counts its steps. One with a clock sleeps in its first step.
 #[derive(Clone, Copy)]
@@ -101,6 +101,22 @@ fn write_twice<R: Wait>(
     Ok((one, two))
 }
 
+/// What two calls of a new cell answer, and how many steps it has made.
+fn two_steps<R: Wait>(
+    rt: &R,
+    alloc: Global,
+    first: Register,
+    cmd: &Write,
+) -> Result<(Written, Written, u64), ApiErr>
+    requires { first.steps ≡ 0 }
+{
+    let (cell, mut root) = TurnCell::start(alloc, first)?;
+    let made = write_twice(rt, &cell, &mut root, cmd);
+    let steps = cell.close(root).used();
+    let (one, two) = made?;
+    Ok((one, two, steps))
+}
+
 #[test]
 fn a_cell_makes_a_step(rt: HostRuntime) -> Result<(), Fail> {
     let cmd = Write {
@@ -111,24 +127,24 @@ fn a_cell_makes_a_step(rt: HostRuntime) -> Result<(), Fail> {
         steps: 0,
         clock: None,
     };
-    let (cell, mut root) = TurnCell::start(rt.alloc(), first)?;
-    let made = write_twice(&rt, &cell, &mut root, &cmd);
-    let register = cell.close(root);
+    let made = two_steps(&rt, rt.alloc(), first, &cmd);
     drop(cmd);
+    let (one, two, steps) = made?;
     assert_eq!(rt;
-        made?,
-        (
-            Written {
-                before: 7,
-                number: 1
-            },
-            Written {
-                before: 3,
-                number: 2
-            }
-        )
+        one,
+        Written {
+            before: 7,
+            number: 1
+        }
     );
-    assert_eq!(rt; register.used(), 2);
+    assert_eq!(rt;
+        two,
+        Written {
+            before: 3,
+            number: 2
+        }
+    );
+    assert_eq!(rt; steps, 2);
     Ok(())
 }
 
@@ -150,42 +166,46 @@ fn write_once<R: Wait>(rt: &R, cell: &TurnCell<Register>, worker: &mut Worker, c
     }
 }
 
-/// Calls the cell `CALLS` times, or fewer where a step was not made.
-fn write_often<R: Wait>(rt: &R, cell: &TurnCell<Register>, worker: &mut Worker, cmd: &Write)
+/// Calls the cell so many times, or fewer where a step was not made.
+fn write_often<R: Wait>(
+    rt: &R,
+    cell: &TurnCell<Register>,
+    worker: &mut Worker,
+    cmd: &Write,
+    times: usize,
+)
     requires { IsSeatOf cell.now worker.old.seat × (worker.old.seat.is_root ≡ false) }
     ensures { IsSeatOf cell.now worker.new.seat × (worker.new.seat.is_root ≡ false) }
 {
-    for _ in 0..CALLS {
+    for _ in 0..times {
         if !write_once(rt, cell, worker, cmd) {
             return;
         }
     }
 }
 
-/// All workers call the cell at once, each in a thread of its own.
+/// All workers call the cell so many times each, at once where there are no more of them than threads.
 fn write_all<R: Threads + Wait + Sync>(
     rt: &R,
     cell: &TurnCell<Register>,
     workers: &mut [Worker],
     cmd: &Write,
+    times: usize,
 )
     requires { All (λ worker. IsSeatOf cell.now worker.seat × (worker.seat.is_root ≡ false)) workers.old }
     ensures { All (λ worker. IsSeatOf cell.now worker.seat × (worker.seat.is_root ≡ false)) workers.new }
 {
-    let threads = workers.len();
-    if threads > 0 {
-        for_each_mut(
-            rt,
-            workers,
-            threads,
-            &|_, worker| write_often(rt, cell, worker, cmd),
-        );
-    }
+    for_each_mut(
+        rt,
+        workers,
+        THREADS,
+        &|_, worker| write_often(rt, cell, worker, cmd, times),
+    );
 }
 
-/// Whether each worker has made as many steps as it was to.
-fn have_written(workers: &[Worker]) -> bool {
-    workers.iter().all(|worker| worker.numbers.len() == CALLS)
+/// Whether each worker has made so many steps.
+fn have_written(workers: &[Worker], times: usize) -> bool {
+    workers.iter().all(|worker| worker.numbers.len() == times)
 }
 
 /// So many workers, whose seats are split off the root of a new cell.
@@ -253,39 +273,65 @@ fn take_all_back(
     }
 }
 
-/// So many threads call a new cell at once, and it makes all their steps; the numbers of these are noted. Where there is a clock, the
-/// first to have its turn holds it while the others wait. How many steps it makes.
-fn make_steps<R: Threads + Wait + Sync + Abort>(
+/// So many seats are split off the root of a new cell, call it so many times each, and are taken back; the numbers of all steps are noted.
+fn use_seats<R: Threads + Wait + Sync + Abort>(
     rt: &R,
     alloc: Global,
-    clock: Option<HostRuntime>,
-    threads: u32,
+    cell: &TurnCell<Register>,
+    root: &mut Seat<Register>,
+    count: u32,
+    times: usize,
     seen: &mut [bool],
-) -> Result<u64, AllocError>
-    requires { threads < 65536 }
+) -> Result<(), AllocError>
+    requires root { IsSeatOf cell.now root.old × (root.old.is_root ≡ true) × (root.old.made ≡ 1) × (root.old.out ≡ 0) }
+    requires room { count < 65536 }
+    ensures { OnOk result (IsSeatOf cell.now root.new × (root.new.is_root ≡ true) × (root.new.out ≡ 0)) }
 {
-    let (cell, mut root) = TurnCell::start(alloc, blank(clock))?;
-    let mut workers = split_workers(alloc, &cell, &mut root, threads)?;
+    assert_eq!(rt; root.made(), 1);
+    let mut workers = split_workers(alloc, cell, root, count)?;
+    assert_eq!(rt;
+        (root.made(), workers.len()),
+        (u64::from(count) + 1, count as usize)
+    );
     let cmd = Write {
         text: Vec::new(alloc),
     };
-    write_all(rt, &cell, workers.as_mut_slice(), &cmd);
-    assert!(rt; have_written(workers.as_slice()));
-    take_all_back(rt, &cell, &mut root, &mut workers, seen);
+    write_all(rt, cell, workers.as_mut_slice(), &cmd, times);
+    assert!(rt; have_written(workers.as_slice(), times));
+    take_all_back(rt, cell, root, &mut workers, seen);
+    assert_eq!(rt; root.made(), u64::from(count) + 1);
+    Ok(())
+}
+
+/// The same, and the cell is closed. How many steps it has made.
+fn steps_of<R: Threads + Wait + Sync + Abort>(
+    rt: &R,
+    alloc: Global,
+    clock: Option<HostRuntime>,
+    count: u32,
+    times: usize,
+    seen: &mut [bool],
+) -> Result<u64, AllocError>
+    requires { count < 65536 }
+{
+    let (cell, mut root) = TurnCell::start(alloc, blank(clock))?;
+    use_seats(rt, alloc, &cell, &mut root, count, times, seen)?;
     Ok(cell.close(root).used())
 }
 
-/// So many threads make one history: all the numbers up to the number of its steps are numbers of steps, each of one.
+/// So many seats beside the root of a new cell make one history, by so many calls each: all numbers up to that of its steps are numbers of
+/// steps, each of one. Where there is a clock, the first to have its turn holds it while the others wait.
 fn make_one_history<R: Threads + Wait + Sync + Abort>(
     rt: &R,
     alloc: Global,
     clock: Option<HostRuntime>,
-    threads: u32,
+    count: u32,
+    times: usize,
     seen: &mut [bool],
 ) -> Result<(), AllocError>
-    requires { threads < 65536 }
+    requires { count < 65536 }
 {
-    let steps = make_steps(rt, alloc, clock, threads, seen)?;
+    let steps = steps_of(rt, alloc, clock, count, times, seen)?;
     assert_eq!(rt; steps, seen.len() as u64);
     assert!(rt; seen.iter().all(|made| *made));
     Ok(())
@@ -293,28 +339,27 @@ fn make_one_history<R: Threads + Wait + Sync + Abort>(
 
 #[test]
 fn two_threads_make_one_history(rt: HostRuntime) -> Result<(), Fail> {
-    make_one_history(&rt, rt.alloc(), None, 2, &mut [false; 2000])?;
+    make_one_history(&rt, rt.alloc(), None, 2, 1000, &mut [false; 2000])?;
     Ok(())
 }
 
 // Once as fast as they can, and once where the first to have its turn holds it while the other seven wait.
 #[test]
 fn eight_threads_make_one_history(rt: HostRuntime) -> Result<(), Fail> {
-    make_one_history(&rt, rt.alloc(), None, 8, &mut [false; 8000])?;
-    make_one_history(&rt, rt.alloc(), Some(rt), 8, &mut [false; 8000])?;
+    make_one_history(&rt, rt.alloc(), None, 8, 1000, &mut [false; 8000])?;
+    make_one_history(&rt, rt.alloc(), Some(rt), 8, 1000, &mut [false; 8000])?;
     Ok(())
 }
 
 #[test]
 fn a_cell_has_65536_seats(rt: HostRuntime) -> Result<(), Fail> {
-    let (cell, mut root) = TurnCell::start(rt.alloc(), blank(None))?;
-    assert_eq!(rt; root.made(), 1);
-    let mut workers = split_workers(rt.alloc(), &cell, &mut root, 65535)?;
-    assert_eq!(rt; (root.made(), workers.len()), (65536, 65535));
-    take_all_back(&rt, &cell, &mut root, &mut workers, &mut []);
-    assert_eq!(rt; root.made(), 65536);
-    let register = cell.close(root);
-    assert_eq!(rt; register.used(), 0);
+    make_one_history(&rt, rt.alloc(), None, 65535, 0, &mut [])?;
+    Ok(())
+}
+
+/// An error of a call over a cell is told so.
+fn is_told(rt: &impl Abort, alloc: Global, error: ApiErr, text: &str) -> Result<(), AllocError> {
+    assert_eq!(rt; format!(in alloc; "{error}")?.as_str(), text);
     Ok(())
 }
 
@@ -322,16 +367,9 @@ fn a_cell_has_65536_seats(rt: HostRuntime) -> Result<(), Fail> {
 fn errors_tell_their_count(rt: HostRuntime) -> Result<(), Fail> {
     let alloc = rt.alloc();
     let exhausted = Exhausted { count: 1 << 62 };
-    let table = [
-        (ApiErr::from(exhausted), "exhausted at 4611686018427387904"),
-        (ApiErr::from(AllocError), "no memory"),
-    ];
-    for (error, text) in table {
-        assert_eq!(rt; format!(in alloc; "{error}")?.as_str(), text);
-    }
-    assert_eq!(rt;
-        format!(in alloc; "{exhausted}")?.as_str(),
-        "exhausted at 4611686018427387904"
-    );
+    let text = "exhausted at 4611686018427387904";
+    is_told(&rt, alloc, ApiErr::from(exhausted), text)?;
+    is_told(&rt, alloc, ApiErr::from(AllocError), "no memory")?;
+    assert_eq!(rt; format!(in alloc; "{exhausted}")?.as_str(), text);
     Ok(())
 }

@@ -158,6 +158,16 @@ impl Past {
     }
 }
 
+/// Sets the word where there is a reason.
+fn set_for(stop: &Stop, root: &mut StopSeat, reason: Option<Reason>)
+    requires { (root.old.table ≡ stop.now) × (root.old.is_root ≡ true) }
+    ensures { (root.new.table ≡ stop.now) × (root.new.is_root ≡ true) }
+{
+    if let Some(reason) = reason {
+        stop.set(root, reason);
+    }
+}
+
 /// Runs workers with these scripts, numbered from `first` on, on this word.
 fn run_on<G: Gate + Sync, R: Threads + Wait + Sync>(
     rt: &R,
@@ -179,15 +189,17 @@ fn run_on<G: Gate + Sync, R: Threads + Wait + Sync>(
     })
 }
 
-/// The same on a word of their own.
+/// The same on a word of their own, which is set before where there is a reason.
 fn run_scripts<G: Gate + Sync, R: Threads + Wait + Sync>(
     rt: &R,
     alloc: Global,
     gate: &G,
+    reason: Option<Reason>,
     first: u32,
     scripts: &[Script],
 ) -> Result<Past, NoMemory> {
     let (stop, mut root) = Stop::start(alloc)?;
+    set_for(&stop, &mut root, reason);
     run_on(rt, alloc, gate, &stop, &mut root, first, scripts)
 }
 
@@ -323,7 +335,7 @@ fn run_each<R: Threads + Wait + Sync + Abort>(
     runs: &[Run],
 ) -> Result<(), NoMemory> {
     for run in runs {
-        let past = run_scripts(rt, alloc, &FreeGate, 0, &[run.script])?;
+        let past = run_scripts(rt, alloc, &FreeGate, None, 0, &[run.script])?;
         is_past(rt, &past, run);
     }
     Ok(())
@@ -347,7 +359,7 @@ fn an_idle_worker_is_stopped(rt: HostRuntime) -> Result<(), Fail> {
         then: Got::Idle,
         ..CLOSING
     };
-    let past = run_scripts(&rt, rt.alloc(), &FreeGate, 0, &[asking, idle])?;
+    let past = run_scripts(&rt, rt.alloc(), &FreeGate, None, 0, &[asking, idle])?;
     assert_eq!(rt;
         (past.exit(0), past.exit(1)),
         (Some(Exit::Asked), Some(Exit::Stopped))
@@ -357,9 +369,8 @@ fn an_idle_worker_is_stopped(rt: HostRuntime) -> Result<(), Fail> {
 
 #[test]
 fn a_word_that_was_set_stops_a_worker_at_once(rt: HostRuntime) -> Result<(), Fail> {
-    let (stop, mut root) = Stop::start(rt.alloc())?;
-    stop.set(&mut root, Reason::Asked);
-    let past = run_on(&rt, rt.alloc(), &FreeGate, &stop, &mut root, 0, &[CLOSING])?;
+    let reason = Some(Reason::Asked);
+    let past = run_scripts(&rt, rt.alloc(), &FreeGate, reason, 0, &[CLOSING])?;
     let wanted = [Ended {
         exit: Some(Exit::Stopped),
         accepts: 0,
@@ -384,13 +395,29 @@ fn seats_are_met(rt: HostRuntime) -> Result<(), Fail> {
     Ok(())
 }
 
+/// What one of two workers has done where they meet: it came, and found the other.
+#[derive(Drop)]
+struct Side {
+    came: AtomicBool,
+    found: AtomicBool,
+}
+
+impl Side {
+    fn new() -> Side {
+        Side {
+            came: AtomicBool::new(false),
+            found: AtomicBool::new(false),
+        }
+    }
+}
+
 /// Two workers that wait for each other where they have accepted a connection, for so many turns of a look and a pause.
 #[derive(Drop)]
 struct Meeting {
     clock: HostRuntime,
     turns: u32,
-    came: [AtomicBool; 2],
-    found: [AtomicBool; 2],
+    even: Side,
+    odd: Side,
 }
 
 impl Meeting {
@@ -398,14 +425,26 @@ impl Meeting {
         Meeting {
             clock,
             turns,
-            came: [AtomicBool::new(false), AtomicBool::new(false)],
-            found: [AtomicBool::new(false), AtomicBool::new(false)],
+            even: Side::new(),
+            odd: Side::new(),
+        }
+    }
+
+    /// Comes, and looks whether the other has come, again and again.
+    fn look_for(&self, own: &Side, other: &Side) {
+        own.came.store(true, Ordering::SeqCst);
+        for _ in 0..self.turns {
+            if other.came.load(Ordering::SeqCst) {
+                own.found.store(true, Ordering::SeqCst);
+                return;
+            }
+            sleep(&self.clock, Duration::from_millis(1));
         }
     }
 
     /// Whether each found the other.
     fn is_met(&self) -> bool {
-        self.found[0].load(Ordering::SeqCst) && self.found[1].load(Ordering::SeqCst)
+        self.even.found.load(Ordering::SeqCst) && self.odd.found.load(Ordering::SeqCst)
     }
 }
 
@@ -414,14 +453,10 @@ impl Gate for Meeting {
         if point != Point::Accepted {
             return;
         }
-        let own = (worker % 2) as usize;
-        self.came[own].store(true, Ordering::SeqCst);
-        for _ in 0..self.turns {
-            if self.came[1 - own].load(Ordering::SeqCst) {
-                self.found[own].store(true, Ordering::SeqCst);
-                return;
-            }
-            sleep(&self.clock, Duration::from_millis(1));
+        if worker % 2 == 0 {
+            self.look_for(&self.even, &self.odd);
+        } else {
+            self.look_for(&self.odd, &self.even);
         }
     }
 }
@@ -434,7 +469,7 @@ const ONE_CONNECTION: Script = Script {
 #[test]
 fn workers_run_side_by_side(rt: HostRuntime) -> Result<(), Fail> {
     let gate = Meeting::new(rt, 10_000);
-    run_scripts(&rt, rt.alloc(), &gate, 0, &[ONE_CONNECTION; 2])?;
+    run_scripts(&rt, rt.alloc(), &gate, None, 0, &[ONE_CONNECTION; 2])?;
     assert!(rt; gate.is_met());
     Ok(())
 }
@@ -444,8 +479,8 @@ fn workers_run_side_by_side(rt: HostRuntime) -> Result<(), Fail> {
 fn workers_one_by_one_would_not_meet(rt: HostRuntime) -> Result<(), Fail> {
     for first in 0..2u32 {
         let gate = Meeting::new(rt, 20);
-        run_scripts(&rt, rt.alloc(), &gate, first, &[ONE_CONNECTION])?;
-        run_scripts(&rt, rt.alloc(), &gate, 1 - first, &[ONE_CONNECTION])?;
+        run_scripts(&rt, rt.alloc(), &gate, None, first, &[ONE_CONNECTION])?;
+        run_scripts(&rt, rt.alloc(), &gate, None, 1 - first, &[ONE_CONNECTION])?;
         assert!(rt; !gate.is_met());
     }
     Ok(())
@@ -500,7 +535,7 @@ fn sixty_four_workers_pass_the_gate(rt: HostRuntime) -> Result<(), Fail> {
         ..CLOSING
     };
     let gate = no_passes(rt.alloc(), 64)?;
-    let past = run_scripts(&rt, rt.alloc(), &gate, 0, &[script; 64])?;
+    let past = run_scripts(&rt, rt.alloc(), &gate, None, 0, &[script; 64])?;
     assert_eq!(rt; (past.ends.len(), gate.words.len()), (64, 64));
     have_passed(&rt, past.ends.as_slice(), gate.words.as_slice());
     Ok(())
