@@ -1,6 +1,5 @@
-ghost use Rattle.std.specs.Prelude.{◌≡◌, ◌+◌, ◌<◌, true, false, length, All, vec_len, IfOk};
+ghost use Rattle.std.specs.Prelude.{◌≡◌, ◌+◌, ◌<◌, true, false, length, All, vec_len, IfOk, OnOk};
 ghost use Rattle.std.specs.List.{fold};
-ghost use Rattle.std.specs.Thread.{IsSync};
 ghost use Rattle.std.proofs.Common.{rules};
 ghost use Rattle.turn_cell.specs.Sitting.{IsSeatOf};
 ghost use Rattle.turn_cell.specs.Growth.{Stays};
@@ -9,15 +8,18 @@ use std::alloc::{AllocError, Global};
 use std::process::Abort;
 use std::sync::Wait;
 use std::test::Fail;
-use std::thread::{Threads, join, sleep};
+use std::thread::{Threads, for_each_mut, sleep};
 use std::time::Duration;
 use turn_cell::{ApiErr, Exhausted, Object, Seat, TurnCell};
 
 /// How long the first step of a register with a clock takes, in milliseconds.
 const HOLD_MS: u64 = 20;
 
+/// How many threads call a cell at most.
+const THREADS: usize = 8;
+
 /// A register that keeps how long the last text written was, and counts its steps. One with a clock sleeps in its first step.
-#[derive(Drop)]
+#[derive(Clone, Copy)]
 struct Register {
     last: u64,
     steps: u64,
@@ -84,41 +86,50 @@ impl Object for Register {
     ghost counts = { Prim.search rules };
 }
 
-/// Two calls at once by two seats of one cell, whatever its object is.
-fn both<O: Object + Send, R: Threads + Wait + Sync>(
+/// What two calls answer.
+fn write_twice<R: Wait>(
     rt: &R,
-    cell: &TurnCell<O>,
-    mut left: Seat<O>,
-    mut right: Seat<O>,
-    cmd: &O::Cmd,
-) -> (Result<O::Reply, Exhausted>, Result<O::Reply, Exhausted>)
-where
-    O::Cmd: Sync,
-    O::Reply: Send,
-    requires cell { IsSeatOf cell.now left × IsSeatOf cell.now right }
-    requires takes { O.takes cell.now.first cmd.now }
+    cell: &TurnCell<Register>,
+    root: &mut Seat<Register>,
+    cmd: &Write,
+) -> Result<(Written, Written), Exhausted>
+    requires { IsSeatOf cell.now root.old }
+    ensures { Stays root.old root.new }
 {
-    join(
-        rt,
-        || cell.call(rt, &mut left, cmd),
-        || cell.call(rt, &mut right, cmd),
-    )
+    let one = cell.call(rt, root, cmd)?;
+    let two = cell.call(rt, root, cmd)?;
+    Ok((one, two))
+}
+
+/// What two calls of a new cell answer, and how many steps it has made.
+fn two_steps<R: Wait>(
+    rt: &R,
+    alloc: Global,
+    first: Register,
+    cmd: &Write,
+) -> Result<(Written, Written, u64), ApiErr>
+    requires { first.steps ≡ 0 }
+{
+    let (cell, mut root) = TurnCell::start(alloc, first)?;
+    let made = write_twice(rt, &cell, &mut root, cmd);
+    let steps = cell.close(root).used();
+    let (one, two) = made?;
+    Ok((one, two, steps))
 }
 
 #[test]
 fn a_cell_makes_a_step(rt: HostRuntime) -> Result<(), Fail> {
+    let cmd = Write {
+        text: [1, 2, 3].to_vec(rt.alloc())?,
+    };
     let first = Register {
         last: 7,
         steps: 0,
         clock: None,
     };
-    let (cell, mut root) = TurnCell::start(rt.alloc(), first)?;
-    let cmd = Write {
-        text: [1, 2, 3].to_vec(rt.alloc())?,
-    };
-    let one = cell.call(&rt, &mut root, &cmd)?;
-    let two = cell.call(&rt, &mut root, &cmd)?;
-    let register = cell.close(root);
+    let made = two_steps(&rt, rt.alloc(), first, &cmd);
+    drop(cmd);
+    let (one, two, steps) = made?;
     assert_eq!(rt;
         one,
         Written {
@@ -133,39 +144,89 @@ fn a_cell_makes_a_step(rt: HostRuntime) -> Result<(), Fail> {
             number: 2
         }
     );
-    assert_eq!(rt; register.used(), 2);
+    assert_eq!(rt; steps, 2);
     Ok(())
 }
 
-/// A seat that was used, and the numbers of the steps that it made.
+/// A seat that a thread calls by, and the numbers of the steps that it made.
 #[derive(Drop)]
 struct Worker {
     seat: Seat<Register>,
     numbers: Vec<u64>,
 }
 
-/// Calls the cell `times` times.
+/// Calls the cell, and notes the number of the step; whether it was made and noted.
+fn write_once<R: Wait>(rt: &R, cell: &TurnCell<Register>, worker: &mut Worker, cmd: &Write) -> bool
+    requires { IsSeatOf cell.now worker.old.seat × (worker.old.seat.is_root ≡ false) }
+    ensures { IsSeatOf cell.now worker.new.seat × (worker.new.seat.is_root ≡ false) }
+{
+    match cell.call(rt, &mut worker.seat, cmd) {
+        Ok(written) => worker.numbers.push(written.number).is_ok(),
+        Err(_) => false,
+    }
+}
+
+/// Calls the cell so many times, or fewer where a step was not made.
 fn write_often<R: Wait>(
     rt: &R,
-    alloc: Global,
     cell: &TurnCell<Register>,
-    mut seat: Seat<Register>,
+    worker: &mut Worker,
+    cmd: &Write,
     times: usize,
-) -> Result<Worker, ApiErr>
-    requires { IsSeatOf cell.now seat }
-    ensures { IfOk result (λ worker. Stays seat worker.seat) }
+)
+    requires { IsSeatOf cell.now worker.old.seat × (worker.old.seat.is_root ≡ false) }
+    ensures { IsSeatOf cell.now worker.new.seat × (worker.new.seat.is_root ≡ false) }
 {
-    let cmd = Write {
-        text: Vec::new(alloc),
-    };
-    let mut numbers = Vec::new(alloc);
     for _ in 0..times {
-        let written = cell.call(rt, &mut seat, &cmd)?;
-        if numbers.push(written.number).is_err() {
-            return Err(ApiErr::NoMemory);
+        if !write_once(rt, cell, worker, cmd) {
+            return;
         }
     }
-    Ok(Worker { seat, numbers })
+}
+
+/// All workers call the cell so many times each, at once where there are no more of them than threads.
+fn write_all<R: Threads + Wait + Sync>(
+    rt: &R,
+    cell: &TurnCell<Register>,
+    workers: &mut [Worker],
+    cmd: &Write,
+    times: usize,
+)
+    requires { All (λ worker. IsSeatOf cell.now worker.seat × (worker.seat.is_root ≡ false)) workers.old }
+    ensures { All (λ worker. IsSeatOf cell.now worker.seat × (worker.seat.is_root ≡ false)) workers.new }
+{
+    for_each_mut(
+        rt,
+        workers,
+        THREADS,
+        &|_, worker| write_often(rt, cell, worker, cmd, times),
+    );
+}
+
+/// Whether each worker has made so many steps.
+fn have_written(workers: &[Worker], times: usize) -> bool {
+    workers.iter().all(|worker| worker.numbers.len() == times)
+}
+
+/// So many workers, whose seats are split off the root of a new cell.
+fn split_workers(
+    alloc: Global,
+    cell: &TurnCell<Register>,
+    root: &mut Seat<Register>,
+    count: u32,
+) -> Result<Vec<Worker>, AllocError>
+    requires root { IsSeatOf cell.now root.old × (root.old.is_root ≡ true) × (root.old.made ≡ 1) × (root.old.out ≡ 0) }
+    requires room { count < 65536 }
+    ensures { IfOk result (λ workers. IsSeatOf cell.now root.new × (root.new.is_root ≡ true) × (root.new.out ≡ length workers.items) × All (λ worker. IsSeatOf cell.now worker.seat × (worker.seat.is_root ≡ false)) workers.items) }
+{
+    let mut workers = Vec::new(alloc);
+    for _ in 0..count {
+        workers.push(Worker {
+            seat: cell.split(root),
+            numbers: Vec::new(alloc),
+        })?;
+    }
+    Ok(workers)
 }
 
 /// Notes the numbers of one worker. They rise, and no other worker has one of them.
@@ -178,54 +239,6 @@ fn note(rt: &impl Abort, seen: &mut [bool], numbers: &[u64]) {
         assert!(rt; !seen[place]);
         seen[place] = true;
     }
-}
-
-#[test]
-fn two_threads_make_one_history(rt: HostRuntime) -> Result<(), Fail> {
-    let alloc = rt.alloc();
-    let (cell, mut root) = TurnCell::start(alloc, blank(None))?;
-    let child = cell.split(&mut root);
-    let (one, two) = join(
-        &rt,
-        || write_often(&rt, alloc, &cell, root, 1000),
-        || write_often(&rt, alloc, &cell, child, 1000),
-    );
-    let Worker {
-        seat: mut root,
-        numbers: ones,
-    } = one?;
-    let Worker {
-        seat: child,
-        numbers: twos,
-    } = two?;
-    cell.meet(&mut root, child);
-    let register = cell.close(root);
-    assert_eq!(rt; register.used(), 2000);
-    let mut seen = [false; 2000];
-    note(&rt, &mut seen, ones.as_slice());
-    note(&rt, &mut seen, twos.as_slice());
-    assert_eq!(rt; (ones.len(), twos.len()), (1000, 1000));
-    Ok(())
-}
-
-/// Two threads call the cell at once.
-fn write_in_pair<R: Threads + Wait + Sync>(
-    rt: &R,
-    alloc: Global,
-    cell: &TurnCell<Register>,
-    a: Seat<Register>,
-    b: Seat<Register>,
-    times: usize,
-) -> Result<(Worker, Worker), ApiErr>
-    requires { IsSeatOf cell.now a × IsSeatOf cell.now b }
-    ensures { IfOk result (λ pair. Stays a pair.0.seat × Stays b pair.1.seat) }
-{
-    let (one, two) = join(
-        rt,
-        || write_often(rt, alloc, cell, a, times),
-        || write_often(rt, alloc, cell, b, times),
-    );
-    Ok((one?, two?))
 }
 
 /// Takes a worker's seat back, and notes the numbers of its steps.
@@ -244,126 +257,109 @@ fn take_back(
     cell.meet(root, seat);
 }
 
-/// Four workers.
-#[derive(Drop)]
-struct Team {
-    one: Worker,
-    two: Worker,
-    three: Worker,
-    four: Worker,
+/// Takes every seat back, and notes the numbers of all steps.
+fn take_all_back(
+    rt: &impl Abort,
+    cell: &TurnCell<Register>,
+    root: &mut Seat<Register>,
+    workers: &mut Vec<Worker>,
+    seen: &mut [bool],
+)
+    requires { IsSeatOf cell.now root.old × (root.old.is_root ≡ true) × (root.old.out ≡ length workers.old.items) × All (λ worker. IsSeatOf cell.now worker.seat × (worker.seat.is_root ≡ false)) workers.old.items }
+    ensures { IsSeatOf cell.now root.new × (root.new.is_root ≡ true) × (root.new.out ≡ 0) }
+{
+    while let Some(worker) = workers.pop() {
+        take_back(rt, cell, root, worker, seen);
+    }
 }
 
-/// Four threads call the cell at once.
-fn write_by_four<R: Threads + Wait + Sync>(
+/// So many seats are split off the root of a new cell, call it so many times each, and are taken back; the numbers of all steps are noted.
+fn use_seats<R: Threads + Wait + Sync + Abort>(
     rt: &R,
     alloc: Global,
     cell: &TurnCell<Register>,
-    a: Seat<Register>,
-    b: Seat<Register>,
-    c: Seat<Register>,
-    d: Seat<Register>,
+    root: &mut Seat<Register>,
+    count: u32,
     times: usize,
-) -> Result<Team, ApiErr>
-    requires { IsSeatOf cell.now a × IsSeatOf cell.now b × IsSeatOf cell.now c × IsSeatOf cell.now d }
-    ensures { IfOk result (λ team. Stays a team.one.seat × Stays b team.two.seat × Stays c team.three.seat × Stays d team.four.seat) }
+    seen: &mut [bool],
+) -> Result<(), AllocError>
+    requires root { IsSeatOf cell.now root.old × (root.old.is_root ≡ true) × (root.old.made ≡ 1) × (root.old.out ≡ 0) }
+    requires room { count < 65536 }
+    ensures { OnOk result (IsSeatOf cell.now root.new × (root.new.is_root ≡ true) × (root.new.out ≡ 0)) }
 {
-    let (left, right) = join(
-        rt,
-        || -> Result<(Worker, Worker), ApiErr>
-            requires { IsSync R.row × IsSeatOf cell.now a × IsSeatOf cell.now b }
-        { write_in_pair(rt, alloc, cell, a, b, times) },
-        || -> Result<(Worker, Worker), ApiErr>
-            requires { IsSync R.row × IsSeatOf cell.now c × IsSeatOf cell.now d }
-        { write_in_pair(rt, alloc, cell, c, d, times) },
+    assert_eq!(rt; root.made(), 1);
+    let mut workers = split_workers(alloc, cell, root, count)?;
+    assert_eq!(rt;
+        (root.made(), workers.len()),
+        (u64::from(count) + 1, count as usize)
     );
-    let (one, two) = left?;
-    let (three, four) = right?;
-    Ok(Team {
-        one,
-        two,
-        three,
-        four,
-    })
+    let cmd = Write {
+        text: Vec::new(alloc),
+    };
+    write_all(rt, cell, workers.as_mut_slice(), &cmd, times);
+    assert!(rt; have_written(workers.as_slice(), times));
+    take_all_back(rt, cell, root, &mut workers, seen);
+    assert_eq!(rt; root.made(), u64::from(count) + 1);
+    Ok(())
+}
+
+/// The same, and the cell is closed. How many steps it has made.
+fn steps_of<R: Threads + Wait + Sync + Abort>(
+    rt: &R,
+    alloc: Global,
+    clock: Option<HostRuntime>,
+    count: u32,
+    times: usize,
+    seen: &mut [bool],
+) -> Result<u64, AllocError>
+    requires { count < 65536 }
+{
+    let (cell, mut root) = TurnCell::start(alloc, blank(clock))?;
+    use_seats(rt, alloc, &cell, &mut root, count, times, seen)?;
+    Ok(cell.close(root).used())
+}
+
+/// So many seats beside the root of a new cell make one history, by so many calls each: all numbers up to that of its steps are numbers of
+/// steps, each of one. Where there is a clock, the first to have its turn holds it while the others wait.
+fn make_one_history<R: Threads + Wait + Sync + Abort>(
+    rt: &R,
+    alloc: Global,
+    clock: Option<HostRuntime>,
+    count: u32,
+    times: usize,
+    seen: &mut [bool],
+) -> Result<(), AllocError>
+    requires { count < 65536 }
+{
+    let steps = steps_of(rt, alloc, clock, count, times, seen)?;
+    assert_eq!(rt; steps, seen.len() as u64);
+    assert!(rt; seen.iter().all(|made| *made));
+    Ok(())
+}
+
+#[test]
+fn two_threads_make_one_history(rt: HostRuntime) -> Result<(), Fail> {
+    make_one_history(&rt, rt.alloc(), None, 2, 1000, &mut [false; 2000])?;
+    Ok(())
 }
 
 // Once as fast as they can, and once where the first to have its turn holds it while the other seven wait.
 #[test]
 fn eight_threads_make_one_history(rt: HostRuntime) -> Result<(), Fail> {
-    let alloc = rt.alloc();
-    for clock in [None, Some(rt)] {
-        let (cell, mut root) = TurnCell::start(alloc, blank(clock))?;
-        let b = cell.split(&mut root);
-        let c = cell.split(&mut root);
-        let d = cell.split(&mut root);
-        let e = cell.split(&mut root);
-        let f = cell.split(&mut root);
-        let g = cell.split(&mut root);
-        let h = cell.split(&mut root);
-        let (left, right) = join(
-            &rt,
-            || write_by_four(&rt, alloc, &cell, root, b, c, d, 1000),
-            || write_by_four(&rt, alloc, &cell, e, f, g, h, 1000),
-        );
-        let left = left?;
-        let right = right?;
-        let Worker {
-            seat: mut root,
-            numbers,
-        } = left.one;
-        let mut seen = [false; 8000];
-        note(&rt, &mut seen, numbers.as_slice());
-        take_back(&rt, &cell, &mut root, left.two, &mut seen);
-        take_back(&rt, &cell, &mut root, left.three, &mut seen);
-        take_back(&rt, &cell, &mut root, left.four, &mut seen);
-        take_back(&rt, &cell, &mut root, right.one, &mut seen);
-        take_back(&rt, &cell, &mut root, right.two, &mut seen);
-        take_back(&rt, &cell, &mut root, right.three, &mut seen);
-        take_back(&rt, &cell, &mut root, right.four, &mut seen);
-        let register = cell.close(root);
-        assert_eq!(rt; register.used(), 8000);
-        assert!(rt; seen.iter().all(|made| *made));
-    }
+    make_one_history(&rt, rt.alloc(), None, 8, 1000, &mut [false; 8000])?;
+    make_one_history(&rt, rt.alloc(), Some(rt), 8, 1000, &mut [false; 8000])?;
     Ok(())
-}
-
-/// Splits off every seat that a new cell has.
-fn split_all<O: Object>(
-    alloc: Global,
-    cell: &TurnCell<O>,
-    root: &mut Seat<O>,
-) -> Result<Vec<Seat<O>>, ApiErr>
-    requires { IsSeatOf cell.now root.old × (root.old.is_root ≡ true) × (root.old.made ≡ 1) × (root.old.out ≡ 0) }
-    ensures { IfOk result (λ seats. IsSeatOf cell.now root.new × (root.new.is_root ≡ true) × (root.new.out ≡ length seats.items) × All (λ seat. IsSeatOf cell.now seat × (seat.is_root ≡ false)) seats.items) }
-{
-    let mut seats = Vec::new(alloc);
-    for _ in 1..65536u32 {
-        if seats.push(cell.split(root)).is_err() {
-            return Err(ApiErr::NoMemory);
-        }
-    }
-    Ok(seats)
-}
-
-/// Takes every seat back.
-fn meet_all<O: Object>(cell: &TurnCell<O>, root: &mut Seat<O>, mut seats: Vec<Seat<O>>)
-    requires { IsSeatOf cell.now root.old × (root.old.is_root ≡ true) × (root.old.out ≡ length seats.items) × All (λ seat. IsSeatOf cell.now seat × (seat.is_root ≡ false)) seats.items }
-    ensures { IsSeatOf cell.now root.new × (root.new.is_root ≡ true) × (root.new.out ≡ 0) }
-{
-    while let Some(seat) = seats.pop() {
-        cell.meet(root, seat);
-    }
 }
 
 #[test]
 fn a_cell_has_65536_seats(rt: HostRuntime) -> Result<(), Fail> {
-    let (cell, mut root) = TurnCell::start(rt.alloc(), blank(None))?;
-    assert_eq!(rt; root.made(), 1);
-    let seats = split_all(rt.alloc(), &cell, &mut root)?;
-    assert_eq!(rt; (root.made(), seats.len()), (65536, 65535));
-    meet_all(&cell, &mut root, seats);
-    assert_eq!(rt; root.made(), 65536);
-    let register = cell.close(root);
-    assert_eq!(rt; register.used(), 0);
+    make_one_history(&rt, rt.alloc(), None, 65535, 0, &mut [])?;
+    Ok(())
+}
+
+/// An error of a call over a cell is told so.
+fn is_told(rt: &impl Abort, alloc: Global, error: ApiErr, text: &str) -> Result<(), AllocError> {
+    assert_eq!(rt; format!(in alloc; "{error}")?.as_str(), text);
     Ok(())
 }
 
@@ -371,16 +367,9 @@ fn a_cell_has_65536_seats(rt: HostRuntime) -> Result<(), Fail> {
 fn errors_tell_their_count(rt: HostRuntime) -> Result<(), Fail> {
     let alloc = rt.alloc();
     let exhausted = Exhausted { count: 1 << 62 };
-    let table = [
-        (ApiErr::from(exhausted), "exhausted at 4611686018427387904"),
-        (ApiErr::from(AllocError), "no memory"),
-    ];
-    for (error, text) in table {
-        assert_eq!(rt; format!(in alloc; "{error}")?.as_str(), text);
-    }
-    assert_eq!(rt;
-        format!(in alloc; "{exhausted}")?.as_str(),
-        "exhausted at 4611686018427387904"
-    );
+    let text = "exhausted at 4611686018427387904";
+    is_told(&rt, alloc, ApiErr::from(exhausted), text)?;
+    is_told(&rt, alloc, ApiErr::from(AllocError), "no memory")?;
+    assert_eq!(rt; format!(in alloc; "{exhausted}")?.as_str(), text);
     Ok(())
 }

@@ -7,10 +7,11 @@ use sidecar_workers::{
     Exit, Got, Owed, Reason, Served, Slot, Stop, StopSeat, Turned, Work, run_workers,
 };
 use std::alloc::Global;
+use std::process::Abort;
 use std::sync::Wait;
 use std::sync::atomic::{AtomicBool, AtomicU64, Ordering};
 use std::test::Fail;
-use std::thread::sleep;
+use std::thread::{Threads, sleep};
 use std::time::Duration;
 
 /// What a work answers: each `accept` in turn, and `then` to all that follow.
@@ -23,7 +24,7 @@ struct Script {
 }
 
 /// A work that answers by a script, and counts its calls.
-#[derive(Drop)]
+#[derive(Clone, Copy)]
 struct Scripted {
     script: Script,
     accepts: usize,
@@ -97,11 +98,117 @@ fn slot(number: u32, seat: StopSeat, script: Script) -> Slot<Scripted>
     }
 }
 
-/// What running a script is to end in: the exit, the numbers of its calls to `serve` and `turn`, and whether the word is set.
+/// Workers with these scripts, numbered from `first` on.
+fn slots_of(
+    alloc: Global,
+    stop: &Stop,
+    root: &mut StopSeat,
+    first: u32,
+    scripts: &[Script],
+) -> Result<Vec<Slot<Scripted>>, NoMemory>
+    requires { (root.old.table ≡ stop.now) × (root.old.is_root ≡ true) }
+    ensures { IfOk result (λ slots. (root.new.table ≡ stop.now) × All (λ slot. (slot.seat.table ≡ stop.now) × (slot.seat.ended ≡ None) × (slot.work.owed ≡ owed.Nothing) × (slot.work.over ≡ false)) slots.items) }
+{
+    let mut number = first;
+    let mut slots = Vec::new(alloc);
+    for script in scripts {
+        slots.push(slot(number, stop.split(root), *script))?;
+        number = number.wrapping_add(1);
+    }
+    Ok(slots)
+}
+
+/// How a worker ended, and how often its work was called.
+#[derive(Clone, Copy, Debug, PartialEq, Eq)]
+struct Ended {
+    exit: Option<Exit>,
+    accepts: usize,
+    serves: usize,
+    turns: usize,
+}
+
+/// How each of these workers ended.
+fn ends_of(alloc: Global, slots: &[Slot<Scripted>]) -> Result<Vec<Ended>, NoMemory> {
+    let mut ends = Vec::new(alloc);
+    for slot in slots {
+        ends.push(Ended {
+            exit: slot.exit,
+            accepts: slot.work.accepts,
+            serves: slot.work.serves,
+            turns: slot.work.turns,
+        })?;
+    }
+    Ok(ends)
+}
+
+/// Workers that have run: how each ended, and whether the word is set.
+#[derive(Drop)]
+struct Past {
+    ends: Vec<Ended>,
+    is_set: bool,
+}
+
+impl Past {
+    /// How the worker at this place ended.
+    fn exit(&self, place: usize) -> Option<Exit> {
+        match self.ends.get(place) {
+            Some(end) => end.exit,
+            None => None,
+        }
+    }
+}
+
+/// Sets the word where there is a reason.
+fn set_for(stop: &Stop, root: &mut StopSeat, reason: Option<Reason>)
+    requires { (root.old.table ≡ stop.now) × (root.old.is_root ≡ true) }
+    ensures { (root.new.table ≡ stop.now) × (root.new.is_root ≡ true) }
+{
+    if let Some(reason) = reason {
+        stop.set(root, reason);
+    }
+}
+
+/// Runs workers with these scripts, numbered from `first` on, on this word.
+fn run_on<G: Gate + Sync, R: Threads + Wait + Sync>(
+    rt: &R,
+    alloc: Global,
+    gate: &G,
+    stop: &Stop,
+    root: &mut StopSeat,
+    first: u32,
+    scripts: &[Script],
+) -> Result<Past, NoMemory>
+    requires { (root.old.table ≡ stop.now) × (root.old.is_root ≡ true) }
+{
+    let mut slots = slots_of(alloc, stop, root, first, scripts)?;
+    run_workers(rt, slots.as_mut_slice(), stop, gate);
+    let ends = ends_of(alloc, slots.as_slice())?;
+    Ok(Past {
+        ends,
+        is_set: stop.look(root),
+    })
+}
+
+/// The same on a word of their own, which is set before where there is a reason.
+fn run_scripts<G: Gate + Sync, R: Threads + Wait + Sync>(
+    rt: &R,
+    alloc: Global,
+    gate: &G,
+    reason: Option<Reason>,
+    first: u32,
+    scripts: &[Script],
+) -> Result<Past, NoMemory> {
+    let (stop, mut root) = Stop::start(alloc)?;
+    set_for(&stop, &mut root, reason);
+    run_on(rt, alloc, gate, &stop, &mut root, first, scripts)
+}
+
+/// What running a script is to end in: the exit, the numbers of its calls, and whether the word is set.
 #[derive(Clone, Copy)]
 struct Run {
     script: Script,
     exit: Exit,
+    accepts: usize,
     serves: usize,
     turns: usize,
     stops: bool,
@@ -118,6 +225,7 @@ const RUNS: [Run; 8] = [
     Run {
         script: CLOSING,
         exit: Exit::Closed,
+        accepts: 1,
         serves: 0,
         turns: 0,
         stops: false,
@@ -128,6 +236,7 @@ const RUNS: [Run; 8] = [
             ..CLOSING
         },
         exit: Exit::Closed,
+        accepts: 4,
         serves: 2,
         turns: 1,
         stops: false,
@@ -139,6 +248,7 @@ const RUNS: [Run; 8] = [
             ..CLOSING
         },
         exit: Exit::Failed,
+        accepts: 2,
         serves: 0,
         turns: 1,
         stops: true,
@@ -150,6 +260,7 @@ const RUNS: [Run; 8] = [
             ..CLOSING
         },
         exit: Exit::Asked,
+        accepts: 2,
         serves: 1,
         turns: 1,
         stops: true,
@@ -161,6 +272,7 @@ const RUNS: [Run; 8] = [
             ..CLOSING
         },
         exit: Exit::Spent { count: 7 },
+        accepts: 1,
         serves: 1,
         turns: 0,
         stops: true,
@@ -172,6 +284,7 @@ const RUNS: [Run; 8] = [
             ..CLOSING
         },
         exit: Exit::Spent { count: 9 },
+        accepts: 1,
         serves: 0,
         turns: 1,
         stops: true,
@@ -184,6 +297,7 @@ const RUNS: [Run; 8] = [
             ..CLOSING
         },
         exit: Exit::Closed,
+        accepts: 3,
         serves: 2,
         turns: 0,
         stops: false,
@@ -195,35 +309,47 @@ const RUNS: [Run; 8] = [
             ..CLOSING
         },
         exit: Exit::Closed,
+        accepts: 3,
         serves: 0,
         turns: 2,
         stops: false,
     },
 ];
 
+/// These workers ended as this run is to end, and left the word as it is to be.
+fn is_past(rt: &impl Abort, past: &Past, run: &Run) {
+    let wanted = [Ended {
+        exit: Some(run.exit),
+        accepts: run.accepts,
+        serves: run.serves,
+        turns: run.turns,
+    }];
+    assert_eq!(rt; past.ends.as_slice(), wanted.as_slice());
+    assert_eq!(rt; past.is_set, run.stops);
+}
+
+/// Each script ends as it is to end.
+fn run_each<R: Threads + Wait + Sync + Abort>(
+    rt: &R,
+    alloc: Global,
+    runs: &[Run],
+) -> Result<(), NoMemory> {
+    for run in runs {
+        let past = run_scripts(rt, alloc, &FreeGate, None, 0, &[run.script])?;
+        is_past(rt, &past, run);
+    }
+    Ok(())
+}
+
 #[test]
 fn a_worker_ends_by_its_script(rt: HostRuntime) -> Result<(), Fail> {
-    for run in RUNS {
-        let (stop, mut root) = Stop::start(rt.alloc())?;
-        let seat = stop.split(&mut root);
-        let mut slots = [slot(0, seat, run.script)];
-        run_workers(&rt, &mut slots, &stop, &FreeGate);
-        assert_eq!(rt; slots[0].exit, Some(run.exit));
-        assert_eq!(rt;
-            (slots[0].work.serves, slots[0].work.turns),
-            (run.serves, run.turns)
-        );
-        assert_eq!(rt; stop.look(&mut root), run.stops);
-    }
+    run_each(&rt, rt.alloc(), &RUNS)?;
     Ok(())
 }
 
 // The second worker is idle for ever, but for the word.
 #[test]
 fn an_idle_worker_is_stopped(rt: HostRuntime) -> Result<(), Fail> {
-    let (stop, mut root) = Stop::start(rt.alloc())?;
-    let one = stop.split(&mut root);
-    let two = stop.split(&mut root);
     let asking = Script {
         gots: &[Got::Conn],
         served: Served::Asked,
@@ -233,10 +359,9 @@ fn an_idle_worker_is_stopped(rt: HostRuntime) -> Result<(), Fail> {
         then: Got::Idle,
         ..CLOSING
     };
-    let mut slots = [slot(0, one, asking), slot(1, two, idle)];
-    run_workers(&rt, &mut slots, &stop, &FreeGate);
+    let past = run_scripts(&rt, rt.alloc(), &FreeGate, None, 0, &[asking, idle])?;
     assert_eq!(rt;
-        (slots[0].exit, slots[1].exit),
+        (past.exit(0), past.exit(1)),
         (Some(Exit::Asked), Some(Exit::Stopped))
     );
     Ok(())
@@ -244,13 +369,15 @@ fn an_idle_worker_is_stopped(rt: HostRuntime) -> Result<(), Fail> {
 
 #[test]
 fn a_word_that_was_set_stops_a_worker_at_once(rt: HostRuntime) -> Result<(), Fail> {
-    let (stop, mut root) = Stop::start(rt.alloc())?;
-    let seat = stop.split(&mut root);
-    stop.set(&mut root, Reason::Asked);
-    let mut slots = [slot(0, seat, CLOSING)];
-    run_workers(&rt, &mut slots, &stop, &FreeGate);
-    assert_eq!(rt; slots[0].exit, Some(Exit::Stopped));
-    assert_eq!(rt; slots[0].work.accepts, 0);
+    let reason = Some(Reason::Asked);
+    let past = run_scripts(&rt, rt.alloc(), &FreeGate, reason, 0, &[CLOSING])?;
+    let wanted = [Ended {
+        exit: Some(Exit::Stopped),
+        accepts: 0,
+        serves: 0,
+        turns: 0,
+    }];
+    assert_eq!(rt; past.ends.as_slice(), wanted.as_slice());
     Ok(())
 }
 
@@ -268,13 +395,29 @@ fn seats_are_met(rt: HostRuntime) -> Result<(), Fail> {
     Ok(())
 }
 
+/// What one of two workers has done where they meet: it came, and found the other.
+#[derive(Drop)]
+struct Side {
+    came: AtomicBool,
+    found: AtomicBool,
+}
+
+impl Side {
+    fn new() -> Side {
+        Side {
+            came: AtomicBool::new(false),
+            found: AtomicBool::new(false),
+        }
+    }
+}
+
 /// Two workers that wait for each other where they have accepted a connection, for so many turns of a look and a pause.
 #[derive(Drop)]
 struct Meeting {
     clock: HostRuntime,
     turns: u32,
-    came: [AtomicBool; 2],
-    found: [AtomicBool; 2],
+    even: Side,
+    odd: Side,
 }
 
 impl Meeting {
@@ -282,14 +425,26 @@ impl Meeting {
         Meeting {
             clock,
             turns,
-            came: [AtomicBool::new(false), AtomicBool::new(false)],
-            found: [AtomicBool::new(false), AtomicBool::new(false)],
+            even: Side::new(),
+            odd: Side::new(),
+        }
+    }
+
+    /// Comes, and looks whether the other has come, again and again.
+    fn look_for(&self, own: &Side, other: &Side) {
+        own.came.store(true, Ordering::SeqCst);
+        for _ in 0..self.turns {
+            if other.came.load(Ordering::SeqCst) {
+                own.found.store(true, Ordering::SeqCst);
+                return;
+            }
+            sleep(&self.clock, Duration::from_millis(1));
         }
     }
 
     /// Whether each found the other.
     fn is_met(&self) -> bool {
-        self.found[0].load(Ordering::SeqCst) && self.found[1].load(Ordering::SeqCst)
+        self.even.found.load(Ordering::SeqCst) && self.odd.found.load(Ordering::SeqCst)
     }
 }
 
@@ -298,14 +453,10 @@ impl Gate for Meeting {
         if point != Point::Accepted {
             return;
         }
-        let own = (worker % 2) as usize;
-        self.came[own].store(true, Ordering::SeqCst);
-        for _ in 0..self.turns {
-            if self.came[1 - own].load(Ordering::SeqCst) {
-                self.found[own].store(true, Ordering::SeqCst);
-                return;
-            }
-            sleep(&self.clock, Duration::from_millis(1));
+        if worker % 2 == 0 {
+            self.look_for(&self.even, &self.odd);
+        } else {
+            self.look_for(&self.odd, &self.even);
         }
     }
 }
@@ -317,12 +468,8 @@ const ONE_CONNECTION: Script = Script {
 
 #[test]
 fn workers_run_side_by_side(rt: HostRuntime) -> Result<(), Fail> {
-    let (stop, mut root) = Stop::start(rt.alloc())?;
-    let one = stop.split(&mut root);
-    let two = stop.split(&mut root);
-    let mut slots = [slot(0, one, ONE_CONNECTION), slot(1, two, ONE_CONNECTION)];
     let gate = Meeting::new(rt, 10_000);
-    run_workers(&rt, &mut slots, &stop, &gate);
+    run_scripts(&rt, rt.alloc(), &gate, None, 0, &[ONE_CONNECTION; 2])?;
     assert!(rt; gate.is_met());
     Ok(())
 }
@@ -331,14 +478,9 @@ fn workers_run_side_by_side(rt: HostRuntime) -> Result<(), Fail> {
 #[test]
 fn workers_one_by_one_would_not_meet(rt: HostRuntime) -> Result<(), Fail> {
     for first in 0..2u32 {
-        let (stop, mut root) = Stop::start(rt.alloc())?;
-        let one = stop.split(&mut root);
-        let two = stop.split(&mut root);
-        let mut ones = [slot(first, one, ONE_CONNECTION)];
-        let mut twos = [slot(1 - first, two, ONE_CONNECTION)];
         let gate = Meeting::new(rt, 20);
-        run_workers(&rt, &mut ones, &stop, &gate);
-        run_workers(&rt, &mut twos, &stop, &gate);
+        run_scripts(&rt, rt.alloc(), &gate, None, first, &[ONE_CONNECTION])?;
+        run_scripts(&rt, rt.alloc(), &gate, None, 1 - first, &[ONE_CONNECTION])?;
         assert!(rt; !gate.is_met());
     }
     Ok(())
@@ -370,39 +512,31 @@ fn no_passes(alloc: Global, count: u32) -> Result<Passes, NoMemory> {
     Ok(Passes { words })
 }
 
-fn many(
-    alloc: Global,
-    stop: &Stop,
-    root: &mut StopSeat,
-    count: u32,
-    script: Script,
-) -> Result<Vec<Slot<Scripted>>, NoMemory>
-    requires { (root.old.table ≡ stop.now) × (root.old.is_root ≡ true) }
-    ensures { IfOk result (λ slots. All (λ slot. (slot.seat.table ≡ stop.now) × (slot.seat.ended ≡ None) × (slot.work.owed ≡ owed.Nothing) × (slot.work.over ≡ false)) slots.items) }
-{
-    let mut slots = Vec::new(alloc);
-    for number in 0..count {
-        slots.push(slot(number, stop.split(root), script))?;
+/// Each of these workers served three connections, and passed the gate before and after each.
+fn have_passed(rt: &impl Abort, ends: &[Ended], words: &[AtomicU64]) {
+    for (end, word) in ends.iter().zip(words.iter()) {
+        assert_eq!(rt;
+            *end,
+            Ended {
+                exit: Some(Exit::Closed),
+                accepts: 5,
+                serves: 3,
+                turns: 1,
+            }
+        );
+        assert_eq!(rt; word.load(Ordering::SeqCst), 0b01_10_01_10_01_10);
     }
-    Ok(slots)
 }
 
 #[test]
 fn sixty_four_workers_pass_the_gate(rt: HostRuntime) -> Result<(), Fail> {
-    let (stop, mut root) = Stop::start(rt.alloc())?;
     let script = Script {
         gots: &[Got::Conn, Got::Idle, Got::Conn, Got::Conn],
         ..CLOSING
     };
-    let mut slots = many(rt.alloc(), &stop, &mut root, 64, script)?;
     let gate = no_passes(rt.alloc(), 64)?;
-    run_workers(&rt, slots.as_mut_slice(), &stop, &gate);
-    assert_eq!(rt; (slots.len(), gate.words.len()), (64, 64));
-    for (slot, word) in slots.iter().zip(gate.words.iter()) {
-        let exit = slot.exit;
-        let calls = (slot.work.serves, slot.work.turns);
-        assert_eq!(rt; (exit, calls), (Some(Exit::Closed), (3, 1)));
-        assert_eq!(rt; word.load(Ordering::SeqCst), 0b01_10_01_10_01_10);
-    }
+    let past = run_scripts(&rt, rt.alloc(), &gate, None, 0, &[script; 64])?;
+    assert_eq!(rt; (past.ends.len(), gate.words.len()), (64, 64));
+    have_passed(&rt, past.ends.as_slice(), gate.words.as_slice());
     Ok(())
 }

@@ -5,6 +5,7 @@ use side_world::{Link, LinkErr};
 use std::alloc::Global;
 use std::io::{self, Read, Write};
 use std::net::{Ipv4Addr, Net, SocketAddrV4, TcpListener, TcpStream};
+use std::process::Abort;
 use std::test::Fail;
 use std::thread::{Threads, join, sleep};
 use std::time::{Clock, Duration};
@@ -17,15 +18,17 @@ const SHORT_MS: u64 = 100;
 
 const SLOW_MS: u64 = 300;
 
-/// Takes one connection, reads the head of its request, and answers it with these bytes. Waits so long, and then closes it. How
-/// many bytes the head had.
-fn serve<R: Clock>(
+/// A listener at a free port, and its port.
+fn listen<R: Net<Listener = TcpListener, Stream = TcpStream>>(
     rt: &R,
-    listener: &TcpListener,
-    reply: &[u8],
-    wait_ms: u64,
-) -> io::Result<usize> {
-    let (mut stream, _) = listener.accept()?;
+) -> io::Result<(TcpListener, u16)> {
+    let listener = TcpListener::bind(rt, SocketAddrV4::new(Ipv4Addr::LOCALHOST, 0))?;
+    let port = listener.local_addr()?.port();
+    Ok((listener, port))
+}
+
+/// Reads the head of a request.
+fn read_head(stream: &mut TcpStream) -> io::Result<()> {
     let mut head = [0u8; 1_024];
     let mut len = 0;
     for _ in 0..1_024u32 {
@@ -35,9 +38,31 @@ fn serve<R: Clock>(
         let n = stream.read(&mut head[len..])?;
         len += n;
     }
+    Ok(())
+}
+
+/// Reads the head of a request, answers it with these bytes, and waits so long.
+fn reply_to<R: Clock>(
+    rt: &R,
+    stream: &mut TcpStream,
+    reply: &[u8],
+    wait_ms: u64,
+) -> io::Result<()> {
+    read_head(stream)?;
     stream.write_all(reply)?;
     sleep(rt, Duration::from_millis(wait_ms));
-    Ok(len)
+    Ok(())
+}
+
+/// Takes one connection, replies to its request, and closes it.
+fn serve<R: Clock>(rt: &R, listener: &TcpListener, reply: &[u8], wait_ms: u64) -> io::Result<()> {
+    let (mut stream, _) = listener.accept()?;
+    reply_to(rt, &mut stream, reply, wait_ms)
+}
+
+/// The same; whether it has replied.
+fn has_served<R: Clock>(rt: &R, listener: &TcpListener, reply: &[u8], wait_ms: u64) -> bool {
+    serve(rt, listener, reply, wait_ms).is_ok()
 }
 
 /// A request to this port.
@@ -52,15 +77,51 @@ fn request_to(alloc: Global, port: u16, method: Method) -> Result<LinkRequest, N
     })
 }
 
-/// What a call answered, as a text: the status and the content of its reply.
-fn told(alloc: Global, answer: Result<Response, LinkErr>) -> Result<Text, NoMemory> {
-    match answer {
-        Ok(response) => {
-            let body = str::from_utf8(response.body.bytes()).unwrap_or("?");
-            Ok(Text::from_string(format!(in alloc; "{} {body}", response.status)?))
-        }
+/// A reply as a text: its status and its content.
+fn reply_text(alloc: Global, reply: &Response) -> Result<Text, NoMemory> {
+    let body = str::from_utf8(reply.body.bytes()).unwrap_or("?");
+    Ok(Text::from_string(format!(in alloc; "{} {body}", reply.status)?))
+}
+
+/// What a link answers to a request, as a text: the reply, or why there is none.
+fn told<L: Link>(
+    link: &mut L,
+    alloc: Global,
+    request: &LinkRequest,
+    limit_ms: u64,
+) -> Result<Text, NoMemory> {
+    match link.call(request, limit_ms) {
+        Ok(reply) => reply_text(alloc, &reply),
         Err(error) => Ok(Text::from_string(format!(in alloc; "{error}")?)),
     }
+}
+
+/// The same of a new link, where the server at this listener replies with these bytes.
+fn answered_by<
+    R: Threads
+        + Net<Listener = TcpListener, Stream = TcpStream>
+        + Clock
+        + AllocGlobal
+        + Copy
+        + Drop
+        + Send
+        + Sync,
+>(
+    rt: R,
+    listener: &TcpListener,
+    request: &LinkRequest,
+    reply: &[u8],
+    wait_ms: u64,
+    limit_ms: u64,
+) -> io::Result<Text> {
+    let alloc = rt.alloc();
+    let mut link = TcpLink::new(rt);
+    let (_, text) = join(
+        &rt,
+        || has_served(&rt, listener, reply, wait_ms),
+        || told(&mut link, alloc, request, limit_ms),
+    );
+    Ok(text?)
 }
 
 /// What a link answers where a server replies with these bytes, as a text.
@@ -74,16 +135,29 @@ fn answered<
         + Send
         + Sync,
 >(rt: R, reply: &[u8], wait_ms: u64, limit_ms: u64) -> io::Result<Text> {
-    let listener = TcpListener::bind(&rt, SocketAddrV4::new(Ipv4Addr::LOCALHOST, 0))?;
-    let port = listener.local_addr()?.port();
+    let (listener, port) = listen(&rt)?;
     let request = request_to(rt.alloc(), port, Method::Get)?;
-    let mut link = TcpLink::new(rt);
-    let (_, answer) = join(
-        &rt,
-        || serve(&rt, &listener, reply, wait_ms),
-        || link.call(&request, limit_ms),
-    );
-    Ok(told(rt.alloc(), answer)?)
+    answered_by(rt, &listener, &request, reply, wait_ms, limit_ms)
+}
+
+/// To each reply, a link answers what stands beside it.
+fn are_answered<
+    R: Threads
+        + Net<Listener = TcpListener, Stream = TcpStream>
+        + Clock
+        + Abort
+        + AllocGlobal
+        + Copy
+        + Drop
+        + Send
+        + Sync,
+>(rt: R, replies: &[(&str, &str)], wait_ms: u64, limit_ms: u64) -> io::Result<()> {
+    for pair in replies {
+        let (reply, wanted) = *pair;
+        let found = answered(rt, reply.as_bytes(), wait_ms, limit_ms)?;
+        assert_eq!(rt; found.as_str(), wanted, "{reply}");
+    }
+    Ok(())
 }
 
 #[test]
@@ -113,45 +187,47 @@ fn a_link_answers_what_comes(rt: HostRuntime) -> Result<(), Fail> {
         ("garbage\r\n\r\n", "the call failed"),
         ("", "the call failed"),
     ];
-    for (reply, wanted) in replies {
-        let found = answered(rt, reply.as_bytes(), 0, LONG_MS)?;
-        assert_eq!(rt; found.as_str(), wanted, "{reply}");
-    }
-    Ok(())
+    Ok(are_answered(rt, &replies, 0, LONG_MS)?)
 }
 
 #[test]
 fn a_reply_that_is_too_slow_expires(rt: HostRuntime) -> Result<(), Fail> {
-    for reply in ["", "HTTP/1.1 200 OK\r\nContent-Length: 3\r\n\r\nhi"] {
-        let found = answered(rt, reply.as_bytes(), SLOW_MS, SHORT_MS)?;
-        assert_eq!(rt; found.as_str(), "the call expired");
-    }
-    Ok(())
+    let replies = [
+        ("", "the call expired"),
+        (
+            "HTTP/1.1 200 OK\r\nContent-Length: 3\r\n\r\nhi",
+            "the call expired",
+        ),
+    ];
+    Ok(are_answered(rt, &replies, SLOW_MS, SHORT_MS)?)
 }
 
 /// A port at which nobody listens.
 fn free_port<R: Net<Listener = TcpListener, Stream = TcpStream>>(rt: &R) -> io::Result<u16> {
-    let listener = TcpListener::bind(rt, SocketAddrV4::new(Ipv4Addr::LOCALHOST, 0))?;
-    Ok(listener.local_addr()?.port())
+    let (_, port) = listen(rt)?;
+    Ok(port)
 }
 
-/// How a call of this method ends, which is not answered.
-fn ends(link: &mut TcpLink<HostRuntime>, request: &LinkRequest) -> Option<LinkErr> {
-    link.call(request, LONG_MS).err()
+/// How a call of this method to this port ends, which is not answered.
+fn end_of_call<R: Net + Clock + AllocGlobal + Copy + Drop>(
+    rt: R,
+    port: u16,
+    method: Method,
+) -> Result<Option<LinkErr>, NoMemory> {
+    let request = request_to(rt.alloc(), port, method)?;
+    let mut link = TcpLink::new(rt);
+    Ok(link.call(&request, LONG_MS).err())
 }
 
 #[test]
 fn a_call_that_reaches_nobody_fails(rt: HostRuntime) -> Result<(), Fail> {
-    let request = request_to(rt.alloc(), free_port(&rt)?, Method::Get)?;
-    let mut link = TcpLink::new(rt);
-    assert_eq!(rt; ends(&mut link, &request), Some(LinkErr::Failed));
+    let port = free_port(&rt)?;
+    assert_eq!(rt; end_of_call(rt, port, Method::Get)?, Some(LinkErr::Failed));
     Ok(())
 }
 
 #[test]
 fn a_request_of_no_method_fails(rt: HostRuntime) -> Result<(), Fail> {
-    let request = request_to(rt.alloc(), 80, Method::Other)?;
-    let mut link = TcpLink::new(rt);
-    assert_eq!(rt; ends(&mut link, &request), Some(LinkErr::Failed));
+    assert_eq!(rt; end_of_call(rt, 80, Method::Other)?, Some(LinkErr::Failed));
     Ok(())
 }

@@ -1,15 +1,15 @@
 //! The devices of files, clocks and numbers, and what std has as sources and sinks.
 use host_devices::{HostClock, HostDisk, HostFiles, StdSink, StdSource};
 use net_edge::HostOutside;
-use side_base::{Blob, Names, NoMemory};
+use side_base::Names;
 use side_world::{Clock, Disk, Failed, Files, FilesErr, Outside, gather, send};
-use std::alloc::Global;
 use std::io::Write;
+use std::process::Abort;
 use std::test::Fail;
 use std::{fs, io};
 
 // A writer that takes one byte at a time, and after three takes nothing.
-#[derive(Drop)]
+#[derive(Clone, Copy)]
 struct Narrow {
     taken: usize,
 }
@@ -52,25 +52,58 @@ fn a_writer_is_a_sink(rt: HostRuntime) -> Result<(), Fail> {
     Ok(())
 }
 
+// Whether there can't be a disk at this path.
+fn is_refused<R: fs::Files<File = fs::File>>(rt: &R, path: &str) -> bool {
+    HostDisk::open(rt, path).is_err()
+}
+
+// The length of the disk at this path.
+fn disk_len<R: fs::Files<File = fs::File>>(rt: &R, path: &str) -> Result<u64, Fail> {
+    let len = HostDisk::open(rt, path)?.len();
+    Ok(len?)
+}
+
+// Writes to a new disk.
+fn write_to(rt: &impl Abort, disk: &mut HostDisk) -> Result<(), Fail> {
+    assert_eq!(rt; disk.len()?, 0);
+    disk.write_at(0, b"journal")?;
+    disk.write_at(4, b"eying")?;
+    disk.sync()?;
+    Ok(())
+}
+
+// A new disk at this path takes what is written, and is nobody else's meanwhile.
+fn is_written<R: fs::Files<File = fs::File> + Abort>(rt: &R, path: &str) -> Result<(), Fail> {
+    let mut disk = HostDisk::open(rt, path)?;
+    let written = write_to(rt, &mut disk);
+    assert!(rt; is_refused(rt, path));
+    drop(disk);
+    written
+}
+
+// What was written is read from a disk.
+fn read_from(rt: &impl Abort, disk: &mut HostDisk) -> Result<(), Fail> {
+    assert_eq!(rt; disk.len()?, 9);
+    let mut piece = [0; 5];
+    disk.read_at(3, &mut piece)?;
+    assert_eq!(rt; piece, *b"reyin");
+    Ok(())
+}
+
+// The same of the disk at this path.
+fn is_read<R: fs::Files<File = fs::File> + Abort>(rt: &R, path: &str) -> Result<(), Fail> {
+    let mut disk = HostDisk::open(rt, path)?;
+    read_from(rt, &mut disk)
+}
+
 // That each call fails after a sync that failed, no test shows, as no regular file of the host's fails to sync: the clauses `loses`,
 // `lost` and `stays` of `HostDisk` say it.
 #[test]
 fn a_file_is_a_disk(rt: HostRuntime) -> Result<(), Fail> {
     let path = "a_file_is_a_disk.bytes";
-    let mut disk = HostDisk::open(&rt, path)?;
-    assert_eq!(rt; disk.len()?, 0);
-    disk.write_at(0, b"journal")?;
-    disk.write_at(4, b"eying")?;
-    disk.sync()?;
-    assert!(rt; HostDisk::open(&rt, path).is_err());
-    drop(disk);
-    let mut found = HostDisk::open(&rt, path)?;
-    assert_eq!(rt; found.len()?, 9);
-    let mut piece = [0; 5];
-    found.read_at(3, &mut piece)?;
-    assert_eq!(rt; piece, *b"reyin");
-    drop(found);
-    assert_eq!(rt; HostDisk::open(&rt, path)?.len()?, 9);
+    is_written(&rt, path)?;
+    is_read(&rt, path)?;
+    assert_eq!(rt; disk_len(&rt, path)?, 9);
     fs::remove_file(&rt, path)?;
     Ok(())
 }
@@ -79,12 +112,18 @@ fn a_file_is_a_disk(rt: HostRuntime) -> Result<(), Fail> {
 fn a_disk_is_a_regular_file(rt: HostRuntime) -> Result<(), Fail> {
     let folder = "a_disk_is_a_regular_file";
     fs::create_dir(&rt, folder)?;
-    assert!(rt; HostDisk::open(&rt, folder).is_err());
-    assert!(rt; HostDisk::open(&rt, "/dev/null").is_err());
-    let path = "a_disk_is_a_regular_file/disk";
-    assert_eq!(rt; HostDisk::open(&rt, path)?.len()?, 0);
+    assert!(rt; is_refused(&rt, folder));
+    assert!(rt; is_refused(&rt, "/dev/null"));
+    assert_eq!(rt; disk_len(&rt, "a_disk_is_a_regular_file/disk")?, 0);
     fs::remove_dir_all(&rt, folder)?;
     Ok(())
+}
+
+// Writes a file of a folder, whose content is its name.
+fn write_named<R: fs::Files + AllocGlobal>(rt: &R, folder: &str, name: &str) -> io::Result<()> {
+    let alloc = rt.alloc();
+    let path = format!(in alloc; "{folder}/{name}")?;
+    fs::write(rt, path.as_str(), name)
 }
 
 // Whether these are the names, in order.
@@ -100,50 +139,67 @@ fn are(names: &Names, wanted: &[&str]) -> bool {
     true
 }
 
+// Whether these are the names in a folder, in order.
+fn lists<F: Files>(files: &mut F, folder: &str, wanted: &[&str]) -> Result<bool, FilesErr> {
+    Ok(are(&files.list(folder.as_bytes())?, wanted))
+}
+
+// Whether this is the content of a file.
+fn has<F: Files>(
+    files: &mut F,
+    folder: &str,
+    name: &[u8],
+    content: &[u8],
+) -> Result<bool, FilesErr> {
+    Ok(files.read(folder.as_bytes(), name)?.bytes() == content)
+}
+
+// The length of a file, or why it isn't read.
+fn file_len<F: Files>(files: &mut F, folder: &str, name: &[u8]) -> Result<usize, FilesErr> {
+    Ok(files.read(folder.as_bytes(), name)?.len())
+}
+
 #[test]
 fn a_folder_of_the_host_is_read(rt: HostRuntime) -> Result<(), Fail> {
     let folder = "a_folder_of_the_host_is_read";
     fs::create_dir(&rt, folder)?;
     for name in ["b.yml", "a.yaml", "B.yaml", "c.txt"] {
-        let mut path = String::from_str(rt.alloc(), folder)?;
-        path.push('/')?;
-        path.push_str(name)?;
-        fs::write(&rt, path.as_str(), name)?;
+        write_named(&rt, folder, name)?;
     }
     let mut files = HostFiles::new(rt);
-    let names = files.list(folder.as_bytes())?;
-    assert!(rt; are(&names, &["B.yaml", "a.yaml", "b.yml"]));
-    let bytes = files.read(folder.as_bytes(), b"a.yaml")?;
-    assert_eq!(rt; bytes.bytes(), b"a.yaml".as_slice());
+    assert!(rt; lists(&mut files, folder, &["B.yaml", "a.yaml", "b.yml"])?);
+    assert!(rt; has(&mut files, folder, b"a.yaml", b"a.yaml")?);
     assert_eq!(rt;
-        files.read(folder.as_bytes(), b"z.yaml").err(),
-        Some(FilesErr::Failed)
+        file_len(&mut files, folder, b"z.yaml"),
+        Err(FilesErr::Failed)
     );
-    assert_eq!(rt; files.list(b"no such folder").err(), Some(FilesErr::Failed));
+    assert_eq!(rt;
+        lists(&mut files, "no such folder", &[]),
+        Err(FilesErr::Failed)
+    );
     fs::remove_dir_all(&rt, folder)?;
     Ok(())
 }
 
-// So many letters.
-fn letters(alloc: Global, n: usize) -> Result<Blob, NoMemory> {
-    let letters: Vec<u8> = vec![in alloc; b'x'; n]?;
-    Ok(Blob::from_vec(letters))
+// Writes so many letters to a file.
+fn write_letters<R: fs::Files + AllocGlobal>(rt: &R, path: &str, count: usize) -> io::Result<()> {
+    let alloc = rt.alloc();
+    let letters: Vec<u8> = vec![in alloc; b'x'; count]?;
+    fs::write(rt, path, letters.as_slice())
 }
 
 #[test]
 fn a_long_file_is_refused(rt: HostRuntime) -> Result<(), Fail> {
     let folder = "a_long_file_is_refused";
     fs::create_dir(&rt, folder)?;
-    let long = letters(rt.alloc(), 1_048_577)?;
-    fs::write(&rt, "a_long_file_is_refused/long", long.bytes())?;
-    let most = letters(rt.alloc(), 1_048_576)?;
-    fs::write(&rt, "a_long_file_is_refused/most", most.bytes())?;
+    write_letters(&rt, "a_long_file_is_refused/long", 1_048_577)?;
+    write_letters(&rt, "a_long_file_is_refused/most", 1_048_576)?;
     let mut files = HostFiles::new(rt);
     assert_eq!(rt;
-        files.read(folder.as_bytes(), b"long").err(),
-        Some(FilesErr::TooLong { len: 1_048_577 })
+        file_len(&mut files, folder, b"long"),
+        Err(FilesErr::TooLong { len: 1_048_577 })
     );
-    assert_eq!(rt; files.read(folder.as_bytes(), b"most")?.len(), 1_048_576);
+    assert_eq!(rt; file_len(&mut files, folder, b"most")?, 1_048_576);
     fs::remove_dir_all(&rt, folder)?;
     Ok(())
 }
@@ -159,12 +215,17 @@ fn the_clock_of_the_host_goes_on(rt: HostRuntime) -> Result<(), Fail> {
     Ok(())
 }
 
+// Two start numbers of an outside, which is let go.
+fn numbers_of<O: Outside + Drop>(outside: O) -> (u64, u64) {
+    let mut outside = outside;
+    (outside.start_number(), outside.start_number())
+}
+
 #[test]
 fn start_numbers_differ(rt: HostRuntime) -> Result<(), Fail> {
-    let mut one = HostOutside::new(rt)?;
-    let mut other = HostOutside::new(rt)?;
-    let first = one.start_number();
-    assert_ne!(rt; first, one.start_number());
-    assert_ne!(rt; first, other.start_number());
+    let (first, second) = numbers_of(HostOutside::new(rt)?);
+    let (third, _) = numbers_of(HostOutside::new(rt)?);
+    assert_ne!(rt; first, second);
+    assert_ne!(rt; first, third);
     Ok(())
 }

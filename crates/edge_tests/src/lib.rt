@@ -5,10 +5,14 @@
 #[cfg(test)]
 mod calls;
 #[cfg(test)]
+mod clients;
+#[cfg(test)]
 mod devices;
 #[cfg(test)]
 mod reports;
 #[cfg(test)]
 mod scene;
+#[cfg(test)]
+mod slow;
 #[cfg(test)]
 mod tests;

@@ -1,16 +1,11 @@
 //! Clients and workers of one door, and the steps of a text that are played with them.
+use crate::clients::{add_halves, connect, piece_of, sends};
 use net_edge::{DoorLimits, TcpAcceptor, TcpDoor, TcpSink, TcpSource};
-use side_world::{Accepted, Acceptor, Failed, Sink, Source};
-use std::alloc::Global;
-use std::io::{self, Read, Write};
-use std::net::{Ipv4Addr, Net, Shutdown, SocketAddrV4, TcpListener, TcpStream};
+use side_world::{Accepted, Acceptor, Sink, Source};
+use std::io::{self, Write};
+use std::net::{Net, Shutdown, TcpListener, TcpStream};
 use std::process::Abort;
 use std::sync::Wait;
-use std::test::Fail;
-use std::time::Duration;
-
-/// For how long a client waits for an answer, in milliseconds: only a test that fails waits so long.
-const ANSWER_LIMIT_MS: u64 = 20_000;
 
 /// How often an acceptor is asked for a connection: it waits 50 ms each time.
 const ASKED: u32 = 400;
@@ -20,23 +15,6 @@ const PIECES: u32 = 1_000_000_000;
 
 /// What is answered to each request.
 const ANSWER: &[u8] = b"answer";
-
-/// A client of a door.
-pub(crate) fn connect<R: Net<Listener = TcpListener, Stream = TcpStream>>(
-    rt: &R,
-    port: u16,
-) -> io::Result<TcpStream> {
-    let client = TcpStream::connect(rt, SocketAddrV4::new(Ipv4Addr::LOCALHOST, port))?;
-    client.set_read_timeout(Some(Duration::from_millis(ANSWER_LIMIT_MS)))?;
-    client.set_nodelay(true)?;
-    Ok(client)
-}
-
-/// How many bytes a client reads, in one piece.
-pub(crate) fn piece_of(client: &mut TcpStream) -> io::Result<usize> {
-    let mut piece = [0u8; 100];
-    client.read(&mut piece)
-}
 
 /// Whether this piece ends a request: its last byte is a full stop.
 fn is_whole(piece: &[u8]) -> bool {
@@ -64,8 +42,8 @@ fn visit(source: &mut TcpSource, sink: &mut TcpSink) -> usize {
 }
 
 /// What an acceptor gives.
-#[derive(Clone, Copy, Debug, PartialEq, Eq)]
-pub enum Given {
+#[derive(Clone, Copy, PartialEq, Eq)]
+enum Given {
     /// A connection, which was served: so many bytes came.
     Conn(usize),
     Idle,
@@ -74,7 +52,7 @@ pub enum Given {
 }
 
 /// What an acceptor gives next. A connection is served and goes back.
-pub(crate) fn next_of<R: Wait + AllocGlobal>(acceptor: &mut TcpAcceptor<R>) -> Given {
+fn next_of<R: Wait + AllocGlobal>(acceptor: &mut TcpAcceptor<R>) -> Given {
     match acceptor.accept() {
         Accepted::Conn {
             mut source,
@@ -110,39 +88,104 @@ fn next_but_idle<R: Wait + AllocGlobal>(acceptor: &mut TcpAcceptor<R>) -> Given 
     Given::Idle
 }
 
+/// Whether an acceptor gives this in the end, whatever it gives before.
+fn gives_at_last<R: Wait + AllocGlobal>(acceptor: &mut TcpAcceptor<R>, wanted: Given) -> bool {
+    (0..ASKED).any(|_| next_of(acceptor) == wanted)
+}
+
+/// Serves a request, and answers what another worker is given for what the client sends before the connection is put back.
+fn given_meanwhile<R: Wait + AllocGlobal>(
+    source: &mut TcpSource,
+    sink: &mut TcpSink,
+    other: &mut TcpAcceptor<R>,
+    client: &mut TcpStream,
+    word: &[u8],
+) -> Given {
+    let mut piece = [0u8; 100];
+    source.between(true);
+    let has_read = source.read(&mut piece).is_ok();
+    let has_written = sink.write(ANSWER).is_ok();
+    let rests = matches!(source.read(&mut piece), Ok(0));
+    if has_read && has_written && rests && sends(client, word) {
+        next_of(other)
+    } else {
+        Given::Failed
+    }
+}
+
+/// The same of the next connection of a worker, which is put back then.
+fn given_to_another<R: Wait + AllocGlobal>(
+    worker: &mut TcpAcceptor<R>,
+    other: &mut TcpAcceptor<R>,
+    client: &mut TcpStream,
+    word: &[u8],
+) -> Given {
+    for _ in 0..ASKED {
+        match worker.accept() {
+            Accepted::Conn {
+                mut source,
+                mut sink,
+            } => {
+                let given = given_meanwhile(&mut source, &mut sink, other, client, word);
+                worker.end(source, sink);
+                return given;
+            }
+            Accepted::Idle => {}
+            Accepted::Closed | Accepted::Failed => return Given::Closed,
+        }
+    }
+    Given::Closed
+}
+
 /// The clients and the workers of one door, each numbered as it came.
 #[derive(Drop)]
-pub struct Scene<R> {
-    rt: R,
-    door: TcpDoor,
+pub(crate) struct Scene<R> {
+    pub(crate) rt: R,
+    pub(crate) door: TcpDoor,
     clients: Vec<TcpStream>,
-    workers: Vec<TcpAcceptor<R>>,
+    pub(crate) workers: Vec<TcpAcceptor<R>>,
+}
+
+/// Plays the steps of a text at a door within these limits, with so many workers: each step must come true.
+///
+/// A step is who, what, and a word: `0+` connects client 0; `0>word` has it send the word, which ends a request where it
+/// ends in a full stop; `0<6` has it read 6 bytes in one piece, and `0<0` find its connection closed; `0x` has it close
+/// its own, and `0|` only say that it sends no more. `*60` connects 60 clients more, each of which sends half a request, and `+40` 40
+/// that say nothing, after each of which worker `a` finds no connection; `-` has all clients go. `a=9` has worker `a` serve the next
+/// connection, on which 9 bytes come; `a:9` has it do so at once, and `a@9` after others; `a~` and `a#` have it find other work and a
+/// shut door; `a^` wakes another worker. `&word` has worker `a` serve a request, and worker `b` find other work, after client 0 has sent
+/// the word and before its connection is put back. `!` shuts the door.
+pub(crate) fn plays<
+    R: Net<Listener = TcpListener, Stream = TcpStream> + Abort + Wait + AllocGlobal + Copy + Drop,
+>(rt: R, limits: DoorLimits, workers: u32, steps: &str) -> io::Result<()> {
+    let mut scene = Scene::open(rt, limits)?;
+    scene.play(workers, steps)
 }
 
 impl<
     R: Net<Listener = TcpListener, Stream = TcpStream> + Abort + Wait + AllocGlobal + Copy + Drop,
 > Scene<R> {
-    /// A door within these limits, and its workers `a` and `b`.
+    /// A door within these limits, at which nobody is yet.
     pub(crate) fn open(rt: R, limits: DoorLimits) -> io::Result<Self> {
-        let door = TcpDoor::open_within(&rt, 0, limits)?;
-        let mut workers = Vec::new(rt.alloc());
-        workers.push(door.acceptor(rt)?)?;
-        workers.push(door.acceptor(rt)?)?;
         Ok(Scene {
+            door: TcpDoor::open_within(&rt, 0, limits)?,
             rt,
-            door,
             clients: Vec::new(rt.alloc()),
-            workers,
+            workers: Vec::new(rt.alloc()),
         })
     }
 
-    /// Plays the steps of a text, of which each must come true.
-    ///
-    /// A step is who, what, and a word: `0+` connects client 0; `0>word` has it send the word, which ends a request where it
-    /// ends in a full stop; `0<6` has it read 6 bytes in one piece, and `0<0` find its connection closed; `0x` has it close
-    /// its own, and `0|` only say that it sends no more. `a=9` has worker `a` serve the next connection, on which 9 bytes come; `a~` and `a#` have it find other work
-    /// and a shut door, and `a?` nothing at all for a while; `a^` wakes another worker. `!` shuts the door.
-    pub(crate) fn play(&mut self, steps: &str) -> io::Result<()> {
+    /// So many workers more.
+    pub(crate) fn add_workers(&mut self, count: u32) -> io::Result<()> {
+        for _ in 0..count {
+            self.workers.push(self.door.acceptor(self.rt)?)?;
+        }
+        Ok(())
+    }
+
+    /// Plays the steps with so many workers more.
+    fn play(&mut self, workers: u32, steps: &str) -> io::Result<()> {
+        self.add_workers(workers)?;
         for step in steps.split(' ') {
             let told = if self.comes_true(step.as_bytes())? {
                 step
@@ -161,15 +204,16 @@ impl<
                 self.door.shut();
                 Ok(true)
             }
-            [who @ b'a'..=b'b', what, word @ ..] => {
-                match self.workers.get_mut(usize::from(*who - b'a')) {
-                    Some(worker) => Ok(work(worker, *what, word)),
-                    None => Ok(false),
-                }
-            }
-            [_, b'+'] => {
-                self.clients.push(connect(&self.rt, self.door.port()?)?)?;
+            [b'-'] => {
+                self.clients.clear();
                 Ok(true)
+            }
+            [b'*', count @ ..] => self.add_halves(number(count)),
+            [b'+', count @ ..] => self.add_crowd(number(count)),
+            [b'&', word @ ..] => self.hear(word),
+            [_, b'+'] => self.add_client(),
+            [who @ b'a'..=b'b', what, word @ ..] => {
+                Ok(self.works(usize::from(*who - b'a'), *what, word))
             }
             [who @ b'0'..=b'9', what, word @ ..] => {
                 match self.clients.get_mut(usize::from(*who - b'0')) {
@@ -180,12 +224,67 @@ impl<
             _ => Ok(false),
         }
     }
+
+    /// One client more.
+    fn add_client(&mut self) -> io::Result<bool> {
+        self.clients.push(connect(&self.rt, self.door.port()?)?)?;
+        Ok(true)
+    }
+
+    /// So many clients more, each of which has sent half a request.
+    fn add_halves(&mut self, count: usize) -> io::Result<bool> {
+        let port = self.door.port()?;
+        add_halves(&self.rt, port, count, &mut self.clients)?;
+        Ok(true)
+    }
+
+    /// So many clients more that say nothing; whether worker `a` finds no connection after each.
+    fn add_crowd(&mut self, count: usize) -> io::Result<bool> {
+        for _ in 0..count {
+            self.add_client()?;
+            if !self.works(0, b'~', b"") {
+                return Ok(false);
+            }
+        }
+        Ok(true)
+    }
+
+    /// Plays a step of the worker of this number, and answers whether it came true.
+    fn works(&mut self, number: usize, what: u8, word: &[u8]) -> bool {
+        match self.workers.get_mut(number) {
+            Some(worker) => work(worker, what, word),
+            None => false,
+        }
+    }
+
+    /// Whether the last worker finds other work while the first serves a request, and client 0 has sent the word.
+    fn hear(&mut self, word: &[u8]) -> io::Result<bool> {
+        let Some(mut last) = self.workers.pop() else {
+            return Ok(false);
+        };
+        let given = self.given_to(&mut last, word);
+        self.workers.push(last)?;
+        Ok(given == Given::Idle)
+    }
+
+    /// What a worker is given while the first serves a request, and client 0 has sent the word.
+    fn given_to(&mut self, other: &mut TcpAcceptor<R>, word: &[u8]) -> Given {
+        let Some(worker) = self.workers.first_mut() else {
+            return Given::Failed;
+        };
+        match self.clients.first_mut() {
+            Some(client) => given_to_another(worker, other, client, word),
+            None => Given::Failed,
+        }
+    }
 }
 
 /// A step of a worker.
 fn work<R: Wait + AllocGlobal>(worker: &mut TcpAcceptor<R>, what: u8, word: &[u8]) -> bool {
     match what {
         b'=' => next_but_idle(worker) == Given::Conn(number(word)),
+        b':' => next_of(worker) == Given::Conn(number(word)),
+        b'@' => gives_at_last(worker, Given::Conn(number(word))),
         b'~' => next_of(worker) == Given::Idle,
         b'#' => next_of(worker) == Given::Closed,
         b'^' => {

@@ -10,7 +10,7 @@ use std::alloc::Global;
 use std::sync::Wait;
 use std::test::Fail;
 use std::thread::{Threads, join};
-use turn_cell::{ApiErr, Seat, TurnCell};
+use turn_cell::{Seat, TurnCell};
 
 /// How many saves each thread makes.
 const SAVES: u32 = 1000;
@@ -26,18 +26,36 @@ struct Saver {
 }
 
 /// The command that saves one value under the key.
-fn save(alloc: Global, key: &str, now: Moment) -> Result<Cmd, NoMemory>
+fn save(alloc: Global, key: &'static str, now: Moment) -> Result<Cmd, NoMemory>
     ensures { IfOk result IsTaken }
 {
+    let value = Blob::from_bytes(alloc, b"{\"amount\":1}")?;
     let mut items = Items::new(alloc);
     items.push(Item {
-        key: Text::from_str(alloc, key)?,
-        value: Blob::from_bytes(alloc, b"{\"amount\":1}")?,
+        key: Text::from_static(alloc, key),
+        value,
         etag: None,
         mode: Mode::Unsaid,
         ttl: None,
     })?;
     Ok(Cmd::Save { items, now })
+}
+
+/// Gives the command once; whether it is answered `Saved`.
+fn is_saved<R: Wait>(
+    rt: &R,
+    cell: &TurnCell<Store<MemoryKeeper>>,
+    seat: &mut Seat<Store<MemoryKeeper>>,
+    cmd: &Cmd,
+) -> bool
+    requires seat { IsSeatOf cell.now seat.old }
+    requires taken { IsTaken cmd.now }
+    ensures { Stays seat.old seat.new }
+{
+    let answer = cell.call(rt, seat, cmd);
+    let is_saved = matches!(&answer, Ok(Reply::Saved));
+    drop(answer);
+    is_saved
 }
 
 /// Gives the command `SAVES` times.
@@ -46,33 +64,30 @@ fn save_often<R: Wait>(
     cell: &TurnCell<Store<MemoryKeeper>>,
     mut seat: Seat<Store<MemoryKeeper>>,
     cmd: &Cmd,
-) -> Result<Saver, ApiErr>
+) -> Saver
     requires seat { IsSeatOf cell.now seat }
     requires taken { IsTaken cmd.now }
-    ensures { IfOk result (λ saver. Stays seat saver.seat) }
+    ensures { Stays seat result.seat }
 {
     let mut saved: u32 = 0;
     for _ in 0..SAVES {
-        if matches!(cell.call(rt, &mut seat, cmd)?, Reply::Saved) {
-            saved = saved.wrapping_add(1);
-        }
+        saved = saved.wrapping_add(u32::from(is_saved(rt, cell, &mut seat, cmd)));
     }
-    Ok(Saver { seat, saved })
+    Saver { seat, saved }
 }
 
-/// The greatest version that was given, and one, after a thread each has given its command `SAVES` times; and how many were saved.
+/// The greatest version that a new store gave, and one, after a thread each has given its command `SAVES` times; and how many were saved.
 fn next_after<R: Threads + Wait + Sync>(
     rt: &R,
-    store: Store<MemoryKeeper>,
     alloc: Global,
     one: &Cmd,
     two: &Cmd,
-) -> Result<(u64, u32, u32), ApiErr>
-    requires unused { ⟦<Store<MemoryKeeper> as turn_cell::Object>⟧.used store ≡ 0 }
+) -> Result<(u64, u32, u32), NoMemory>
     requires one { IsTaken one.now }
     requires two { IsTaken two.now }
 {
-    let (cell, mut root) = TurnCell::start(alloc, store)?;
+    let keeper = MemoryKeeper::new(alloc, 1_000_000, Places::new(alloc), [7; 16]);
+    let (cell, mut root) = TurnCell::start(alloc, Store::new(alloc, keeper))?;
     let child = cell.split(&mut root);
     let (first, second) = join(
         rt,
@@ -82,11 +97,11 @@ fn next_after<R: Threads + Wait + Sync>(
     let Saver {
         seat: mut root,
         saved: ones,
-    } = first?;
+    } = first;
     let Saver {
         seat: child,
         saved: twos,
-    } = second?;
+    } = second;
     cell.meet(&mut root, child);
     let next = cell.close(root).into_keeper().next_version();
     Ok((next, ones, twos))
@@ -96,10 +111,11 @@ fn next_after<R: Threads + Wait + Sync>(
 fn two_threads_save_in_turn(rt: HostRuntime) -> Result<(), Fail> {
     let alloc = rt.alloc();
     let now = Moment::at(DAY).unwrap();
-    let keeper = MemoryKeeper::new(alloc, 1_000_000, Places::new(alloc), [7; 16]);
     let one = save(alloc, "one", now)?;
     let two = save(alloc, "two", now)?;
-    let made = next_after(&rt, Store::new(alloc, keeper), alloc, &one, &two)?;
-    assert_eq!(rt; made, (2001, SAVES, SAVES));
+    let made = next_after(&rt, alloc, &one, &two);
+    drop(one);
+    drop(two);
+    assert_eq!(rt; made?, (2001, SAVES, SAVES));
     Ok(())
 }
