@@ -11,7 +11,7 @@ pub struct Lines {
 }
 
 impl Lines {
-    ghost use Rattle.std.specs.Prelude.{◌≡◌, ◌++◌, ◌↔◌, true, false, [], IsTrue, IfOk, IfErr};
+    ghost use Rattle.std.specs.Prelude.{◌≡◌, ◌++◌, ◌∷◌, ◌↔◌, ℕ, List, true, false, [], IsTrue, IfOk, IfErr};
 
     /// No line yet.
     pub fn new(alloc: Global) -> Lines
@@ -42,7 +42,10 @@ impl Lines {
     }
 
     /// Adds a line of these words and what stands behind them.
-    pub fn add_line(&mut self, words: &str, behind: &str) {
+    pub fn add_line(&mut self, words: &str, behind: &str)
+        ensures added { self.new.lacks ≡ false → self.new.text ≡ self.old.text ++ words.now ++ behind.now ++ 10 ∷ [] }
+        ensures lacks { self.old.lacks ≡ true → self.new.lacks ≡ true }
+    {
         self.add(words);
         self.add(behind);
         self.add("\n");
@@ -55,12 +58,19 @@ impl Lines {
     }
 
     /// Adds a line of these words and what is said of bytes: they themselves, if they are a text.
-    pub fn add_bytes(&mut self, words: &str, bytes: &[u8]) {
+    pub fn add_bytes(&mut self, words: &str, bytes: &[u8])
+        ensures lacks { self.old.lacks ≡ true → self.new.lacks ≡ true }
+        ensures added { self.new.lacks ≡ false → (more : List ℕ) × (self.new.text ≡ self.old.text ++ more) }
+    {
         self.add_line(words, str::from_utf8(bytes).unwrap_or("no text"));
     }
 
     /// Adds what was wanted and what came, where these differ.
-    pub fn compare(&mut self, word: &str, wanted: &[u8], got: &[u8]) {
+    pub fn compare(&mut self, word: &str, wanted: &[u8], got: &[u8])
+        ensures same { wanted.now ≡ got.now → self.new ≡ self.old }
+        ensures told { self.new ≡ self.old → self.old.lacks ≡ false → wanted.now ≡ got.now }
+        ensures lacks { self.old.lacks ≡ true → self.new.lacks ≡ true }
+    {
         if wanted != got {
             self.add_line("-- ", word);
             self.add_bytes("wanted:\n", wanted);
