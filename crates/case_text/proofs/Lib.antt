@@ -1,3 +1,4 @@
 pub mod Undone
 pub mod Marks
 pub mod Joining
+pub mod Shown

@@ -1,3 +1,4 @@
 pub mod Piece
 pub mod Escape
 pub mod Section
+pub mod Lines

@@ -1,4 +1,7 @@
 // What is said of a case.
+ghost use Rattle.std.specs.Prelude.{◌≡◌};
+ghost use Rattle.case_text.specs.Lines.{shown};
+
 use itoa::Buffer;
 use side_base::{NoMemory, Text};
 use std::alloc::Global;
@@ -10,8 +13,20 @@ pub struct Lines {
     lacks: bool,
 }
 
+// Bytes that are a text, or that they are none.
+#[tactic(auto, using(crate::proofs::Shown::a_text, crate::proofs::Shown::no_text))]
+fn shown(bytes: &[u8]) -> &str
+    ensures { result.now ≡ shown bytes.now }
+{
+    match str::from_utf8(bytes) {
+        Ok(text) => text,
+        Err(_) => "no text",
+    }
+}
+
 impl Lines {
-    ghost use Rattle.std.specs.Prelude.{◌≡◌, ◌++◌, ◌∷◌, ◌↔◌, ℕ, List, true, false, [], IsTrue, IfOk, IfErr};
+    ghost use Rattle.std.specs.Prelude.{◌≡◌, ◌⊎◌, ◌++◌, ◌∷◌, ◌↔◌, true, false, [], IsTrue, IfOk, IfErr, decimal};
+    ghost use Rattle.case_text.specs.Lines.{Added, line, shown, differs};
 
     /// No line yet.
     pub fn new(alloc: Global) -> Lines
@@ -26,16 +41,25 @@ impl Lines {
 
     /// Adds words, unless memory lacks for them, which is remembered.
     pub fn add(&mut self, words: &str)
-        ensures added { self.new.lacks ≡ false → self.new.text ≡ self.old.text ++ words.now }
-        ensures lacks { self.old.lacks ≡ true → self.new.lacks ≡ true }
+        ensures { Added words.now self.old self.new }
     {
         if self.text.push(words).is_err() {
             self.lacks = true;
         }
     }
 
+    /// Remembers that memory lacked, for what is no part of the text.
+    pub fn lack(&mut self)
+        ensures text { self.new.text ≡ self.old.text }
+        ensures lacks { self.new.lacks ≡ true }
+    {
+        self.lacks = true;
+    }
+
     /// Adds words and a number behind them.
-    pub fn add_number(&mut self, words: &str, number: u64) {
+    pub fn add_number(&mut self, words: &str, number: u64)
+        ensures { Added (words.now ++ decimal number) self.old self.new }
+    {
         let mut buffer = Buffer::new();
         self.add(words);
         self.add(buffer.format(number));
@@ -43,8 +67,7 @@ impl Lines {
 
     /// Adds a line of these words and what stands behind them.
     pub fn add_line(&mut self, words: &str, behind: &str)
-        ensures added { self.new.lacks ≡ false → self.new.text ≡ self.old.text ++ words.now ++ behind.now ++ 10 ∷ [] }
-        ensures lacks { self.old.lacks ≡ true → self.new.lacks ≡ true }
+        ensures { Added (line words.now behind.now) self.old self.new }
     {
         self.add(words);
         self.add(behind);
@@ -52,24 +75,24 @@ impl Lines {
     }
 
     /// Adds a line of these words and a number behind them.
-    pub fn add_number_line(&mut self, words: &str, number: u64) {
+    pub fn add_number_line(&mut self, words: &str, number: u64)
+        ensures { Added (line words.now (decimal number)) self.old self.new }
+    {
         self.add_number(words, number);
         self.add("\n");
     }
 
     /// Adds a line of these words and what is said of bytes: they themselves, if they are a text.
     pub fn add_bytes(&mut self, words: &str, bytes: &[u8])
-        ensures lacks { self.old.lacks ≡ true → self.new.lacks ≡ true }
-        ensures added { self.new.lacks ≡ false → (more : List ℕ) × (self.new.text ≡ self.old.text ++ more) }
+        ensures { Added (line words.now (shown bytes.now)) self.old self.new }
     {
-        self.add_line(words, str::from_utf8(bytes).unwrap_or("no text"));
+        self.add_line(words, shown(bytes));
     }
 
     /// Adds what was wanted and what came, where these differ.
     pub fn compare(&mut self, word: &str, wanted: &[u8], got: &[u8])
         ensures same { wanted.now ≡ got.now → self.new ≡ self.old }
-        ensures told { self.new ≡ self.old → self.old.lacks ≡ false → wanted.now ≡ got.now }
-        ensures lacks { self.old.lacks ≡ true → self.new.lacks ≡ true }
+        ensures differs { (wanted.now ≡ got.now) ⊎ Added (differs word.now wanted.now got.now) self.old self.new }
     {
         if wanted != got {
             self.add_line("-- ", word);

@@ -3,38 +3,30 @@
 #![tactic(auto)]
 
 mod asked;
-mod playing;
 mod told;
 
-use crate::playing::play_section;
-use case_text::{CASE, pieces, sections};
-use std::{env, fs, io};
+use crate::asked::answer;
+use case_text::{Answerer, Section, play_lines};
+use side_base::{NoMemory, Text};
+use std::alloc::Global;
+use std::io;
 
-/// How many cases were played, and how many of them differ.
+/// The words of the sections say which call answers their lines.
 #[derive(Drop)]
-pub(crate) struct Tally {
-    pub(crate) cases: u32,
-    pub(crate) differ: u32,
-}
+struct Calls;
 
-// Plays the cases of a file of this text.
-fn play_all(rt: &HostRuntime, text: &[u8], tally: &mut Tally) -> io::Result<()> {
-    for piece in pieces(rt.alloc(), text, CASE)? {
-        for section in sections(rt.alloc(), &piece)? {
-            play_section(rt, &section, tally)?;
-        }
+impl Answerer for Calls {
+    fn answer(
+        &self,
+        alloc: Global,
+        _sections: &[Section<'_>],
+        section: &Section<'_>,
+        given: &[u8],
+    ) -> Result<Text, NoMemory> {
+        answer(alloc, section.word, section.name, given)
     }
-    Ok(())
 }
 
 fn main(rt: HostRuntime) -> io::Result<()> {
-    let mut tally = Tally {
-        cases: 0,
-        differ: 0,
-    };
-    for name in env::args(&rt)?.skip(1) {
-        let text = fs::read(&rt, name.as_str())?;
-        play_all(&rt, text.as_slice(), &mut tally)?;
-    }
-    println!(rt; "{} cases, {} differ", tally.cases, tally.differ)
+    play_lines(&rt, &Calls)
 }

@@ -5,7 +5,7 @@ use crate::messages::{play_request, play_response};
 use crate::routing::{play_error, play_routes, play_target};
 use crate::sets::{is_method, play_set};
 use crate::streams::play_stream;
-use case_text::{Lines, Piece, Section, sections};
+use case_text::{Lines, Piece, Player, Section, sections};
 use std::alloc::Global;
 
 /// The words of sections, but for the methods.
@@ -54,19 +54,15 @@ fn play_sections(alloc: Global, sections: &[Section<'_>], lines: &mut Lines) {
     play_of(alloc, first_word(sections), sections, lines);
 }
 
-/// Adds what is wrong of a case; nothing where it is right.
-pub(crate) fn play(alloc: Global, case: &Piece<'_>, lines: &mut Lines) {
-    match sections(alloc, case) {
-        Ok(sections) => play_sections(alloc, &sections, lines),
-        Err(_) => lines.add_line("no memory", ""),
-    }
-}
+/// The cases of streams, messages, targets and routes.
+#[derive(Drop)]
+pub(crate) struct Cases;
 
-/// Whether nothing is wrong of a case.
-pub(crate) fn is_right(alloc: Global, case: &Piece<'_>) -> bool {
-    let mut lines = Lines::new(alloc);
-    play(alloc, case, &mut lines);
-    let is_right = lines.is_empty();
-    drop(lines);
-    is_right
+impl Player for Cases {
+    fn play(&self, alloc: Global, case: &Piece<'_>, lines: &mut Lines) {
+        match sections(alloc, case) {
+            Ok(sections) => play_sections(alloc, &sections, lines),
+            Err(_) => lines.lack(),
+        }
+    }
 }

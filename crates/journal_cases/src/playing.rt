@@ -4,7 +4,7 @@ use crate::disks::{disk_of, play_disk, play_failing};
 use crate::journals::{is_step, play_journal};
 use crate::keepers::{play_either, play_keeper, play_memory};
 use crate::report::Report;
-use case_text::{Lines, Piece, Section, sections};
+use case_text::{Lines, Piece, Player, Section, sections};
 use disk_memory::MemoryDisk;
 use side_base::{NoMemory, Text};
 use std::alloc::Global;
@@ -90,42 +90,20 @@ fn report_of(alloc: Global, sections: &[Section<'_>]) -> Result<Text, NoMemory> 
     report.done()
 }
 
-// A report below the title of its case, if it says anything.
-fn with_title(alloc: Global, case: &Piece<'_>, report: &Text) -> Result<Text, NoMemory> {
-    let mut lines = Lines::new(alloc);
-    if !report.is_empty() {
-        lines.add_bytes("== ", case.head);
-        lines.add(report.as_str());
-    }
-    lines.done()
-}
-
 fn play(alloc: Global, case: &Piece<'_>) -> Result<Text, NoMemory> {
     let sections = sections(alloc, case)?;
-    let report = report_of(alloc, sections.as_slice())?;
-    with_title(alloc, case, &report)
+    report_of(alloc, sections.as_slice())
 }
 
-// The same, with want of memory as a difference.
-fn played_last(alloc: Global, case: &Piece<'_>) -> Text {
-    match play(alloc, case) {
-        Ok(report) => report,
-        Err(_) => Text::from_static(alloc, "no memory\n"),
-    }
-}
+/// The cases of journals and keepers over a disk in memory. One that begins with `once` must be right whichever allocation fails.
+#[derive(Drop)]
+pub(crate) struct Cases;
 
-/// What is wrong of a case; nothing where it is right. One that differs is played again, since memory may have lacked; but not one that
-/// begins with `once`, unless memory lacked for the case itself.
-pub(crate) fn played(alloc: Global, case: &Piece<'_>) -> Text {
-    let once = case.text.starts_with(b"-- once\n");
-    match play(alloc, case) {
-        Ok(report) => {
-            if once || report.is_empty() {
-                report
-            } else {
-                played_last(alloc, case)
-            }
+impl Player for Cases {
+    fn play(&self, alloc: Global, case: &Piece<'_>, lines: &mut Lines) {
+        match play(alloc, case) {
+            Ok(wrong) => lines.add(wrong.as_str()),
+            Err(_) => lines.lack(),
         }
-        Err(_) => played_last(alloc, case),
     }
 }

@@ -6,8 +6,7 @@ use crate::ledger_case::play_ledger;
 use crate::retry_case::play_retry;
 use crate::store_case::play_store;
 use crate::trip_case::play_trip;
-use case_text::{Lines, Piece, Section, sections};
-use side_base::Text;
+use case_text::{Lines, Piece, Player, Section, sections};
 use std::alloc::Global;
 use std::sync::Wait;
 
@@ -18,47 +17,33 @@ fn kind_of<'a>(sections: &[Section<'a>]) -> &'a str {
     }
 }
 
-// What is wrong of a case whose sections are these.
-fn report<W: Wait>(rt: &W, alloc: Global, sections: &[Section<'_>]) -> Text {
-    let mut lines = Lines::new(alloc);
+// Adds what is wrong of a case whose sections are these.
+fn judge<W: Wait>(rt: &W, alloc: Global, sections: &[Section<'_>], lines: &mut Lines) {
     match kind_of(sections) {
-        "store" => play_store(alloc, sections, &mut lines),
-        "keeper" => play_keeper(alloc, sections, &mut lines),
-        "breaker" => play_breaker(rt, alloc, sections, &mut lines),
-        "retry" => play_retry(alloc, sections, &mut lines),
-        "ledger" => play_ledger(alloc, sections, &mut lines),
-        "trip" => play_trip(alloc, sections, &mut lines),
+        "store" => play_store(alloc, sections, lines),
+        "keeper" => play_keeper(alloc, sections, lines),
+        "breaker" => play_breaker(rt, alloc, sections, lines),
+        "retry" => play_retry(alloc, sections, lines),
+        "ledger" => play_ledger(alloc, sections, lines),
+        "trip" => play_trip(alloc, sections, lines),
         _ => lines.add("no such case\n"),
     }
     if sections.len() < 2 {
         lines.add("nothing is asked\n");
     }
-    lines.into_text()
 }
 
-// A report below the title of its case, if it says anything.
-fn with_title(alloc: Global, case: &Piece<'_>, report: &Text) -> Text {
-    let mut lines = Lines::new(alloc);
-    if !report.is_empty() {
-        lines.add_bytes("== ", case.head);
-        lines.add(report.as_str());
-    }
-    lines.into_text()
+/// The cases of stores, keepers, breakers, ledgers, retries and trips, whose calls may wait.
+#[derive(Drop)]
+pub(crate) struct Cases<'a, W> {
+    pub(crate) rt: &'a W,
 }
 
-fn play<W: Wait>(rt: &W, alloc: Global, case: &Piece<'_>) -> Text {
-    match sections(alloc, case) {
-        Ok(sections) => with_title(alloc, case, &report(rt, alloc, sections.as_slice())),
-        Err(_) => Text::from_static(alloc, "no memory\n"),
-    }
-}
-
-/// What is wrong of a case; nothing where it is right. One that differs is played again, as it may have found no memory.
-pub(crate) fn played<W: Wait>(rt: &W, alloc: Global, case: &Piece<'_>) -> Text {
-    let report = play(rt, alloc, case);
-    if report.is_empty() {
-        report
-    } else {
-        play(rt, alloc, case)
+impl<W: Wait> Player for Cases<'_, W> {
+    fn play(&self, alloc: Global, case: &Piece<'_>, lines: &mut Lines) {
+        match sections(alloc, case) {
+            Ok(sections) => judge(self.rt, alloc, &sections, lines),
+            Err(_) => lines.lack(),
+        }
     }
 }

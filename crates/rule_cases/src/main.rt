@@ -3,35 +3,41 @@
 #![tactic(auto)]
 
 mod answered;
-mod playing;
 
-use crate::playing::play_piece;
-use case_text::{CASE, pieces};
-use std::{env, fs, io};
+use crate::answered::answer;
+use case_text::{Answerer, Section, play_lines};
+use side_base::{NoMemory, Text};
+use std::alloc::Global;
+use std::io;
 
-/// How many cases were played, and how many of them differ.
+/// The rules of a case over its event.
 #[derive(Drop)]
-pub(crate) struct Tally {
-    pub(crate) cases: u32,
-    pub(crate) differ: u32,
+struct Rules;
+
+// The event of a case: an empty map where it has none.
+fn event_in<'a>(sections: &[Section<'a>]) -> &'a [u8] {
+    match sections.iter().find(|section| section.word == "event") {
+        Some(section) => section.text,
+        None => b"{}",
+    }
 }
 
-// Plays the cases of a file of this text.
-fn play_all(rt: &HostRuntime, text: &[u8], tally: &mut Tally) -> io::Result<()> {
-    for piece in pieces(rt.alloc(), text, CASE)? {
-        play_piece(rt, &piece, tally)?;
+impl Answerer for Rules {
+    fn asks(&self, word: &str) -> bool {
+        word == "rules"
     }
-    Ok(())
+
+    fn answer(
+        &self,
+        alloc: Global,
+        sections: &[Section<'_>],
+        _section: &Section<'_>,
+        given: &[u8],
+    ) -> Result<Text, NoMemory> {
+        answer(alloc, event_in(sections), given)
+    }
 }
 
 fn main(rt: HostRuntime) -> io::Result<()> {
-    let mut tally = Tally {
-        cases: 0,
-        differ: 0,
-    };
-    for name in env::args(&rt)?.skip(1) {
-        let text = fs::read(&rt, name.as_str())?;
-        play_all(&rt, text.as_slice(), &mut tally)?;
-    }
-    println!(rt; "{} cases, {} differ", tally.cases, tally.differ)
+    play_lines(&rt, &Rules)
 }

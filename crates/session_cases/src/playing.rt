@@ -2,9 +2,8 @@
 
 use crate::given::{sizes, words};
 use crate::world::{Made, world};
-use case_text::{Lines, Piece, Section, joined_text, name_in, sections, text_of};
+use case_text::{Lines, Piece, Player, Section, joined_text, name_in, sections, text_of};
 use itoa::Buffer;
-use side_base::Text;
 use side_memory::Sizes;
 use sidecar_cli::sidecar_main;
 use std::alloc::Global;
@@ -53,8 +52,13 @@ fn compare_each(alloc: Global, lines: &mut Lines, sections: &[Section<'_>], worl
 }
 
 // Compares what was written, and the status.
-fn compare_all(alloc: Global, sections: &[Section<'_>], world: &Made, status: u8) -> Lines {
-    let mut lines = Lines::new(alloc);
+fn compare_all(
+    alloc: Global,
+    lines: &mut Lines,
+    sections: &[Section<'_>],
+    world: &Made,
+    status: u8,
+) {
     let output = joined_text(alloc, sections, "output");
     let note = joined_text(alloc, sections, "note");
     let wanted = name_in(sections, "status").unwrap_or("0");
@@ -66,70 +70,62 @@ fn compare_all(alloc: Global, sections: &[Section<'_>], world: &Made, status: u8
         wanted.as_bytes(),
         buffer.format(status).as_bytes(),
     );
-    compare_each(alloc, &mut lines, sections, world);
-    lines
+    compare_each(alloc, lines, sections, world);
 }
 
-// What is wrong of a case whose sections are these, where the reads bring so many bytes at most.
-fn report<W: Threads + Wait + Sync>(
+// Adds what is wrong of a case whose sections are these, where the reads bring so many bytes at most.
+fn judge<W: Threads + Wait + Sync>(
     rt: &W,
     alloc: Global,
     sections: &[Section<'_>],
     reads: Sizes,
-) -> Text {
+    lines: &mut Lines,
+) {
     let mut world = world(alloc, sections, reads);
     let words = words(alloc, sections);
     let status = sidecar_main(rt, alloc, words.as_slice(), &mut world);
-    compare_all(alloc, sections, &world, status.code()).into_text()
+    compare_all(alloc, lines, sections, &world, status.code());
 }
 
-// What is wrong where the input comes in two pieces, cut behind each of its bytes in turn.
-fn report_of_cuts<W: Threads + Wait + Sync>(
+// Adds what is wrong where the input comes in two pieces, cut behind each of its bytes in turn.
+fn judge_cuts<W: Threads + Wait + Sync>(
     rt: &W,
     alloc: Global,
     sections: &[Section<'_>],
-) -> Text {
-    let mut lines = Lines::new(alloc);
+    lines: &mut Lines,
+) {
     for place in 1..=joined_text(alloc, sections, "input").len().max(1) {
         let mut reads = Sizes::new(alloc);
         let _ = reads.push(place);
-        lines.add(report(rt, alloc, sections, reads).as_str());
+        judge(rt, alloc, sections, reads, lines);
     }
-    lines.into_text()
 }
 
-// What is wrong of a case, in one piece or in many.
-fn whole_report<W: Threads + Wait + Sync>(rt: &W, alloc: Global, sections: &[Section<'_>]) -> Text {
+// Adds what is wrong of a case, in one piece or in many.
+fn judge_case<W: Threads + Wait + Sync>(
+    rt: &W,
+    alloc: Global,
+    sections: &[Section<'_>],
+    lines: &mut Lines,
+) {
     if name_in(sections, "cuts").is_some() {
-        report_of_cuts(rt, alloc, sections)
+        judge_cuts(rt, alloc, sections, lines);
     } else {
-        report(rt, alloc, sections, sizes(alloc, sections))
+        judge(rt, alloc, sections, sizes(alloc, sections), lines);
     }
 }
 
-// A report below the title of its case, if it says anything.
-fn with_title(alloc: Global, case: &Piece<'_>, report: &Text) -> Text {
-    let mut lines = Lines::new(alloc);
-    if !report.is_empty() {
-        lines.add_bytes("== ", case.head);
-        lines.add(report.as_str());
-    }
-    lines.into_text()
+/// The cases of runs of the program, which starts threads and may wait.
+#[derive(Drop)]
+pub(crate) struct Cases<'a, W> {
+    pub(crate) rt: &'a W,
 }
 
-fn play<W: Threads + Wait + Sync>(rt: &W, alloc: Global, case: &Piece<'_>) -> Text {
-    match sections(alloc, case) {
-        Ok(sections) => with_title(alloc, case, &whole_report(rt, alloc, &sections)),
-        Err(_) => Text::from_static(alloc, "no memory\n"),
-    }
-}
-
-/// What is wrong of a case; nothing where it is right. One that differs is played again, as it may have found no memory.
-pub(crate) fn played<W: Threads + Wait + Sync>(rt: &W, alloc: Global, case: &Piece<'_>) -> Text {
-    let report = play(rt, alloc, case);
-    if report.is_empty() {
-        report
-    } else {
-        play(rt, alloc, case)
+impl<W: Threads + Wait + Sync> Player for Cases<'_, W> {
+    fn play(&self, alloc: Global, case: &Piece<'_>, lines: &mut Lines) {
+        match sections(alloc, case) {
+            Ok(sections) => judge_case(self.rt, alloc, &sections, lines),
+            Err(_) => lines.lack(),
+        }
     }
 }

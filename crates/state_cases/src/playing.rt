@@ -8,7 +8,7 @@ use crate::noted::noted;
 use crate::replied::replied;
 use crate::response_text::told;
 use api_error::no_memory_response;
-use case_text::{Lines, Piece, Section, joined_text, name_in, sections, text_of};
+use case_text::{Lines, Piece, Player, Section, joined_text, name_in, sections, text_of};
 use meta_api::health;
 use side_base::Text;
 use state_api::{StateErr, malformed_response};
@@ -113,45 +113,31 @@ fn judge<W: Wait>(
     lines.compare(section.word, wanted.bytes(), got.bytes());
 }
 
-// What is wrong of a case whose sections are these.
-fn report<W: Wait>(rt: &W, alloc: Global, sections: &[Section<'_>]) -> Text {
-    let mut lines = Lines::new(alloc);
+// Adds what is wrong of a case whose sections are these.
+fn judge_case<W: Wait>(rt: &W, alloc: Global, sections: &[Section<'_>], lines: &mut Lines) {
     let mut asks = false;
     for section in sections {
         if !is_given(section.word) {
             asks = true;
-            judge(rt, alloc, sections, section, &mut lines);
+            judge(rt, alloc, sections, section, lines);
         }
     }
     if !asks {
         lines.add("nothing is asked\n");
     }
-    lines.into_text()
 }
 
-// A report below the title of its case, if it says anything.
-fn with_title(alloc: Global, case: &Piece<'_>, report: &Text) -> Text {
-    let mut lines = Lines::new(alloc);
-    if !report.is_empty() {
-        lines.add_bytes("== ", case.head);
-        lines.add(report.as_str());
-    }
-    lines.into_text()
+/// The cases of requests and replies; a cell is called for some, which may wait.
+#[derive(Drop)]
+pub(crate) struct Cases<'a, W> {
+    pub(crate) rt: &'a W,
 }
 
-fn play<W: Wait>(rt: &W, alloc: Global, case: &Piece<'_>) -> Text {
-    match sections(alloc, case) {
-        Ok(sections) => with_title(alloc, case, &report(rt, alloc, sections.as_slice())),
-        Err(_) => Text::from_static(alloc, "no memory\n"),
-    }
-}
-
-/// What is wrong of a case; nothing where it is right. One that differs is played again, as it may have found no memory.
-pub(crate) fn played<W: Wait>(rt: &W, alloc: Global, case: &Piece<'_>) -> Text {
-    let report = play(rt, alloc, case);
-    if report.is_empty() {
-        report
-    } else {
-        play(rt, alloc, case)
+impl<W: Wait> Player for Cases<'_, W> {
+    fn play(&self, alloc: Global, case: &Piece<'_>, lines: &mut Lines) {
+        match sections(alloc, case) {
+            Ok(sections) => judge_case(self.rt, alloc, &sections, lines),
+            Err(_) => lines.lack(),
+        }
     }
 }

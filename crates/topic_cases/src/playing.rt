@@ -3,7 +3,7 @@
 use crate::asked::answer;
 use crate::given::{World, app_of, is_given, read};
 use crate::subs_text::names_text;
-use case_text::{Lines, Piece, Section, sections, text_of};
+use case_text::{Lines, Piece, Player, Section, sections, text_of};
 use side_base::{NoMemory, Text};
 use std::alloc::Global;
 use topic_spec::allowed;
@@ -24,21 +24,21 @@ fn judge(
     Ok(())
 }
 
-// What is wrong of the sections that ask.
+// Adds what is wrong of the sections that ask.
 fn judge_all(
     alloc: Global,
     world: &World,
     kept: &Text,
     sections: &[Section<'_>],
     app: &Text,
-) -> Result<Text, NoMemory> {
-    let mut lines = Lines::new(alloc);
+    lines: &mut Lines,
+) -> Result<(), NoMemory> {
     for section in sections {
         if !is_given(section.word) {
-            judge(alloc, world, kept, sections, app, section, &mut lines)?;
+            judge(alloc, world, kept, sections, app, section, lines)?;
         }
     }
-    lines.done()
+    Ok(())
 }
 
 fn asks(sections: &[Section<'_>]) -> bool {
@@ -52,47 +52,31 @@ fn kept_of(alloc: Global, sections: &[Section<'_>], app: &Text) -> Result<Text, 
     names_text(alloc, &kept)
 }
 
-// What is wrong of a case whose sections are these.
-fn report_of(alloc: Global, sections: &[Section<'_>]) -> Result<Text, NoMemory> {
+// Adds what is wrong of a case whose sections are these.
+fn judge_case(alloc: Global, sections: &[Section<'_>], lines: &mut Lines) -> Result<(), NoMemory> {
     if !asks(sections) {
-        return Ok(Text::from_static(alloc, "nothing is asked\n"));
+        lines.add_line("nothing is asked", "");
+        return Ok(());
     }
     let app = app_of(alloc, sections)?;
     let kept = kept_of(alloc, sections, &app)?;
     let world = read(alloc, sections, &app)?;
-    judge_all(alloc, &world, &kept, sections, &app)
+    judge_all(alloc, &world, &kept, sections, &app, lines)
 }
 
-// A report below the title of its case, if it says anything.
-fn with_title(alloc: Global, case: &Piece<'_>, report: &Text) -> Result<Text, NoMemory> {
-    let mut lines = Lines::new(alloc);
-    if !report.is_empty() {
-        lines.add_bytes("== ", case.head);
-        lines.add(report.as_str());
-    }
-    lines.done()
-}
-
-fn play(alloc: Global, case: &Piece<'_>) -> Result<Text, NoMemory> {
+fn play(alloc: Global, case: &Piece<'_>, lines: &mut Lines) -> Result<(), NoMemory> {
     let sections = sections(alloc, case)?;
-    let report = report_of(alloc, sections.as_slice())?;
-    with_title(alloc, case, &report)
+    judge_case(alloc, &sections, lines)
 }
 
-// The same, with want of memory as a difference.
-fn played_once(alloc: Global, case: &Piece<'_>) -> Text {
-    match play(alloc, case) {
-        Ok(report) => report,
-        Err(_) => Text::from_static(alloc, "no memory\n"),
-    }
-}
+/// The cases of documents and lists of subscriptions.
+#[derive(Drop)]
+pub(crate) struct Cases;
 
-/// What is wrong of a case; nothing where it is right. One that differs is played again, since memory may have lacked.
-pub(crate) fn played(alloc: Global, case: &Piece<'_>) -> Text {
-    let report = played_once(alloc, case);
-    if report.is_empty() {
-        report
-    } else {
-        played_once(alloc, case)
+impl Player for Cases {
+    fn play(&self, alloc: Global, case: &Piece<'_>, lines: &mut Lines) {
+        if play(alloc, case, lines).is_err() {
+            lines.lack();
+        }
     }
 }

@@ -2,7 +2,7 @@
 
 use crate::asked::add_answer;
 use crate::given::{add_file, is_given};
-use case_text::{Lines, Piece, Section, sections, text_of};
+use case_text::{Lines, Piece, Player, Section, sections, text_of};
 use side_base::Blob;
 use std::alloc::Global;
 use yaml_subset::{Docs, YamlErr, read_docs};
@@ -65,19 +65,15 @@ fn play_sections(alloc: Global, sections: &[Section<'_>], lines: &mut Lines) {
     drop(file);
 }
 
-/// Adds what is wrong of a case; nothing where it is right.
-pub(crate) fn play(alloc: Global, case: &Piece<'_>, lines: &mut Lines) {
-    match sections(alloc, case) {
-        Ok(sections) => play_sections(alloc, &sections, lines),
-        Err(_) => lines.add_line("no memory", ""),
-    }
-}
+/// The cases of files of the YAML subset.
+#[derive(Drop)]
+pub(crate) struct Cases;
 
-/// Whether nothing is wrong of a case.
-pub(crate) fn is_right(alloc: Global, case: &Piece<'_>) -> bool {
-    let mut lines = Lines::new(alloc);
-    play(alloc, case, &mut lines);
-    let is_right = lines.is_empty();
-    drop(lines);
-    is_right
+impl Player for Cases {
+    fn play(&self, alloc: Global, case: &Piece<'_>, lines: &mut Lines) {
+        match sections(alloc, case) {
+            Ok(sections) => play_sections(alloc, &sections, lines),
+            Err(_) => lines.lack(),
+        }
+    }
 }
