@@ -24,17 +24,17 @@ fn event_in<'a>(sections: &[Section<'a>]) -> &'a [u8] {
 
 impl Answerer for Rules {
     fn asks(&self, word: &str) -> bool {
-        word == "rules"
+        word == "rules" || word == "told"
     }
 
     fn answer(
         &self,
         alloc: Global,
         sections: &[Section<'_>],
-        _section: &Section<'_>,
+        section: &Section<'_>,
         given: &[u8],
     ) -> Result<Text, NoMemory> {
-        answer(alloc, event_in(sections), given)
+        answer(alloc, section.word, event_in(sections), given)
     }
 }
 

@@ -41,6 +41,14 @@ fn add_refusal(alloc: Global, error: &YamlErr, lines: &mut Lines) {
     lines.add("\n");
 }
 
+// The text of a refusal.
+fn add_told(alloc: Global, error: &YamlErr, lines: &mut Lines) {
+    match format!(in alloc; "{error}") {
+        Ok(text) => lines.add_line(text.as_str(), ""),
+        Err(_) => lines.lack(),
+    }
+}
+
 /// The answer to a section.
 pub(crate) fn add_answer(
     alloc: Global,
@@ -50,6 +58,7 @@ pub(crate) fn add_answer(
 ) {
     match read {
         Ok(docs) => add_found(alloc, docs, section, lines),
+        Err(error) if section.word == "told" => add_told(alloc, error, lines),
         Err(error) => add_refusal(alloc, error, lines),
     }
 }
