@@ -2,8 +2,9 @@
 
 use crate::given::{sizes, words};
 use crate::world::{Made, world};
-use case_text::{Lines, Piece, Player, Section, joined_text, name_in, sections, text_of};
+use case_text::{Lines, Piece, Section, joined_text, name_in, sections, text_of};
 use itoa::Buffer;
+use side_base::{NoMemory, Text};
 use side_memory::Sizes;
 use sidecar_cli::sidecar_main;
 use std::alloc::Global;
@@ -115,17 +116,32 @@ fn judge_case<W: Threads + Wait + Sync>(
     }
 }
 
-/// The cases of runs of the program, which starts threads and may wait.
-#[derive(Drop)]
-pub(crate) struct Cases<'a, W> {
-    pub(crate) rt: &'a W,
+// What is wrong of a case; nothing where it is right.
+fn wrong<W: Threads + Wait + Sync>(
+    rt: &W,
+    alloc: Global,
+    case: &Piece<'_>,
+) -> Result<Text, NoMemory> {
+    let mut lines = Lines::new(alloc);
+    match sections(alloc, case) {
+        Ok(sections) => judge_case(rt, alloc, &sections, &mut lines),
+        Err(_) => lines.lack(),
+    }
+    lines.done()
 }
 
-impl<W: Threads + Wait + Sync> Player for Cases<'_, W> {
-    fn play(&self, alloc: Global, case: &Piece<'_>, lines: &mut Lines) {
-        match sections(alloc, case) {
-            Ok(sections) => judge_case(self.rt, alloc, &sections, lines),
-            Err(_) => lines.lack(),
-        }
+// The same, with want of memory as a difference.
+fn wrong_at_last<W: Threads + Wait + Sync>(rt: &W, alloc: Global, case: &Piece<'_>) -> Text {
+    match wrong(rt, alloc, case) {
+        Ok(wrong) => wrong,
+        Err(_) => Text::from_static(alloc, "no memory\n"),
+    }
+}
+
+/// What is wrong of a case. One that differs is played again, since memory may have lacked.
+pub(crate) fn played<W: Threads + Wait + Sync>(rt: &W, alloc: Global, case: &Piece<'_>) -> Text {
+    match wrong(rt, alloc, case) {
+        Ok(wrong) if wrong.is_empty() => wrong,
+        _ => wrong_at_last(rt, alloc, case),
     }
 }
