@@ -3,6 +3,7 @@
 //!
 //! - `piece` cuts a text at marked lines, `section` a case into its sections, `escape` undoes escapes.
 //! - `lines` is what is said of a case that differs.
+//! - `tally` counts the cases, and keeps what is said of those that differ.
 //! - `player` plays the cases of files, whole or line by line.
 #![tactic(auto)]
 
@@ -11,12 +12,14 @@ mod lines;
 mod piece;
 mod player;
 mod section;
+mod tally;
 
 pub use escape::unescaped;
 pub use lines::Lines;
 pub use piece::{Piece, pieces, without_blank_end};
 pub use player::{Answerer, Player, play_cases, play_lines};
 pub use section::{Section, joined, joined_text, name_in, number_in, said, sections, text_of};
+pub use tally::Tally;
 
 /// What the line of a case begins with.
 pub const CASE: &[u8] = b"== ";

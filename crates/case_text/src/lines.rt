@@ -5,6 +5,7 @@ ghost use Rattle.case_text.specs.Lines.{shown};
 use itoa::Buffer;
 use side_base::{NoMemory, Text};
 use std::alloc::Global;
+use std::fmt;
 
 /// A text that grows, and whether memory lacked for a part of it, which is then left out.
 #[derive(Drop)]
@@ -87,6 +88,14 @@ impl Lines {
         ensures { Added (line words.now (shown bytes.now)) self.old self.new }
     {
         self.add_line(words, shown(bytes));
+    }
+
+    /// Adds what a value says of itself, as errors do.
+    pub fn add_told<E: fmt::Display>(&mut self, alloc: Global, told: &E) {
+        match format!(in alloc; "{told}") {
+            Ok(words) => self.add(words.as_str()),
+            Err(_) => self.lack(),
+        }
     }
 
     /// Adds what was wanted and what came, where these differ.

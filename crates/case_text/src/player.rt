@@ -1,10 +1,9 @@
 // Playing the cases of files.
-ghost use Rattle.std.specs.Prelude.{◌≡◌, ◌⊎◌, ◌<◌, ◌^◌, suc, []};
-
 use crate::CASE;
 use crate::lines::Lines;
 use crate::piece::{Piece, pieces};
 use crate::section::{Section, said, sections};
+use crate::tally::Tally;
 use side_base::{NoMemory, Text};
 use std::alloc::Global;
 use std::rt::{Env, Files};
@@ -37,38 +36,6 @@ pub trait Answerer {
         section: &Section<'_>,
         given: &[u8],
     ) -> Result<Text, NoMemory>;
-}
-
-/// How many cases were played, how many of them differ, and what is said of these.
-#[derive(Drop)]
-struct Tally {
-    cases: u32,
-    differ: u32,
-    lines: Lines,
-}
-
-impl Tally {
-    fn new(alloc: Global) -> Tally {
-        Tally {
-            cases: 0,
-            differ: 0,
-            lines: Lines::new(alloc),
-        }
-    }
-
-    // Counts a case of this title, of which this is wrong.
-    fn count(&mut self, title: &[u8], wrong: &Text)
-        ensures cases { suc self.old.cases < 2 ^ 32 → self.new.cases ≡ suc self.old.cases }
-        ensures right { wrong.now ≡ [] → (self.new.differ ≡ self.old.differ) × (self.new.lines ≡ self.old.lines) }
-        ensures differ { suc self.old.differ < 2 ^ 32 → (wrong.now ≡ []) ⊎ (self.new.differ ≡ suc self.old.differ) }
-    {
-        self.cases = self.cases.saturating_add(1);
-        if !wrong.is_empty() {
-            self.differ = self.differ.saturating_add(1);
-            self.lines.add_bytes("== ", title);
-            self.lines.add_line(wrong.as_str(), "");
-        }
-    }
 }
 
 // What is wrong of a case; nothing where it is right.
@@ -206,8 +173,7 @@ fn play_texts<R: AllocGlobal + Env + Files + Print, T: Texts>(rt: &R, texts: &T)
         let text = fs::read(rt, name.as_str())?;
         texts.play_text(rt.alloc(), text.as_slice(), &mut tally)?;
     }
-    print!(rt; "{}", tally.lines.as_str())?;
-    println!(rt; "{} cases, {} differ", tally.cases, tally.differ)
+    tally.print(rt)
 }
 
 /// Plays the cases of the files that the words of the program name. Prints each that differs, and at the end how many there were.

@@ -5,7 +5,7 @@ ghost use Rattle.disk_memory.specs.MemoryDisk.{notes_of};
 use crate::bodies::add_bodies;
 use crate::keepers::SECRET;
 use crate::rows::add_rows;
-use crate::words::{LIMIT, add_refusal, first_word};
+use crate::words::{LIMIT, first_word};
 use case_text::{Lines, Section, number_in};
 use disk_journal::{Bodies, Journal, JournalErr};
 use disk_memory::{MemoryDisk, Tear};
@@ -41,16 +41,16 @@ fn add_started(lines: &mut Lines, keeper: JournalKeeper<MemoryDisk>, keys: &str)
     let _ = keeper.into_disk();
 }
 
-fn add_refused(lines: &mut Lines, disk: MemoryDisk, error: JournalErr) {
+fn add_refused(alloc: Global, lines: &mut Lines, disk: MemoryDisk, error: JournalErr) {
     drop(disk);
-    add_refusal(lines, error);
+    lines.add_told(alloc, &error);
 }
 
 // Says the bodies that a journal of these bytes has.
 fn add_journal(alloc: Global, lines: &mut Lines, disk: MemoryDisk) {
     match disk_journal::laws::load_after_a_crash::<MemoryDisk, MemoryDisk>(alloc, disk, LIMIT) {
         Ok((journal, bodies)) => add_loaded(lines, journal, &bodies),
-        Err((disk, error)) => add_refused(lines, disk, error),
+        Err((disk, error)) => add_refused(alloc, lines, disk, error),
     }
 }
 
@@ -60,7 +60,7 @@ fn add_keeper(alloc: Global, lines: &mut Lines, disk: MemoryDisk, keys: &str) {
         alloc, disk, LIMIT, SECRET,
     ) {
         Ok(keeper) => add_started(lines, keeper, keys),
-        Err((disk, error)) => add_refused(lines, disk, error),
+        Err((disk, error)) => add_refused(alloc, lines, disk, error),
     }
 }
 

@@ -28,9 +28,9 @@ pub(crate) fn disk_of(alloc: Global, sections: &[Section<'_>]) -> Result<MemoryD
 }
 
 // Formats where that may be done.
-fn add_format(disk: &mut MemoryDisk, lines: &mut Lines) {
+fn add_format(alloc: Global, disk: &mut MemoryDisk, lines: &mut Lines) {
     if disk.bytes().is_empty() {
-        add_outcome(lines, format(disk));
+        add_outcome(alloc, lines, format(disk));
     } else {
         lines.add("not empty");
     }
@@ -67,7 +67,7 @@ fn spell(alloc: Global, section: &Section<'_>, lines: &mut Lines) {
 // Does to a disk, or asks of it, what a section says.
 fn add_answer(alloc: Global, disk: &mut MemoryDisk, section: &Section<'_>, lines: &mut Lines) {
     match section.word {
-        "format" => add_format(disk, lines),
+        "format" => add_format(alloc, disk, lines),
         "write" => write(alloc, disk, section, lines),
         "bytes" => lines.add(text(disk.bytes())),
         "moment" => lines.add_number("", disk.moment() as u64),

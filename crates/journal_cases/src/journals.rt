@@ -4,7 +4,7 @@ ghost use Rattle.disk_journal.specs.Journal.{torn_of};
 
 use crate::bodies::add_bodies;
 use crate::report::Report;
-use crate::words::{add_outcome, add_refusal, bytes_in, limit_in, yes_or_no};
+use crate::words::{add_outcome, bytes_in, limit_in, yes_or_no};
 use case_text::{Lines, Section};
 use disk_journal::{Bodies, Journal, JournalErr, laws};
 use disk_memory::MemoryDisk;
@@ -49,7 +49,7 @@ fn add_append(
             if journal.is_torn() {
                 lines.add("torn");
             } else {
-                add_outcome(lines, appended(journal, section.word, body.bytes()));
+                add_outcome(alloc, lines, appended(journal, section.word, body.bytes()));
             }
         }
         Err(_) => lines.add("no memory"),
@@ -66,8 +66,8 @@ fn add_step(
 ) {
     match section.word {
         "append" | "append-in-a-run" => add_append(alloc, journal, section, lines),
-        "repair" => add_outcome(lines, journal.repair()),
-        "repair-in-a-run" => add_outcome(lines, laws::repair_in_a_run(journal)),
+        "repair" => add_outcome(alloc, lines, journal.repair()),
+        "repair-in-a-run" => add_outcome(alloc, lines, laws::repair_in_a_run(journal)),
         "torn" => lines.add(yes_or_no(journal.is_torn())),
         "len" => lines.add_number("", journal.len()),
         "limit" => lines.add_number("", journal.limit()),
@@ -102,7 +102,7 @@ pub(crate) fn play_refused(
     report: &mut Report,
 ) {
     let mut came = Lines::new(alloc);
-    add_refusal(&mut came, error);
+    came.add_told(alloc, &error);
     report.judge(head, came);
     for section in behind {
         if !is_step(section.word) {

@@ -50,78 +50,22 @@ pub(crate) fn text(bytes: &[u8]) -> &str {
     str::from_utf8(bytes).unwrap_or("no text")
 }
 
-/// Words, and a number behind them where there is one.
-#[derive(Clone, Copy)]
-pub(crate) struct Words {
-    pub(crate) text: &'static str,
-    pub(crate) number: Option<u64>,
-}
-
-fn alone(text: &'static str) -> Words {
-    Words { text, number: None }
-}
-
-fn numbered(text: &'static str, number: u64) -> Words {
-    Words {
-        text,
-        number: Some(number),
-    }
-}
-
-// A length, which here has fewer than 2^64 bytes.
-fn full(len: u128) -> Words {
-    numbered("full ", u64::try_from(len).unwrap_or(0))
-}
-
-fn refusal(error: JournalErr) -> Words {
-    match error {
-        JournalErr::Failed => alone("failed"),
-        JournalErr::NotAJournal { at } => numbered("no journal at ", at),
-        JournalErr::Full { len } => full(len),
-        JournalErr::NoMemory => alone("no memory"),
-    }
-}
-
-fn keep_refusal(error: KeepErr) -> Words {
-    match error {
-        KeepErr::Failed => alone("failed"),
-        KeepErr::Full { len } => full(len),
-        KeepErr::NoMemory => alone("no memory"),
-    }
-}
-
-fn add_words(lines: &mut Lines, words: Words) {
-    match words.number {
-        Some(number) => lines.add_number(words.text, number),
-        None => lines.add(words.text),
-    }
-}
-
-/// Says why a journal refused.
-pub(crate) fn add_refusal(lines: &mut Lines, error: JournalErr) {
-    add_words(lines, refusal(error));
-}
-
 /// Says what came of a call of a journal.
-pub(crate) fn add_outcome(lines: &mut Lines, outcome: Result<(), JournalErr>) {
-    add_words(
-        lines,
-        match outcome {
-            Ok(()) => alone("ok"),
-            Err(error) => refusal(error),
-        },
-    );
+pub(crate) fn add_outcome(alloc: Global, lines: &mut Lines, outcome: Result<(), JournalErr>) {
+    match outcome {
+        Ok(()) => lines.add("ok"),
+        Err(error) => lines.add_told(alloc, &error),
+    }
 }
 
-/// Says what came of a save.
+/// Says what came of a save. A length here has fewer than 2^64 bytes.
 pub(crate) fn add_kept(lines: &mut Lines, outcome: Result<(), KeepErr>) {
-    add_words(
-        lines,
-        match outcome {
-            Ok(()) => alone("ok"),
-            Err(error) => keep_refusal(error),
-        },
-    );
+    match outcome {
+        Ok(()) => lines.add("ok"),
+        Err(KeepErr::Failed) => lines.add("failed"),
+        Err(KeepErr::Full { len }) => lines.add_number("full ", u64::try_from(len).unwrap_or(0)),
+        Err(KeepErr::NoMemory) => lines.add("no memory"),
+    }
 }
 
 pub(crate) fn yes_or_no(is_so: bool) -> &'static str {

@@ -47,14 +47,9 @@ fn add_trip(lines: &mut Lines, trip: &Trip) {
     }
 }
 
-fn add_err(lines: &mut Lines, error: TripErr) {
-    match error {
-        TripErr::Counter { at } => lines.add_number_line("counter ", at as u64),
-        TripErr::Sign { at } => lines.add_number_line("sign ", at as u64),
-        TripErr::Number { at } => lines.add_number_line("number ", at as u64),
-        TripErr::Mixed { at } => lines.add_number_line("mixed ", at as u64),
-        TripErr::Long { at } => lines.add_number_line("long ", at as u64),
-    }
+fn add_err(alloc: Global, lines: &mut Lines, error: TripErr) {
+    lines.add_told(alloc, &error);
+    lines.add("\n");
 }
 
 // The counts of a case: consecutive failures, requests and all failures.
@@ -89,7 +84,7 @@ fn told(alloc: Global, sections: &[Section<'_>], section: &Section<'_>) -> Text 
     let mut lines = Lines::new(alloc);
     match trip_of(bytes(alloc, section.name).bytes()) {
         Ok(trip) => add_read(&mut lines, &trip, section.word, sections),
-        Err(error) => add_err(&mut lines, error),
+        Err(error) => add_err(alloc, &mut lines, error),
     }
     lines.into_text()
 }

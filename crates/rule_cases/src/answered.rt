@@ -30,14 +30,6 @@ fn add_truth(alloc: Global, rule: &Expr, event: &[u8], lines: &mut Lines) {
     }
 }
 
-// The text of a refusal.
-fn add_told(alloc: Global, error: RuleErr, lines: &mut Lines) {
-    match format!(in alloc; "{error}") {
-        Ok(text) => lines.add(text.as_str()),
-        Err(_) => lines.lack(),
-    }
-}
-
 /// What the rule of this text answers over an event, or why it is refused; in sections `told` with the text of the refusal.
 pub(crate) fn answer(
     alloc: Global,
@@ -48,7 +40,7 @@ pub(crate) fn answer(
     let mut lines = Lines::new(alloc);
     match parse(alloc, text) {
         Ok(rule) => add_truth(alloc, &rule, event, &mut lines),
-        Err(error) if word == "told" => add_told(alloc, error, &mut lines),
+        Err(error) if word == "told" => lines.add_told(alloc, &error),
         Err(error) => add_refusal(error, &mut lines),
     }
     lines.done()

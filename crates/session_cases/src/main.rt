@@ -7,40 +7,12 @@ mod playing;
 mod world;
 
 use crate::playing::played;
-use case_text::{CASE, Lines, pieces};
-use side_base::{NoMemory, Text};
+use case_text::{CASE, Tally, pieces};
+use side_base::NoMemory;
 use std::alloc::Global;
 use std::sync::Wait;
 use std::thread::Threads;
 use std::{env, fs, io};
-
-/// How many cases were played, how many of them differ, and what is said of these.
-#[derive(Drop)]
-struct Tally {
-    cases: u32,
-    differ: u32,
-    lines: Lines,
-}
-
-impl Tally {
-    fn new(alloc: Global) -> Tally {
-        Tally {
-            cases: 0,
-            differ: 0,
-            lines: Lines::new(alloc),
-        }
-    }
-
-    // Counts a case of this title, of which this is wrong.
-    fn count(&mut self, title: &[u8], wrong: &Text) {
-        self.cases = self.cases.saturating_add(1);
-        if !wrong.is_empty() {
-            self.differ = self.differ.saturating_add(1);
-            self.lines.add_bytes("== ", title);
-            self.lines.add_line(wrong.as_str(), "");
-        }
-    }
-}
 
 // Plays the cases of a file of this text.
 fn play_all<W: Threads + Wait + Sync>(
@@ -61,6 +33,5 @@ fn main(rt: HostRuntime) -> io::Result<()> {
         let text = fs::read(&rt, name.as_str())?;
         play_all(&rt, rt.alloc(), text.as_slice(), &mut tally)?;
     }
-    print!(rt; "{}", tally.lines.as_str())?;
-    println!(rt; "{} cases, {} differ", tally.cases, tally.differ)
+    tally.print(&rt)
 }

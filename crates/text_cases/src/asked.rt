@@ -29,7 +29,7 @@ fn parts(given: &[u8]) -> (&[u8], &[u8]) {
 
 fn of_base(alloc: Global, word: &str, given: &[u8], lines: &mut Lines) -> bool {
     match word {
-        "duration" => add_duration(given, lines),
+        "duration" => add_duration(alloc, given, lines),
         "digits" => add_digits(given, lines),
         "moment" => add_moment(given, lines),
         "utf8" => add_utf8(alloc, given, lines),

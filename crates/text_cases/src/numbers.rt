@@ -2,7 +2,8 @@
 
 use crate::told::add_bytes;
 use case_text::Lines;
-use side_base::{DurationErr, Moment, duration_ms, number_of, split_digits};
+use side_base::{Moment, duration_ms, number_of, split_digits};
+use std::alloc::Global;
 
 /// The number that a text begins with.
 pub(crate) fn number_in(text: &[u8]) -> u64 {
@@ -11,13 +12,10 @@ pub(crate) fn number_in(text: &[u8]) -> u64 {
 }
 
 /// A duration in milliseconds, or why it is refused.
-pub(crate) fn add_duration(given: &[u8], lines: &mut Lines) {
+pub(crate) fn add_duration(alloc: Global, given: &[u8], lines: &mut Lines) {
     match duration_ms(given) {
         Ok(ms) => lines.add_number("", ms),
-        Err(DurationErr::Empty) => lines.add("Empty"),
-        Err(DurationErr::BadDigit { at }) => lines.add_number("BadDigit ", at as u64),
-        Err(DurationErr::BadUnit { at }) => lines.add_number("BadUnit ", at as u64),
-        Err(DurationErr::TooLong) => lines.add("TooLong"),
+        Err(error) => lines.add_told(alloc, &error),
     }
 }
 

@@ -2,7 +2,7 @@
 
 use crate::told::{add_bytes, note};
 use case_text::Lines;
-use side_base::{Blob, NoMemory, Text, TextErr};
+use side_base::{Blob, NoMemory, Text};
 use std::alloc::Global;
 
 fn add_copies(alloc: Global, text: &Text, lines: &mut Lines) -> Result<(), NoMemory> {
@@ -22,8 +22,7 @@ pub(crate) fn add_utf8(alloc: Global, given: &[u8], lines: &mut Lines) {
             let copied = add_copies(alloc, &text, lines);
             note(lines, copied);
         }
-        Err(TextErr::NotUtf8 { at }) => lines.add_number("NotUtf8 ", at as u64),
-        Err(TextErr::NoMemory) => note(lines, Err(NoMemory)),
+        Err(error) => lines.add_told(alloc, &error),
     }
 }
 

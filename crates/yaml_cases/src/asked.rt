@@ -43,10 +43,8 @@ fn add_refusal(alloc: Global, error: &YamlErr, lines: &mut Lines) {
 
 // The text of a refusal.
 fn add_told(alloc: Global, error: &YamlErr, lines: &mut Lines) {
-    match format!(in alloc; "{error}") {
-        Ok(text) => lines.add_line(text.as_str(), ""),
-        Err(_) => lines.lack(),
-    }
+    lines.add_told(alloc, error);
+    lines.add("\n");
 }
 
 /// The answer to a section.
