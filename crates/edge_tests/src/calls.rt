@@ -140,8 +140,8 @@ fn answered<
     answered_by(rt, &listener, &request, reply, wait_ms, limit_ms)
 }
 
-/// To each reply, a link answers what stands beside it.
-fn are_answered<
+/// Checks that to each reply a link answers what stands beside it.
+fn check_answers<
     R: Threads
         + Net<Listener = TcpListener, Stream = TcpStream>
         + Clock
@@ -187,7 +187,7 @@ fn a_link_answers_what_comes(rt: HostRuntime) -> Result<(), Fail> {
         ("garbage\r\n\r\n", "the call failed"),
         ("", "the call failed"),
     ];
-    Ok(are_answered(rt, &replies, 0, LONG_MS)?)
+    Ok(check_answers(rt, &replies, 0, LONG_MS)?)
 }
 
 #[test]
@@ -199,7 +199,7 @@ fn a_reply_that_is_too_slow_expires(rt: HostRuntime) -> Result<(), Fail> {
             "the call expired",
         ),
     ];
-    Ok(are_answered(rt, &replies, SLOW_MS, SHORT_MS)?)
+    Ok(check_answers(rt, &replies, SLOW_MS, SHORT_MS)?)
 }
 
 /// A port at which nobody listens.
@@ -228,6 +228,10 @@ fn a_call_that_reaches_nobody_fails(rt: HostRuntime) -> Result<(), Fail> {
 
 #[test]
 fn a_request_of_no_method_fails(rt: HostRuntime) -> Result<(), Fail> {
-    assert_eq!(rt; end_of_call(rt, 80, Method::Other)?, Some(LinkErr::Failed));
+    let (_listener, port) = listen(&rt)?;
+    assert_eq!(rt;
+        end_of_call(rt, port, Method::Other)?,
+        Some(LinkErr::Failed)
+    );
     Ok(())
 }

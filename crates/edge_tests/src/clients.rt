@@ -18,7 +18,7 @@ pub(crate) fn connect<R: Net<Listener = TcpListener, Stream = TcpStream>>(
 }
 
 /// A client that has sent half a request.
-pub(crate) fn connect_with_half<R: Net<Listener = TcpListener, Stream = TcpStream>>(
+fn connect_with_half<R: Net<Listener = TcpListener, Stream = TcpStream>>(
     rt: &R,
     port: u16,
 ) -> io::Result<TcpStream> {

@@ -73,7 +73,7 @@ fn write_to(rt: &impl Abort, disk: &mut HostDisk) -> Result<(), Fail> {
 }
 
 // A new disk at this path takes what is written, and is nobody else's meanwhile.
-fn is_written<R: fs::Files<File = fs::File> + Abort>(rt: &R, path: &str) -> Result<(), Fail> {
+fn check_writes<R: fs::Files<File = fs::File> + Abort>(rt: &R, path: &str) -> Result<(), Fail> {
     let mut disk = HostDisk::open(rt, path)?;
     let written = write_to(rt, &mut disk);
     assert!(rt; is_refused(rt, path));
@@ -91,7 +91,7 @@ fn read_from(rt: &impl Abort, disk: &mut HostDisk) -> Result<(), Fail> {
 }
 
 // The same of the disk at this path.
-fn is_read<R: fs::Files<File = fs::File> + Abort>(rt: &R, path: &str) -> Result<(), Fail> {
+fn check_reads<R: fs::Files<File = fs::File> + Abort>(rt: &R, path: &str) -> Result<(), Fail> {
     let mut disk = HostDisk::open(rt, path)?;
     read_from(rt, &mut disk)
 }
@@ -101,8 +101,8 @@ fn is_read<R: fs::Files<File = fs::File> + Abort>(rt: &R, path: &str) -> Result<
 #[test]
 fn a_file_is_a_disk(rt: HostRuntime) -> Result<(), Fail> {
     let path = "a_file_is_a_disk.bytes";
-    is_written(&rt, path)?;
-    is_read(&rt, path)?;
+    check_writes(&rt, path)?;
+    check_reads(&rt, path)?;
     assert_eq!(rt; disk_len(&rt, path)?, 9);
     fs::remove_file(&rt, path)?;
     Ok(())

@@ -9,8 +9,6 @@ mod clients;
 #[cfg(test)]
 mod devices;
 #[cfg(test)]
-mod reports;
-#[cfg(test)]
 mod scene;
 #[cfg(test)]
 mod slow;
