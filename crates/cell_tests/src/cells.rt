@@ -357,8 +357,8 @@ fn a_cell_has_65536_seats(rt: HostRuntime) -> Result<(), Fail> {
     Ok(())
 }
 
-/// Checks that an error of a call over a cell is told so.
-fn check_text(rt: &impl Abort, alloc: Global, error: ApiErr, text: &str) -> Result<(), AllocError> {
+/// An error of a call over a cell is told so.
+fn is_told(rt: &impl Abort, alloc: Global, error: ApiErr, text: &str) -> Result<(), AllocError> {
     assert_eq!(rt; format!(in alloc; "{error}")?.as_str(), text);
     Ok(())
 }
@@ -368,8 +368,8 @@ fn errors_tell_their_count(rt: HostRuntime) -> Result<(), Fail> {
     let alloc = rt.alloc();
     let exhausted = Exhausted { count: 1 << 62 };
     let text = "exhausted at 4611686018427387904";
-    check_text(&rt, alloc, ApiErr::from(exhausted), text)?;
-    check_text(&rt, alloc, ApiErr::from(AllocError), "no memory")?;
+    is_told(&rt, alloc, ApiErr::from(exhausted), text)?;
+    is_told(&rt, alloc, ApiErr::from(AllocError), "no memory")?;
     assert_eq!(rt; format!(in alloc; "{exhausted}")?.as_str(), text);
     Ok(())
 }

@@ -316,8 +316,8 @@ const RUNS: [Run; 8] = [
     },
 ];
 
-/// Checks that these workers ended as this run is to end, and left the word as it is to be.
-fn check_past(rt: &impl Abort, past: &Past, run: &Run) {
+/// These workers ended as this run is to end, and left the word as it is to be.
+fn is_past(rt: &impl Abort, past: &Past, run: &Run) {
     let wanted = [Ended {
         exit: Some(run.exit),
         accepts: run.accepts,
@@ -336,7 +336,7 @@ fn run_each<R: Threads + Wait + Sync + Abort>(
 ) -> Result<(), NoMemory> {
     for run in runs {
         let past = run_scripts(rt, alloc, &FreeGate, None, 0, &[run.script])?;
-        check_past(rt, &past, run);
+        is_past(rt, &past, run);
     }
     Ok(())
 }
@@ -474,7 +474,7 @@ fn workers_run_side_by_side(rt: HostRuntime) -> Result<(), Fail> {
     Ok(())
 }
 
-// One after the other, in either order: the first runs out of turns, and leaves the second nobody to meet.
+// One after the other, in either order, they run out of turns.
 #[test]
 fn workers_one_by_one_would_not_meet(rt: HostRuntime) -> Result<(), Fail> {
     for first in 0..2u32 {
