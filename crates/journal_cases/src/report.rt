@@ -4,11 +4,12 @@ use case_text::{Lines, Section, said, without_blank_end};
 use side_base::{NoMemory, Text};
 use std::alloc::Global;
 
-/// What differs so far.
+/// What differs so far, and whether memory lacked for the case itself.
 #[derive(Drop)]
 pub(crate) struct Report {
     alloc: Global,
     lines: Lines,
+    lacks: bool,
 }
 
 impl Report {
@@ -16,12 +17,13 @@ impl Report {
         Report {
             alloc,
             lines: Lines::new(alloc),
+            lacks: false,
         }
     }
 
     /// Memory lacked for the case itself.
     pub(crate) fn lack(&mut self) {
-        self.lines.lack();
+        self.lacks = true;
     }
 
     /// Says where a section wants something else than this.
@@ -31,7 +33,7 @@ impl Report {
                 self.lines
                     .compare(section.word, wanted.bytes(), came.as_bytes())
             }
-            Err(_) => self.lack(),
+            Err(_) => self.lacks = true,
         }
     }
 
@@ -42,7 +44,7 @@ impl Report {
         }
         match came.done() {
             Ok(came) => self.judge_text(section, came.as_str()),
-            Err(_) => self.lack(),
+            Err(_) => self.lacks = true,
         }
     }
 
@@ -53,6 +55,10 @@ impl Report {
 
     /// What differs; want of memory where it lacked for the case itself.
     pub(crate) fn done(self) -> Result<Text, NoMemory> {
-        self.lines.done()
+        if self.lacks {
+            Err(NoMemory)
+        } else {
+            self.lines.done()
+        }
     }
 }

@@ -22,8 +22,7 @@ fn play_all<W: Threads + Wait + Sync>(
     tally: &mut Tally,
 ) -> Result<(), NoMemory> {
     for case in pieces(alloc, text, CASE)? {
-        let (wrong, again) = played(rt, alloc, &case);
-        tally.count(case.head, &wrong, again);
+        tally.count(case.head, &played(rt, alloc, &case));
     }
     Ok(())
 }
