@@ -18,11 +18,11 @@ pub use escape::unescaped;
 pub use lines::Lines;
 pub use piece::{Piece, pieces, without_blank_end};
 pub use player::{Answerer, Player, play_cases, play_lines};
-pub use section::{Section, joined, joined_text, name_in, number_in, said, sections, text_of};
+pub use section::{Section, joined_text, name_in, number_in, said, sections, text_of};
 pub use tally::Tally;
 
 /// What the line of a case begins with.
 pub const CASE: &[u8] = b"== ";
 
 /// What the line of a section begins with.
-pub const SECTION: &[u8] = b"-- ";
+const SECTION: &[u8] = b"-- ";

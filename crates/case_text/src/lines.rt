@@ -26,7 +26,7 @@ fn shown(bytes: &[u8]) -> &str
 }
 
 impl Lines {
-    ghost use Rattle.std.specs.Prelude.{◌≡◌, ◌⊎◌, ◌++◌, ◌∷◌, ◌↔◌, true, false, [], IsTrue, IfOk, IfErr, decimal};
+    ghost use Rattle.std.specs.Prelude.{◌≡◌, ◌⊎◌, ◌++◌, ◌∷◌, ◌↔◌, ℕ, List, true, false, [], IsTrue, IfOk, IfErr, decimal};
     ghost use Rattle.case_text.specs.Lines.{Added, line, shown, differs};
 
     /// No line yet.
@@ -91,7 +91,9 @@ impl Lines {
     }
 
     /// Adds what a value says of itself, as errors do.
-    pub fn add_told<E: fmt::Display>(&mut self, alloc: Global, told: &E) {
+    pub fn add_told<E: fmt::Display>(&mut self, alloc: Global, told: &E)
+        ensures { (words : List ℕ) × Added words self.old self.new }
+    {
         match format!(in alloc; "{told}") {
             Ok(words) => self.add(words.as_str()),
             Err(_) => self.lack(),

@@ -53,12 +53,18 @@ fn wrong_at_last<P: Player>(player: &P, alloc: Global, case: &Piece<'_>) -> Text
     }
 }
 
-// What is wrong of a case. One that differs is played again, since memory may have lacked.
-fn played<P: Player>(player: &P, alloc: Global, case: &Piece<'_>) -> Text {
+// What is wrong of a case, and whether it was played again: one that differs is, since memory may have lacked.
+fn played<P: Player>(player: &P, alloc: Global, case: &Piece<'_>) -> (Text, bool) {
     match wrong(player, alloc, case) {
-        Ok(wrong) if wrong.is_empty() || case.text.starts_with(ONCE) => wrong,
-        _ => wrong_at_last(player, alloc, case),
+        Ok(wrong) if wrong.is_empty() || case.text.starts_with(ONCE) => (wrong, false),
+        _ => (wrong_at_last(player, alloc, case), true),
     }
+}
+
+// Plays a case and counts it.
+fn play_one<P: Player>(player: &P, alloc: Global, case: &Piece<'_>, tally: &mut Tally) {
+    let (wrong, again) = played(player, alloc, case);
+    tally.count(case.head, &wrong, again);
 }
 
 // A line, cut at its arrow. One without an arrow wants what nothing answers.
@@ -118,7 +124,7 @@ struct Whole<'a, P> {
 impl<P: Player> Texts for Whole<'_, P> {
     fn play_text(&self, alloc: Global, text: &[u8], tally: &mut Tally) -> Result<(), NoMemory> {
         for case in pieces(alloc, text, CASE)? {
-            tally.count(case.head, &played(self.player, alloc, &case));
+            play_one(self.player, alloc, &case, tally);
         }
         Ok(())
     }
@@ -147,7 +153,7 @@ impl<A: Answerer> Lined<'_, A> {
         };
         for text in section.text.split(|byte| *byte == b'\n') {
             if !text.is_empty() {
-                tally.count(head, &played(&player, alloc, &Piece { head, text }));
+                play_one(&player, alloc, &Piece { head, text }, tally);
             }
         }
     }
@@ -179,7 +185,7 @@ fn play_texts<R: AllocGlobal + Env + Files + Print, T: Texts>(rt: &R, texts: &T)
 /// Plays the cases of the files that the words of the program name. Prints each that differs, and at the end how many there were.
 ///
 /// A case that differs is played again, since memory may have lacked, and what is wrong then counts; but not one that begins with a section
-/// `once`, unless memory lacked.
+/// `once`, unless memory lacked. It prints too how many were right only then, if any were; where memory suffices none is.
 pub fn play_cases<R: AllocGlobal + Env + Files + Print, P: Player>(
     rt: &R,
     player: &P,

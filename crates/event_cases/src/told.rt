@@ -7,7 +7,7 @@ use side_base::Blob;
 use std::alloc::Global;
 
 /// Adds words and bytes behind them, if they are a text.
-pub(crate) fn add_bytes(lines: &mut Lines, words: &str, bytes: &[u8]) {
+fn add_bytes(lines: &mut Lines, words: &str, bytes: &[u8]) {
     lines.add(words);
     lines.add(str::from_utf8(bytes).unwrap_or("no text"));
 }

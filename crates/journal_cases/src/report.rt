@@ -4,12 +4,11 @@ use case_text::{Lines, Section, said, without_blank_end};
 use side_base::{NoMemory, Text};
 use std::alloc::Global;
 
-/// What differs so far, and whether memory lacked for the case itself.
+/// What differs so far.
 #[derive(Drop)]
 pub(crate) struct Report {
     alloc: Global,
     lines: Lines,
-    lacks: bool,
 }
 
 impl Report {
@@ -17,13 +16,12 @@ impl Report {
         Report {
             alloc,
             lines: Lines::new(alloc),
-            lacks: false,
         }
     }
 
     /// Memory lacked for the case itself.
     pub(crate) fn lack(&mut self) {
-        self.lacks = true;
+        self.lines.lack();
     }
 
     /// Says where a section wants something else than this.
@@ -33,7 +31,7 @@ impl Report {
                 self.lines
                     .compare(section.word, wanted.bytes(), came.as_bytes())
             }
-            Err(_) => self.lacks = true,
+            Err(_) => self.lack(),
         }
     }
 
@@ -44,7 +42,7 @@ impl Report {
         }
         match came.done() {
             Ok(came) => self.judge_text(section, came.as_str()),
-            Err(_) => self.lacks = true,
+            Err(_) => self.lack(),
         }
     }
 
@@ -55,10 +53,6 @@ impl Report {
 
     /// What differs; want of memory where it lacked for the case itself.
     pub(crate) fn done(self) -> Result<Text, NoMemory> {
-        if self.lacks {
-            Err(NoMemory)
-        } else {
-            self.lines.done()
-        }
+        self.lines.done()
     }
 }

@@ -13,7 +13,7 @@ fn add_found(lines: &mut Lines, value: &[u8], version: u64, until: u64) {
 }
 
 /// Says a row: its value, the version of its write, and its end.
-pub(crate) fn add_row(lines: &mut Lines, row: Option<RowView<'_>>) {
+fn add_row(lines: &mut Lines, row: Option<RowView<'_>>) {
     match row {
         Some(row) => add_found(lines, row.value, row.version, row.until),
         None => lines.add("none"),

@@ -8,8 +8,8 @@ use std::alloc::Global;
 
 const VALUE: &[u8] = b"{\"name\":\"somebody\",\"city\":\"somewhere\",\"amount\":12.50}";
 
-/// Prime to every number of rows that is no multiple of it, so that keys come from all over.
-const STRIDE: u64 = 7_919_113;
+/// A prime, and so prime to every number of rows that is no multiple of it: keys come from all over.
+const STRIDE: u64 = 7_919_123;
 
 /// How many seconds a row lives that has an end.
 const SECONDS: u64 = 1;

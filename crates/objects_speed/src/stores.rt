@@ -14,7 +14,7 @@ const HOT: u32 = 1000;
 /// How often.
 const ROUNDS: u32 = 100;
 
-/// How many keys all over the rows are asked for once.
+/// How many keys all over the rows are asked for, each once if there are as many.
 const SPREAD: u32 = 100_000;
 
 /// How the row with this number is stored, of rows of which every other one is stored as is said, and the others without an end.
@@ -63,7 +63,8 @@ fn round<R: Clock>(rt: &R, alloc: Global, shop: &mut Shop, asked: Asked, ms: u32
     (now(rt).saturating_sub(begin), good)
 }
 
-/// The nanoseconds of a command, in rounds of which each is a millisecond later than the one before.
+/// The nanoseconds of a command, in rounds of which each is a millisecond later than the one before; 0 where not each was answered as it
+/// was meant.
 fn time<R: Clock>(rt: &R, alloc: Global, shop: &mut Shop, asked: Asked, ms: u32) -> u64 {
     let mut took: u64 = 0;
     let mut good: u64 = 0;
@@ -72,7 +73,8 @@ fn time<R: Clock>(rt: &R, alloc: Global, shop: &mut Shop, asked: Asked, ms: u32)
         took = took.saturating_add(passed);
         good = good.saturating_add(u64::from(answered));
     }
-    took / good.max(1)
+    let all = u64::from(asked.keys).saturating_mul(u64::from(asked.rounds));
+    if good < all { 0 } else { took / all.max(1) }
 }
 
 /// The nanoseconds of a command: for few keys that are asked for again and again, and for keys all over the rows.

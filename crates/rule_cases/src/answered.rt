@@ -30,6 +30,15 @@ fn add_truth(alloc: Global, rule: &Expr, event: &[u8], lines: &mut Lines) {
     }
 }
 
+// What the rule of this text answers over an event, or why it is refused, as sections of this word tell it.
+fn add_answer(alloc: Global, word: &str, event: &[u8], text: &[u8], lines: &mut Lines) {
+    match parse(alloc, text) {
+        Ok(rule) => add_truth(alloc, &rule, event, lines),
+        Err(error) if word == "told" => lines.add_told(alloc, &error),
+        Err(error) => add_refusal(error, lines),
+    }
+}
+
 /// What the rule of this text answers over an event, or why it is refused; in sections `told` with the text of the refusal.
 pub(crate) fn answer(
     alloc: Global,
@@ -38,10 +47,9 @@ pub(crate) fn answer(
     text: &[u8],
 ) -> Result<Text, NoMemory> {
     let mut lines = Lines::new(alloc);
-    match parse(alloc, text) {
-        Ok(rule) => add_truth(alloc, &rule, event, &mut lines),
-        Err(error) if word == "told" => lines.add_told(alloc, &error),
-        Err(error) => add_refusal(error, &mut lines),
+    match word {
+        "rules" | "told" => add_answer(alloc, word, event, text, &mut lines),
+        _ => lines.add("no such section"),
     }
     lines.done()
 }

@@ -24,7 +24,7 @@ fn event_in<'a>(sections: &[Section<'a>]) -> &'a [u8] {
 
 impl Answerer for Rules {
     fn asks(&self, word: &str) -> bool {
-        word == "rules" || word == "told"
+        word != "event"
     }
 
     fn answer(

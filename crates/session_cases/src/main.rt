@@ -22,7 +22,8 @@ fn play_all<W: Threads + Wait + Sync>(
     tally: &mut Tally,
 ) -> Result<(), NoMemory> {
     for case in pieces(alloc, text, CASE)? {
-        tally.count(case.head, &played(rt, alloc, &case));
+        let (wrong, again) = played(rt, alloc, &case);
+        tally.count(case.head, &wrong, again);
     }
     Ok(())
 }

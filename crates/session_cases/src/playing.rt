@@ -88,6 +88,20 @@ fn judge<W: Threads + Wait + Sync>(
     compare_all(alloc, lines, sections, &world, status.code());
 }
 
+// Adds what is wrong where each read brings a byte of the input.
+fn judge_bytes<W: Threads + Wait + Sync>(
+    rt: &W,
+    alloc: Global,
+    sections: &[Section<'_>],
+    lines: &mut Lines,
+) {
+    let mut reads = Sizes::new(alloc);
+    for _ in 0..joined_text(alloc, sections, "input").len() {
+        let _ = reads.push(1);
+    }
+    judge(rt, alloc, sections, reads, lines);
+}
+
 // Adds what is wrong where the input comes in two pieces, cut behind each of its bytes in turn.
 fn judge_cuts<W: Threads + Wait + Sync>(
     rt: &W,
@@ -102,7 +116,7 @@ fn judge_cuts<W: Threads + Wait + Sync>(
     }
 }
 
-// Adds what is wrong of a case, in one piece or in many.
+// Adds what is wrong of a case, whose input comes as is said, or in two pieces and byte by byte.
 fn judge_case<W: Threads + Wait + Sync>(
     rt: &W,
     alloc: Global,
@@ -111,6 +125,7 @@ fn judge_case<W: Threads + Wait + Sync>(
 ) {
     if name_in(sections, "cuts").is_some() {
         judge_cuts(rt, alloc, sections, lines);
+        judge_bytes(rt, alloc, sections, lines);
     } else {
         judge(rt, alloc, sections, sizes(alloc, sections), lines);
     }
@@ -138,10 +153,14 @@ fn wrong_at_last<W: Threads + Wait + Sync>(rt: &W, alloc: Global, case: &Piece<'
     }
 }
 
-/// What is wrong of a case. One that differs is played again, since memory may have lacked.
-pub(crate) fn played<W: Threads + Wait + Sync>(rt: &W, alloc: Global, case: &Piece<'_>) -> Text {
+/// What is wrong of a case, and whether it was played again: one that differs is, since memory may have lacked.
+pub(crate) fn played<W: Threads + Wait + Sync>(
+    rt: &W,
+    alloc: Global,
+    case: &Piece<'_>,
+) -> (Text, bool) {
     match wrong(rt, alloc, case) {
-        Ok(wrong) if wrong.is_empty() => wrong,
-        _ => wrong_at_last(rt, alloc, case),
+        Ok(wrong) if wrong.is_empty() => (wrong, false),
+        _ => (wrong_at_last(rt, alloc, case), true),
     }
 }

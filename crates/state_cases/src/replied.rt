@@ -1,5 +1,5 @@
 // Replies as a case names them, and the responses to them.
-ghost use Rattle.std.specs.Prelude.{◌≡◌, ◌≢◌, ℕ, List, [], length, map, IfSome, IfOk, OnOk};
+ghost use Rattle.std.specs.Prelude.{◌≡◌, ◌≢◌, ℕ, List, length, map, IfSome, IfOk};
 ghost use Rattle.std.specs.Bool.{OnTrue};
 ghost use Rattle.state_core.specs.declared.command.Cmd.{Cmd as CmdData};
 ghost use Rattle.state_core.specs.declared.command.Cmd.TheVariants as cmds;

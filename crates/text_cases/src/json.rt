@@ -19,7 +19,7 @@ fn kind_word(kind: Kind) -> &'static str {
 }
 
 /// The places of a value.
-pub(crate) fn add_span(doc: &Doc<'_>, node: Node, lines: &mut Lines) {
+fn add_span(doc: &Doc<'_>, node: Node, lines: &mut Lines) {
     if doc.is_node(node) {
         let (start, end) = doc.span(node);
         lines.add_number(" ", start as u64);

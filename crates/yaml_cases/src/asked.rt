@@ -15,7 +15,8 @@ fn add_found(alloc: Global, docs: &Docs, section: &Section<'_>, lines: &mut Line
         "doc" => add_document(docs, section.name, lines),
         "get" => add_get(docs, section.name, lines),
         "at" => add_at(alloc, docs, section.name, lines),
-        _ => lines.add_line("read", ""),
+        "refused" | "told" => lines.add_line("read", ""),
+        _ => lines.add_line("no such section", ""),
     }
 }
 
@@ -47,6 +48,15 @@ fn add_told(alloc: Global, error: &YamlErr, lines: &mut Lines) {
     lines.add("\n");
 }
 
+// The answer to a section, of a file that is refused.
+fn add_why(alloc: Global, error: &YamlErr, section: &Section<'_>, lines: &mut Lines) {
+    match section.word {
+        "told" => add_told(alloc, error, lines),
+        "refused" => add_refusal(alloc, error, lines),
+        _ => lines.add_line("refused", ""),
+    }
+}
+
 /// The answer to a section.
 pub(crate) fn add_answer(
     alloc: Global,
@@ -56,7 +66,6 @@ pub(crate) fn add_answer(
 ) {
     match read {
         Ok(docs) => add_found(alloc, docs, section, lines),
-        Err(error) if section.word == "told" => add_told(alloc, error, lines),
-        Err(error) => add_refusal(alloc, error, lines),
+        Err(error) => add_why(alloc, error, section, lines),
     }
 }
