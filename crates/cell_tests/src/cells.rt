@@ -358,7 +358,7 @@ fn a_cell_has_65536_seats(rt: HostRuntime) -> Result<(), Fail> {
 }
 
 /// An error of a call over a cell is told so.
-fn is_told(rt: &impl Abort, alloc: Global, error: ApiErr, text: &str) -> Result<(), AllocError> {
+fn check_told(rt: &impl Abort, alloc: Global, error: ApiErr, text: &str) -> Result<(), AllocError> {
     assert_eq!(rt; format!(in alloc; "{error}")?.as_str(), text);
     Ok(())
 }
@@ -368,8 +368,8 @@ fn errors_tell_their_count(rt: HostRuntime) -> Result<(), Fail> {
     let alloc = rt.alloc();
     let exhausted = Exhausted { count: 1 << 62 };
     let text = "exhausted at 4611686018427387904";
-    is_told(&rt, alloc, ApiErr::from(exhausted), text)?;
-    is_told(&rt, alloc, ApiErr::from(AllocError), "no memory")?;
+    check_told(&rt, alloc, ApiErr::from(exhausted), text)?;
+    check_told(&rt, alloc, ApiErr::from(AllocError), "no memory")?;
     assert_eq!(rt; format!(in alloc; "{exhausted}")?.as_str(), text);
     Ok(())
 }

@@ -317,7 +317,7 @@ const RUNS: [Run; 8] = [
 ];
 
 /// These workers ended as this run is to end, and left the word as it is to be.
-fn is_past(rt: &impl Abort, past: &Past, run: &Run) {
+fn check_past(rt: &impl Abort, past: &Past, run: &Run) {
     let wanted = [Ended {
         exit: Some(run.exit),
         accepts: run.accepts,
@@ -336,7 +336,7 @@ fn run_each<R: Threads + Wait + Sync + Abort>(
 ) -> Result<(), NoMemory> {
     for run in runs {
         let past = run_scripts(rt, alloc, &FreeGate, None, 0, &[run.script])?;
-        is_past(rt, &past, run);
+        check_past(rt, &past, run);
     }
     Ok(())
 }

@@ -1,6 +1,8 @@
 //! Each device is played one text, of which a line is a call and, behind its first `=`, the answer that it must have.
 use side_base::{Blob, NoMemory, Sequence};
+use side_world::Failed;
 use std::alloc::Global;
+use std::fmt;
 use std::process::Abort;
 
 mod acceptors;
@@ -61,9 +63,17 @@ fn said(alloc: Global, text: &str) -> Result<Blob, NoMemory> {
     Blob::from_bytes(alloc, text.as_bytes())
 }
 
-/// `ok`, or `failed`.
-fn outcome<T, E>(alloc: Global, ended: &Result<T, E>) -> Result<Blob, NoMemory> {
-    said(alloc, if ended.is_ok() { "ok" } else { "failed" })
+/// What an error says of itself.
+fn told_by<E: fmt::Display>(alloc: Global, error: &E) -> Result<Blob, NoMemory> {
+    said(alloc, format!(in alloc; "{error}")?.as_str())
+}
+
+/// `ok`, or what the failure of a device says of itself.
+fn outcome(alloc: Global, ended: Result<(), Failed>) -> Result<Blob, NoMemory> {
+    match ended {
+        Ok(()) => said(alloc, "ok"),
+        Err(failed) => told_by(alloc, &failed),
+    }
 }
 
 /// The number that a text is; 0 where it is none.

@@ -1,5 +1,9 @@
-// JSON texts: their trees, or why they are refused.
+// JSON texts: what is asked of them, or why they are refused.
 
+use crate::asked::parts;
+use crate::members::{
+    add_last, add_levels, add_member, add_name, add_name_is, add_text, add_text_is,
+};
 use crate::told::note;
 use case_text::Lines;
 use json_text::{Doc, JsonErr, Kind, Node, read};
@@ -96,13 +100,65 @@ pub(crate) fn add_refusal(error: JsonErr, lines: &mut Lines) {
     }
 }
 
-/// The tree of a text, or why it is refused.
-pub(crate) fn add_tree(alloc: Global, given: &[u8], lines: &mut Lines) {
-    match read(alloc, given) {
-        Ok(doc) => {
-            let added = add_all(alloc, &doc, lines);
-            note(lines, added);
-        }
+fn add_tree(alloc: Global, doc: &Doc<'_>, lines: &mut Lines) {
+    let added = add_all(alloc, doc, lines);
+    note(lines, added);
+}
+
+/// What is asked of a text of JSON, of some beside other bytes.
+#[derive(Clone, Copy)]
+pub(crate) enum Asked {
+    Tree,
+    Text,
+    Name,
+    Last,
+    Member,
+    TextIs,
+    NameIs,
+    Levels,
+}
+
+/// What sections of this word ask of a text of JSON, if they are any that do.
+pub(crate) fn asked_by(word: &str) -> Option<Asked> {
+    match word {
+        "json" => Some(Asked::Tree),
+        "text" => Some(Asked::Text),
+        "name" => Some(Asked::Name),
+        "last" => Some(Asked::Last),
+        "member" => Some(Asked::Member),
+        "text-is" => Some(Asked::TextIs),
+        "name-is" => Some(Asked::NameIs),
+        "levels" => Some(Asked::Levels),
+        _ => None,
+    }
+}
+
+// The text, and the bytes beside it.
+fn text_and_other(asked: Asked, given: &[u8]) -> (&[u8], &[u8]) {
+    match asked {
+        Asked::Member | Asked::TextIs | Asked::NameIs | Asked::Levels => parts(given),
+        Asked::Tree | Asked::Text | Asked::Name | Asked::Last => (given, b""),
+    }
+}
+
+fn add_of(alloc: Global, asked: Asked, doc: &Doc<'_>, other: &[u8], lines: &mut Lines) {
+    match asked {
+        Asked::Tree => add_tree(alloc, doc, lines),
+        Asked::Text => add_text(alloc, doc, lines),
+        Asked::Name => add_name(alloc, doc, lines),
+        Asked::Last => add_last(alloc, doc, lines),
+        Asked::Member => add_member(doc, other, lines),
+        Asked::TextIs => add_text_is(doc, other, lines),
+        Asked::NameIs => add_name_is(doc, other, lines),
+        Asked::Levels => add_levels(doc, other, lines),
+    }
+}
+
+/// The answer of a text, or why it is refused.
+pub(crate) fn add_asked(alloc: Global, asked: Asked, given: &[u8], lines: &mut Lines) {
+    let (text, other) = text_and_other(asked, given);
+    match read(alloc, text) {
+        Ok(doc) => add_of(alloc, asked, &doc, other, lines),
         Err(error) => add_refusal(error, lines),
     }
 }

@@ -1,27 +1,21 @@
 // Members of maps, and the texts that strings spell.
 
-use crate::json::{add_found, add_refusal};
+use crate::json::add_found;
 use crate::numbers::number_in;
 use crate::told::{add_bytes, add_flag, note};
 use case_text::Lines;
-use json_text::{Doc, Node, push_string, push_string_of, read};
+use json_text::{Doc, Node, push_string, push_string_of};
 use side_base::{Blob, NoMemory, Text};
 use std::alloc::Global;
 
 /// The last member of a name.
-pub(crate) fn add_member(alloc: Global, given: &[u8], name: &[u8], lines: &mut Lines) {
-    match read(alloc, given) {
-        Ok(doc) => add_found(&doc, doc.member(doc.root(), name), lines),
-        Err(error) => add_refusal(error, lines),
-    }
+pub(crate) fn add_member(doc: &Doc<'_>, name: &[u8], lines: &mut Lines) {
+    add_found(doc, doc.member(doc.root(), name), lines);
 }
 
 /// Whether a value is this text.
-pub(crate) fn add_text_is(alloc: Global, given: &[u8], text: &[u8], lines: &mut Lines) {
-    match read(alloc, given) {
-        Ok(doc) => add_flag(lines, doc.text_is(doc.root(), text)),
-        Err(error) => add_refusal(error, lines),
-    }
+pub(crate) fn add_text_is(doc: &Doc<'_>, text: &[u8], lines: &mut Lines) {
+    add_flag(lines, doc.text_is(doc.root(), text));
 }
 
 fn is_first_named(doc: &Doc<'_>, name: &[u8]) -> bool {
@@ -32,22 +26,14 @@ fn is_first_named(doc: &Doc<'_>, name: &[u8]) -> bool {
 }
 
 /// Whether the first member has this name.
-pub(crate) fn add_name_is(alloc: Global, given: &[u8], name: &[u8], lines: &mut Lines) {
-    match read(alloc, given) {
-        Ok(doc) => add_flag(lines, is_first_named(&doc, name)),
-        Err(error) => add_refusal(error, lines),
-    }
+pub(crate) fn add_name_is(doc: &Doc<'_>, name: &[u8], lines: &mut Lines) {
+    add_flag(lines, is_first_named(doc, name));
 }
 
 /// How deep a text is nested, and the first list or map that stands inside so many others.
-pub(crate) fn add_levels(alloc: Global, given: &[u8], depth: &[u8], lines: &mut Lines) {
-    match read(alloc, given) {
-        Ok(doc) => {
-            lines.add_number("", doc.nesting(doc.root()) as u64);
-            add_found(&doc, doc.first_inside(number_in(depth) as usize), lines);
-        }
-        Err(error) => add_refusal(error, lines),
-    }
+pub(crate) fn add_levels(doc: &Doc<'_>, depth: &[u8], lines: &mut Lines) {
+    lines.add_number("", doc.nesting(doc.root()) as u64);
+    add_found(doc, doc.first_inside(number_in(depth) as usize), lines);
 }
 
 // A text, byte by byte, by a walk and by its numbers.
@@ -85,14 +71,9 @@ fn add_texts(alloc: Global, doc: &Doc<'_>, lines: &mut Lines) -> Result<(), NoMe
 }
 
 /// The text that a string spells: as one, walked byte by byte, asked for by numbers, and appended.
-pub(crate) fn add_text(alloc: Global, given: &[u8], lines: &mut Lines) {
-    match read(alloc, given) {
-        Ok(doc) => {
-            let added = add_texts(alloc, &doc, lines);
-            note(lines, added);
-        }
-        Err(error) => add_refusal(error, lines),
-    }
+pub(crate) fn add_text(alloc: Global, doc: &Doc<'_>, lines: &mut Lines) {
+    let added = add_texts(alloc, doc, lines);
+    note(lines, added);
 }
 
 fn add_names(alloc: Global, doc: &Doc<'_>, node: Node, lines: &mut Lines) -> Result<(), NoMemory> {
@@ -109,15 +90,10 @@ fn add_names(alloc: Global, doc: &Doc<'_>, node: Node, lines: &mut Lines) -> Res
 }
 
 /// The name of the first value that the text holds: as one, and appended.
-pub(crate) fn add_name(alloc: Global, given: &[u8], lines: &mut Lines) {
-    match read(alloc, given) {
-        Ok(doc) => {
-            let node = doc.first(doc.root()).unwrap_or(doc.root());
-            let added = add_names(alloc, &doc, node, lines);
-            note(lines, added);
-        }
-        Err(error) => add_refusal(error, lines),
-    }
+pub(crate) fn add_name(alloc: Global, doc: &Doc<'_>, lines: &mut Lines) {
+    let node = doc.first(doc.root()).unwrap_or(doc.root());
+    let added = add_names(alloc, doc, node, lines);
+    note(lines, added);
 }
 
 fn add_lasts(alloc: Global, doc: &Doc<'_>, lines: &mut Lines) -> Result<(), NoMemory> {
@@ -131,15 +107,10 @@ fn add_lasts(alloc: Global, doc: &Doc<'_>, lines: &mut Lines) -> Result<(), NoMe
 }
 
 /// The last member of each name, with its bytes.
-pub(crate) fn add_last(alloc: Global, given: &[u8], lines: &mut Lines) {
-    match read(alloc, given) {
-        Ok(doc) => {
-            lines.add("names:");
-            let added = add_lasts(alloc, &doc, lines);
-            note(lines, added);
-        }
-        Err(error) => add_refusal(error, lines),
-    }
+pub(crate) fn add_last(alloc: Global, doc: &Doc<'_>, lines: &mut Lines) {
+    lines.add("names:");
+    let added = add_lasts(alloc, doc, lines);
+    note(lines, added);
 }
 
 fn add_strings(alloc: Global, text: &Text, lines: &mut Lines) -> Result<(), NoMemory> {

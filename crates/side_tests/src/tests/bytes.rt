@@ -1,7 +1,7 @@
-use super::{Device, cut, list, number_in, outcome, plays, said};
+use super::{Device, cut, list, number_in, outcome, plays, said, told_by};
 use side_base::{Blob, NoMemory, Places};
 use side_memory::{MemorySink, MemorySource, Sizes};
-use side_world::{BytesSource, Failed, GatherErr, Source, gather, send};
+use side_world::{BytesSource, Failed, Source, gather, send};
 use std::alloc::Global;
 use std::test::Fail;
 
@@ -22,8 +22,7 @@ fn counts<S: Source>(alloc: Global, source: &mut S) -> Result<Blob, NoMemory> {
 fn gathered<S: Source>(alloc: Global, source: &mut S, limit: &str) -> Result<Blob, NoMemory> {
     match gather(alloc, source, number_in(limit) as usize) {
         Ok(read) => Ok(read),
-        Err(GatherErr::Failed) => said(alloc, "failed"),
-        Err(GatherErr::NoMemory) => Err(NoMemory),
+        Err(error) => told_by(alloc, &error),
     }
 }
 
@@ -63,11 +62,11 @@ gather 5=reque
 new
 gather 5=
 new request 16 0
-gather 100=failed
+gather 100=the source failed
 new request 16 1
-gather 100=failed
+gather 100=the source failed
 new request 16 2
-gather 100=failed";
+gather 100=the source failed";
 
 #[test]
 fn a_source_gives_its_pieces(rt: HostRuntime) -> Result<(), Fail> {
@@ -87,7 +86,7 @@ impl Device for MemorySink {
 
     fn answer(&mut self, alloc: Global, name: &str, given: &str) -> Result<Blob, NoMemory> {
         match name {
-            "send" => outcome(alloc, &send(self, given.as_bytes())),
+            "send" => outcome(alloc, send(self, given.as_bytes())),
             "bytes" => Blob::from_bytes(alloc, self.bytes()),
             _ => said(alloc, "unknown"),
         }
@@ -102,13 +101,13 @@ send=ok
 send !=ok
 bytes=response!
 new 12 0
-send response=failed
+send response=the device failed
 bytes=
 new 12 1
-send response=failed
+send response=the device failed
 bytes=r
 new 12 2
-send response=failed
+send response=the device failed
 bytes=res
 new room
 send response=ok

@@ -1,4 +1,4 @@
-use super::{Device, cut, digits, list, number_in, outcome, plays, said};
+use super::{Device, cut, digits, list, number_in, outcome, plays, said, told_by};
 use side_base::{Blob, NoMemory};
 use side_memory::{MemoryDisk, Tear};
 use side_world::{Disk, Failed};
@@ -55,14 +55,14 @@ fn byte_at(disk: &mut MemoryDisk, at: usize) -> Result<u8, Failed> {
 fn read(alloc: Global, disk: &mut MemoryDisk, at: usize) -> Result<Blob, NoMemory> {
     match byte_at(disk, at) {
         Ok(byte) => Blob::from_bytes(alloc, &[byte]),
-        Err(Failed) => said(alloc, "failed"),
+        Err(failed) => told_by(alloc, &failed),
     }
 }
 
 fn len(alloc: Global, disk: &mut MemoryDisk) -> Result<Blob, NoMemory> {
     match disk.len() {
         Ok(len) => digits(alloc, len),
-        Err(Failed) => said(alloc, "failed"),
+        Err(failed) => told_by(alloc, &failed),
     }
 }
 
@@ -78,8 +78,8 @@ impl Device for MemoryDisk {
         let number = number_in(first) as usize;
         match name {
             "len" => len(alloc, self),
-            "sync" => outcome(alloc, &self.sync()),
-            "write" => outcome(alloc, &write(self, number, rest.as_bytes())),
+            "sync" => outcome(alloc, self.sync()),
+            "write" => outcome(alloc, write(self, number, rest.as_bytes())),
             "read" => read(alloc, self, number),
             "image" => image(alloc, self, number, rest),
             _ => said(alloc, "unknown"),
@@ -103,16 +103,16 @@ image 1=abXYZ
 new  2
 write 0 abc=ok
 write 3 de=ok
-write 1 --=failed
+write 1 --=the device failed
 image 3 F9 F9 F9=a--de
 image 3 N? F0 F0=???
 image 3 F0 F2 F0=
 image 3 B1 B1 F0=\0\0c\0e
 new ab 0123
-len=failed
-read 1=failed
-write 2 c=failed
-sync=failed
+len=the device failed
+read 1=the device failed
+write 2 c=the device failed
+sync=the device failed
 len=2
 read 1=b
 image 1=abc";

@@ -1,7 +1,7 @@
-use super::{Device, cut, digits, list, plays, said};
+use super::{Device, cut, digits, list, plays, said, told_by};
 use side_base::{Blob, Names, NoMemory, Text};
 use side_memory::MemoryFiles;
-use side_world::{Files, FilesCall, FilesErr};
+use side_world::{Files, FilesCall};
 use std::alloc::Global;
 use std::test::Fail;
 
@@ -15,28 +15,19 @@ fn joined(alloc: Global, names: &Names) -> Result<Blob, NoMemory> {
     Ok(text)
 }
 
-// The name of a refusal.
-fn refusal(alloc: Global, error: &FilesErr) -> Result<Blob, NoMemory> {
-    match error {
-        FilesErr::Failed => said(alloc, "failed"),
-        FilesErr::TooLong { len } => said(alloc, format!(in alloc; "too long: {len}")?.as_str()),
-        FilesErr::NoMemory => Err(NoMemory),
-    }
-}
-
-// What a listing answers: its names, or the name of the refusal.
+// What a listing answers: its names, or what the refusal says.
 fn listed(alloc: Global, files: &mut MemoryFiles, folder: &str) -> Result<Blob, NoMemory> {
     match files.list(folder.as_bytes()) {
         Ok(names) => joined(alloc, &names),
-        Err(error) => refusal(alloc, &error),
+        Err(error) => told_by(alloc, &error),
     }
 }
 
-// What a read answers: the bytes, or the name of the refusal.
+// What a read answers: the bytes, or what the refusal says.
 fn read(alloc: Global, files: &mut MemoryFiles, name: &str) -> Result<Blob, NoMemory> {
     match files.read(b"d", name.as_bytes()) {
         Ok(bytes) => Ok(bytes),
-        Err(error) => refusal(alloc, &error),
+        Err(error) => told_by(alloc, &error),
     }
 }
 
@@ -113,9 +104,9 @@ add .yaml
 add yaml
 add ab.yaml
 list d=.yaml,B.yaml,a.yaml,ab.yaml,b.yml,
-list d=failed
+list d=the files failed
 list e=
-list f=failed
+list f=the files failed
 told=llll
 new 1
 add a.yaml
@@ -123,9 +114,9 @@ add b.yaml
 add c 1048576
 add o 1048577
 read b.yaml=b.yaml
-read b.yaml=failed
-read z.yaml=failed
-read o=too long: 1048577
+read b.yaml=the files failed
+read z.yaml=the files failed
+read o=a file of 1048577 bytes is too long
 len c=1048576
 told=rrrrr";
 
