@@ -185,7 +185,8 @@ fn play_texts<R: AllocGlobal + Env + Files + Print, T: Texts>(rt: &R, texts: &T)
 /// Plays the cases of the files that the words of the program name. Prints each that differs, and at the end how many there were.
 ///
 /// A case that differs is played again, since memory may have lacked, and what is wrong then counts; but not one that begins with a section
-/// `once`, unless memory lacked. It prints too how many were right only then, if any were; where memory suffices none is.
+/// `once`, unless memory lacked. It prints too how many were right only then, if any were: there memory lacked, or what comes
+/// changes from run to run.
 pub fn play_cases<R: AllocGlobal + Env + Files + Print, P: Player>(
     rt: &R,
     player: &P,

@@ -63,7 +63,7 @@ pub fn number_in(text: &str) -> u32
     u32::try_from(number_of(digits)).unwrap_or(0)
 }
 
-/// What bytes say, their escapes undone; `no escape` where a backslash begins none, so that such a case differs.
+/// What bytes say, their escapes undone; the words `no escape` where a backslash begins none.
 pub fn said(alloc: Global, bytes: &[u8]) -> Result<Blob, NoMemory>
     ensures { IfOk result (λ text. text ≡ said_in bytes.now) }
 {
@@ -110,8 +110,8 @@ fn add_section(all: &mut Blob, alloc: Global, section: &Section<'_>) -> Result<(
     add_times(all, text.bytes(), times_of(section))
 }
 
-/// What the sections of this word say, one behind the other, each as many times as the number in its name says.
-pub fn joined(alloc: Global, sections: &[Section<'_>], word: &str) -> Result<Blob, NoMemory>
+// What the sections of this word say, one behind the other, each as many times as the number in its name says.
+fn joined(alloc: Global, sections: &[Section<'_>], word: &str) -> Result<Blob, NoMemory>
     ensures { IfOk result (λ all. all ≡ joined_of word.now sections.now) }
 {
     let mut all = Blob::new(alloc);
@@ -123,7 +123,8 @@ pub fn joined(alloc: Global, sections: &[Section<'_>], word: &str) -> Result<Blo
     Ok(all)
 }
 
-/// The same, and nothing where memory lacks.
+/// What the sections of this word say, one behind the other, each as many times as the number in its name says; nothing where memory
+/// lacks.
 pub fn joined_text(alloc: Global, sections: &[Section<'_>], word: &str) -> Blob
     ensures { IsOrLacks (joined_of word.now sections.now) result }
 {

@@ -39,6 +39,7 @@ impl Tally {
         ensures right { wrong.now ≡ [] → (self.new.differ ≡ self.old.differ) × (self.new.lines ≡ self.old.lines) }
         ensures again { again ≡ true → wrong.now ≡ [] → suc self.old.again < 2 ^ 32 → self.new.again ≡ suc self.old.again }
         ensures at_once { again ≡ false → self.new.again ≡ self.old.again }
+        ensures still_wrong { (wrong.now ≡ []) ⊎ (self.new.again ≡ self.old.again) }
         ensures differ { suc self.old.differ < 2 ^ 32 → (wrong.now ≡ []) ⊎ (self.new.differ ≡ suc self.old.differ) }
         ensures told { (wrong.now ≡ []) ⊎ Added (line (codes "== ") (shown title.now) ++ line wrong.now []) self.old.lines self.new.lines }
     {

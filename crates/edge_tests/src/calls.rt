@@ -116,11 +116,14 @@ fn answered_by<
 ) -> io::Result<Text> {
     let alloc = rt.alloc();
     let mut link = TcpLink::new(rt);
-    let (_, text) = join(
+    let (has_served, text) = join(
         &rt,
         || has_served(&rt, listener, reply, wait_ms),
         || told(&mut link, alloc, request, limit_ms),
     );
+    if !has_served {
+        return Ok(Text::from_static(alloc, "the server failed"));
+    }
     Ok(text?)
 }
 

@@ -97,7 +97,9 @@ fn judge_bytes<W: Threads + Wait + Sync>(
 ) {
     let mut reads = Sizes::new(alloc);
     for _ in 0..joined_text(alloc, sections, "input").len() {
-        let _ = reads.push(1);
+        if reads.push(1).is_err() {
+            lines.lack();
+        }
     }
     judge(rt, alloc, sections, reads, lines);
 }
@@ -111,7 +113,9 @@ fn judge_cuts<W: Threads + Wait + Sync>(
 ) {
     for place in 1..=joined_text(alloc, sections, "input").len().max(1) {
         let mut reads = Sizes::new(alloc);
-        let _ = reads.push(place);
+        if reads.push(place).is_err() {
+            lines.lack();
+        }
         judge(rt, alloc, sections, reads, lines);
     }
 }

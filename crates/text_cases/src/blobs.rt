@@ -41,7 +41,10 @@ pub(crate) fn step(blob: &mut Blob, word: &[u8], lines: &mut Lines) -> Result<()
             ask(blob, *what, lines);
             Ok(())
         }
-        _ => Err(NoMemory),
+        _ => {
+            lines.add(" no such step");
+            Ok(())
+        }
     }
 }
 

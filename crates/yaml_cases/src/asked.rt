@@ -53,7 +53,8 @@ fn add_why(alloc: Global, error: &YamlErr, section: &Section<'_>, lines: &mut Li
     match section.word {
         "told" => add_told(alloc, error, lines),
         "refused" => add_refusal(alloc, error, lines),
-        _ => lines.add_line("refused", ""),
+        "tree" | "count" | "doc" | "get" | "at" => lines.add_line("refused", ""),
+        _ => lines.add_line("no such section", ""),
     }
 }
 
