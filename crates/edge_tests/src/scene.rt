@@ -192,7 +192,7 @@ impl<
             } else {
                 "another thing"
             };
-            assert_eq!(self.rt; told, step);
+            assert_eq!(self.rt; told, step, "{steps}");
         }
         Ok(())
     }
@@ -308,7 +308,7 @@ fn ask(client: &mut TcpStream, what: u8, word: &[u8]) -> io::Result<bool> {
 }
 
 /// The number that a word writes; a great one where it writes none.
-fn number(word: &[u8]) -> usize {
+pub(crate) fn number(word: &[u8]) -> usize {
     match str::from_utf8(word) {
         Ok(text) => text.parse().unwrap_or(usize::MAX),
         Err(_) => usize::MAX,

@@ -1,7 +1,14 @@
-use crate::scene::plays;
+//! Scenes at a door, and clients that hold its workers, each a line of a text.
+use crate::scene::{number, plays};
 use crate::slow::{Slow, answered};
 use net_edge::DoorLimits;
+use std::io;
+use std::net::{Net, TcpListener, TcpStream};
+use std::process::Abort;
+use std::sync::Wait;
 use std::test::Fail;
+use std::thread::Threads;
+use std::time::Clock;
 
 /// Limits of a door that is soon out of patience.
 fn short() -> DoorLimits {
@@ -23,144 +30,137 @@ fn patient() -> DoorLimits {
     }
 }
 
-#[test]
-fn a_connection_comes_back_with_each_request_to_any_worker(rt: HostRuntime) -> Result<(), Fail> {
-    let steps = "0+ 0>first. a=6 0<6 0>second. b=7 0<6 0>third. b=6 0<6 0>last. a=5 0<6";
-    Ok(plays(rt, DoorLimits::standard(), 2, steps)?)
+/// The limits that a word names.
+fn limits_of(word: &str) -> DoorLimits {
+    match word {
+        "short" => short(),
+        "patient" => patient(),
+        "soon-idle" => DoorLimits {
+            idle_ms: 1,
+            ..short()
+        },
+        "small" => DoorLimits {
+            places: 40,
+            ..short()
+        },
+        "small-and-patient" => DoorLimits {
+            places: 40,
+            crowded_ms: 60_000,
+            ..patient()
+        },
+        _ => DoorLimits::standard(),
+    }
 }
 
-#[test]
-fn two_connections_are_served_by_one_worker(rt: HostRuntime) -> Result<(), Fail> {
-    let steps = "0+ 1+ 0>first. a=6 1>second. a=7 1>third. a=6 0>last. a=5 0<12 1<12";
-    Ok(plays(rt, DoorLimits::standard(), 2, steps)?)
+/// The clients that hold workers which a word names.
+fn slow_of(word: &str) -> Slow {
+    match word {
+        "drips" => Slow::Drips,
+        "floods" => Slow::Floods,
+        "floods-alone" => Slow::FloodsAlone,
+        "whole" => Slow::Whole,
+        "left" => Slow::Left,
+        count => Slow::Halves(number(count.as_bytes())),
+    }
 }
 
-#[test]
-fn a_connection_that_its_client_closed_comes_to_its_end(rt: HostRuntime) -> Result<(), Fail> {
-    let steps = "0+ 0>first. a=6 0<6 0x b=0 1+ 1>second. b=7 1<6";
-    Ok(plays(rt, DoorLimits::standard(), 2, steps)?)
+/// The first word of a line, and what stands behind it.
+fn cut(line: &str) -> (&str, &str) {
+    line.split_once(' ').unwrap_or((line, ""))
 }
 
-#[test]
-fn the_rest_of_a_request_is_not_awaited_for_ever(rt: HostRuntime) -> Result<(), Fail> {
-    let steps = "0+ 0>half a=4 0<0 1+ 1>half b=4 1<0 2+ 2>whole. a=6 2<6";
-    Ok(plays(rt, short(), 2, steps)?)
+/// The number that a word writes.
+fn count_of(word: &str) -> u32 {
+    word.parse().unwrap_or(0)
 }
 
-#[test]
-fn other_work_is_told_but_not_twice_in_a_row(rt: HostRuntime) -> Result<(), Fail> {
-    let steps = "0+ 0>first. a^ b~ a^ b=6 b~ 0<6";
-    Ok(plays(rt, DoorLimits::standard(), 2, steps)?)
+/// Plays the steps behind the limits of a door and its workers.
+fn play_line<
+    R: Net<Listener = TcpListener, Stream = TcpStream> + Abort + Wait + AllocGlobal + Copy + Drop,
+>(rt: R, line: &str) -> io::Result<()> {
+    let (limits, rest) = cut(line);
+    let (workers, steps) = cut(rest);
+    plays(rt, limits_of(limits), count_of(workers), steps)
 }
 
-#[test]
-fn a_shut_door_is_told_to_all(rt: HostRuntime) -> Result<(), Fail> {
-    let steps = "0+ 0>first. a=6 0<6 ! a# b# b# a#";
-    Ok(plays(rt, DoorLimits::standard(), 2, steps)?)
+/// How many bytes are answered, by a line: behind the limits of a door and its workers stand the clients that hold these.
+fn answered_by_line<
+    R: Threads
+        + Net<Listener = TcpListener, Stream = TcpStream>
+        + Clock
+        + Abort
+        + Wait
+        + AllocGlobal
+        + Copy
+        + Drop
+        + Send
+        + Sync,
+>(rt: R, line: &str) -> io::Result<usize> {
+    let (limits, rest) = cut(line);
+    let (workers, slow) = cut(rest);
+    answered(rt, limits_of(limits), count_of(workers), slow_of(slow))
 }
 
-#[test]
-fn what_idles_too_long_is_closed(rt: HostRuntime) -> Result<(), Fail> {
-    let limits = DoorLimits {
-        idle_ms: 1,
-        ..short()
-    };
-    Ok(plays(rt, limits, 2, "0+ 0>first. a=6 0<6 a~ a~ a~ a~ 0<0")?)
-}
+/// What is shown, behind `#`, and a line that is played.
+const SCENES: &str = "\
+# A connection comes back with each request, to any worker.
+standard 2 0+ 0>first. a=6 0<6 0>second. b=7 0<6 0>third. b=6 0<6 0>last. a=5 0<6
+# Two connections are served by one worker.
+standard 2 0+ 1+ 0>first. a=6 1>second. a=7 1>third. a=6 0>last. a=5 0<12 1<12
+# A connection that its client closed comes to its end.
+standard 2 0+ 0>first. a=6 0<6 0x b=0 1+ 1>second. b=7 1<6
+# The rest of a request is not awaited for ever.
+short 2 0+ 0>half a=4 0<0 1+ 1>half b=4 1<0 2+ 2>whole. a=6 2<6
+# Other work is told, but not twice in a row.
+standard 2 0+ 0>first. a^ b~ a^ b=6 b~ 0<6
+# A shut door is told to all.
+standard 2 0+ 0>first. a=6 0<6 ! a# b# b# a#
+# What idles too long is closed.
+soon-idle 2 0+ 0>first. a=6 0<6 a~ a~ a~ a~ 0<0
+# There are more connections than places; the last client may be refused at first.
+small 1 +40 - 0+ 0>first. a@6 0<6
+# Half a request does not hold up other work that was heard of.
+patient 1 *1 a^ a~ a^ a:4 a~
+# Half a request does not hold up those who wait to connect: the first of sixty finds no place, and the others wait.
+small-and-patient 1 0+ a~ *60 0>half a:4
+# A client that sends no more is answered, and its connection closed.
+standard 2 0+ 0>first. 0| a=6 0<6 0<0 1+ 1>second. 1| b=7 1<6 1<0
+# What comes while a worker serves is not lost.
+standard 2 0+ 0>first. &second. 0<6 b:7 0<6";
 
-// The last client may be refused at first.
 #[test]
-fn there_are_more_connections_than_places(rt: HostRuntime) -> Result<(), Fail> {
-    let limits = DoorLimits {
-        places: 40,
-        ..short()
-    };
-    Ok(plays(rt, limits, 1, "+40 - 0+ 0>first. a@6 0<6")?)
-}
-
-#[test]
-fn four_half_requests_leave_a_worker_to_a_fifth_client(rt: HostRuntime) -> Result<(), Fail> {
-    assert_eq!(rt;
-        answered(rt, DoorLimits::standard(), 4, Slow::Halves(4))?,
-        6
-    );
+fn each_scene_comes_true(rt: HostRuntime) -> Result<(), Fail> {
+    for line in SCENES.lines() {
+        if !line.starts_with('#') {
+            play_line(rt, line)?;
+        }
+    }
     Ok(())
 }
 
-#[test]
-fn sixty_half_requests_leave_a_worker_to_another_client(rt: HostRuntime) -> Result<(), Fail> {
-    assert_eq!(rt;
-        answered(rt, DoorLimits::standard(), 4, Slow::Halves(60))?,
-        6
-    );
-    Ok(())
-}
+/// What is shown, behind `#`, and a line that is played, with the bytes that are answered behind its last `=`.
+const HELD: &str = "\
+# Four half requests leave a worker to a fifth client, and sixty.
+standard 4 4=6
+standard 4 60=6
+# Four slow requests do.
+standard 4 drips=6
+# Four requests without an end do.
+standard 4 floods=6
+# Steady senders keep their workers where nobody else wants one.
+standard 4 floods-alone=24
+# Half a request does not hold up the end.
+patient 1 left=0
+# A request in halves is followed by others.
+standard 1 whole=18";
 
 #[test]
-fn four_slow_requests_leave_a_worker_to_a_fifth_client(rt: HostRuntime) -> Result<(), Fail> {
-    assert_eq!(rt; answered(rt, DoorLimits::standard(), 4, Slow::Drips)?, 6);
-    Ok(())
-}
-
-#[test]
-fn four_requests_without_an_end_leave_a_worker_to_a_fifth_client(
-    rt: HostRuntime,
-) -> Result<(), Fail> {
-    assert_eq!(rt; answered(rt, DoorLimits::standard(), 4, Slow::Floods)?, 6);
-    Ok(())
-}
-
-#[test]
-fn steady_senders_keep_their_workers_where_nobody_else_wants_one(
-    rt: HostRuntime,
-) -> Result<(), Fail> {
-    assert_eq!(rt;
-        answered(rt, DoorLimits::standard(), 4, Slow::FloodsAlone)?,
-        24
-    );
-    Ok(())
-}
-
-#[test]
-fn half_a_request_does_not_hold_up_other_work_that_was_heard_of(
-    rt: HostRuntime,
-) -> Result<(), Fail> {
-    Ok(plays(rt, patient(), 1, "*1 a^ a~ a^ a:4 a~")?)
-}
-
-// The first of sixty finds no place, and the others wait.
-#[test]
-fn half_a_request_does_not_hold_up_those_who_wait_to_connect(rt: HostRuntime) -> Result<(), Fail> {
-    let limits = DoorLimits {
-        places: 40,
-        crowded_ms: 60_000,
-        ..patient()
-    };
-    Ok(plays(rt, limits, 1, "0+ a~ *60 0>half a:4")?)
-}
-
-#[test]
-fn half_a_request_does_not_hold_up_the_end(rt: HostRuntime) -> Result<(), Fail> {
-    assert_eq!(rt; answered(rt, patient(), 1, Slow::Left)?, 0);
-    Ok(())
-}
-
-#[test]
-fn a_client_that_sends_no_more_is_answered_and_its_connection_closed(
-    rt: HostRuntime,
-) -> Result<(), Fail> {
-    let steps = "0+ 0>first. 0| a=6 0<6 0<0 1+ 1>second. 1| b=7 1<6 1<0";
-    Ok(plays(rt, DoorLimits::standard(), 2, steps)?)
-}
-
-#[test]
-fn what_comes_while_a_worker_serves_is_not_lost(rt: HostRuntime) -> Result<(), Fail> {
-    let steps = "0+ 0>first. &second. 0<6 b:7 0<6";
-    Ok(plays(rt, DoorLimits::standard(), 2, steps)?)
-}
-
-#[test]
-fn a_request_in_halves_is_followed_by_others(rt: HostRuntime) -> Result<(), Fail> {
-    assert_eq!(rt; answered(rt, DoorLimits::standard(), 1, Slow::Whole)?, 18);
+fn clients_that_hold_workers_hold_up_nobody_else(rt: HostRuntime) -> Result<(), Fail> {
+    for line in HELD.lines() {
+        if let Some((line, wanted)) = line.split_once('=') {
+            let bytes = answered_by_line(rt, line)?;
+            assert_eq!(rt; bytes, number(wanted.as_bytes()), "{line}");
+        }
+    }
     Ok(())
 }
