@@ -2,7 +2,7 @@
 use crate::scene::{number, plays};
 use crate::slow::{Slow, answered};
 use net_edge::DoorLimits;
-use std::io;
+use std::io::{self, ErrorKind};
 use std::net::{Net, TcpListener, TcpStream};
 use std::process::Abort;
 use std::sync::Wait;
@@ -30,37 +30,38 @@ fn patient() -> DoorLimits {
     }
 }
 
-/// The limits that a word names.
-fn limits_of(word: &str) -> DoorLimits {
+/// The limits that a word names, if it names some.
+fn limits_of(word: &str) -> io::Result<DoorLimits> {
     match word {
-        "short" => short(),
-        "patient" => patient(),
-        "soon-idle" => DoorLimits {
+        "standard" => Ok(DoorLimits::standard()),
+        "short" => Ok(short()),
+        "patient" => Ok(patient()),
+        "soon-idle" => Ok(DoorLimits {
             idle_ms: 1,
             ..short()
-        },
-        "small" => DoorLimits {
+        }),
+        "small" => Ok(DoorLimits {
             places: 40,
             ..short()
-        },
-        "small-and-patient" => DoorLimits {
+        }),
+        "small-and-patient" => Ok(DoorLimits {
             places: 40,
             crowded_ms: 60_000,
             ..patient()
-        },
-        _ => DoorLimits::standard(),
+        }),
+        _ => Err(io::Error::from(ErrorKind::InvalidInput)),
     }
 }
 
-/// The clients that hold workers which a word names.
-fn slow_of(word: &str) -> Slow {
+/// The clients that hold workers which a word names, if it names some.
+fn slow_of(word: &str) -> io::Result<Slow> {
     match word {
-        "drips" => Slow::Drips,
-        "floods" => Slow::Floods,
-        "floods-alone" => Slow::FloodsAlone,
-        "whole" => Slow::Whole,
-        "left" => Slow::Left,
-        count => Slow::Halves(number(count.as_bytes())),
+        "drips" => Ok(Slow::Drips),
+        "floods" => Ok(Slow::Floods),
+        "floods-alone" => Ok(Slow::FloodsAlone),
+        "whole" => Ok(Slow::Whole),
+        "left" => Ok(Slow::Left),
+        count => Ok(Slow::Halves(count_of(count)? as usize)),
     }
 }
 
@@ -69,9 +70,12 @@ fn cut(line: &str) -> (&str, &str) {
     line.split_once(' ').unwrap_or((line, ""))
 }
 
-/// The number that a word writes.
-fn count_of(word: &str) -> u32 {
-    word.parse().unwrap_or(0)
+/// The number, one at least, that a word writes, if it writes one.
+fn count_of(word: &str) -> io::Result<u32> {
+    match word.parse() {
+        Ok(count) if count > 0 => Ok(count),
+        _ => Err(io::Error::from(ErrorKind::InvalidInput)),
+    }
 }
 
 /// Plays the steps behind the limits of a door and its workers.
@@ -80,7 +84,7 @@ fn play_line<
 >(rt: R, line: &str) -> io::Result<()> {
     let (limits, rest) = cut(line);
     let (workers, steps) = cut(rest);
-    plays(rt, limits_of(limits), count_of(workers), steps)
+    plays(rt, limits_of(limits)?, count_of(workers)?, steps)
 }
 
 /// How many bytes are answered, by a line: behind the limits of a door and its workers stand the clients that hold these.
@@ -98,7 +102,7 @@ fn answered_by_line<
 >(rt: R, line: &str) -> io::Result<usize> {
     let (limits, rest) = cut(line);
     let (workers, slow) = cut(rest);
-    answered(rt, limits_of(limits), count_of(workers), slow_of(slow))
+    answered(rt, limits_of(limits)?, count_of(workers)?, slow_of(slow)?)
 }
 
 /// What is shown, behind `#`, and a line that is played.
@@ -138,7 +142,7 @@ fn each_scene_comes_true(rt: HostRuntime) -> Result<(), Fail> {
     Ok(())
 }
 
-/// What is shown, behind `#`, and a line that is played, with the bytes that are answered behind its last `=`.
+/// What is shown, behind `#`, and a line that is played, with the bytes that are answered behind its `=`.
 const HELD: &str = "\
 # Four half requests leave a worker to a fifth client, and sixty.
 standard 4 4=6
@@ -157,7 +161,8 @@ standard 1 whole=18";
 #[test]
 fn clients_that_hold_workers_hold_up_nobody_else(rt: HostRuntime) -> Result<(), Fail> {
     for line in HELD.lines() {
-        if let Some((line, wanted)) = line.split_once('=') {
+        if !line.starts_with('#') {
+            let (line, wanted) = line.split_once('=').unwrap_or((line, ""));
             let bytes = answered_by_line(rt, line)?;
             assert_eq!(rt; bytes, number(wanted.as_bytes()), "{line}");
         }

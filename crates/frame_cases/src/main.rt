@@ -3,7 +3,9 @@
 #![tactic(auto)]
 
 mod given;
+mod held;
 mod messages;
+mod midway;
 mod playing;
 mod routing;
 mod sets;

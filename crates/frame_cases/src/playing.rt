@@ -10,7 +10,7 @@ use std::alloc::Global;
 
 /// The words of sections, but for the methods.
 const WORDS: &str =
-    "stream pieces cut gives response field body head-only close written request closes target answer shutdown query set has allow error text";
+    "stream pieces cut held first gives response field body head-only close written request closes target answer shutdown query set has allow error text";
 
 fn add_unknown(sections: &[Section<'_>], lines: &mut Lines) {
     for section in sections {

@@ -1,6 +1,8 @@
 // What a framer gives for a stream.
 
 use crate::given::{has, named};
+use crate::held::play_held;
+use crate::midway::play_first;
 use case_text::{Lines, Section, joined_text, name_in, number_in};
 use http_frames::{FrameErr, Framer, Step, closes};
 use side_base::{NoMemory, Request};
@@ -72,8 +74,8 @@ fn next(framer: &mut Framer) -> Result<Step, FrameErr> {
     }
 }
 
-// Feeds a piece. A call that found no memory is made again.
-fn feed(framer: &mut Framer, piece: &[u8]) -> Result<(), NoMemory> {
+/// Feeds a piece. A call that found no memory is made again.
+pub(crate) fn feed(framer: &mut Framer, piece: &[u8]) -> Result<(), NoMemory> {
     match framer.feed(piece) {
         Ok(()) => Ok(()),
         Err(_) => framer.feed(piece),
@@ -88,8 +90,8 @@ fn ask(framer: &mut Framer, text: &mut Lines) -> After {
     }
 }
 
-// Writes what a framer gives, up to where it needs more. Whether the stream goes on.
-fn ask_all(framer: &mut Framer, text: &mut Lines) -> bool {
+/// Writes what a framer gives, up to where it needs more. Whether the stream goes on.
+pub(crate) fn ask_all(framer: &mut Framer, text: &mut Lines) -> bool {
     for _ in 0..u64::MAX {
         match ask(framer, text) {
             After::More => {}
@@ -182,13 +184,23 @@ fn play_ways(
     }
     let sizes = name_in(sections, "pieces").unwrap_or(SIZES);
     play_sizes(alloc, bytes, sizes, wanted, lines);
+    play_first(alloc, sections, bytes, lines);
 }
 
-/// Adds where a stream does not give what it should, in pieces of each size and, where the case says so, cut in two at each place.
-pub(crate) fn play_stream(alloc: Global, sections: &[Section<'_>], lines: &mut Lines) {
+// Adds where a stream does not give what it should, in pieces of each size and, where the case says so, cut in two at each place.
+fn play_whole(alloc: Global, sections: &[Section<'_>], wanted: &[u8], lines: &mut Lines) {
     let bytes = joined_text(alloc, sections, "stream");
-    let wanted = named(alloc, sections, "gives");
-    play_ways(alloc, sections, bytes.bytes(), wanted.bytes(), lines);
-    drop(wanted);
+    play_ways(alloc, sections, bytes.bytes(), wanted, lines);
     drop(bytes);
+}
+
+/// Adds where a stream does not give what it should, or more or less of it is held than the case says.
+pub(crate) fn play_stream(alloc: Global, sections: &[Section<'_>], lines: &mut Lines) {
+    let wanted = named(alloc, sections, "gives");
+    if has(sections, "held") {
+        play_held(alloc, sections, wanted.bytes(), lines);
+    } else {
+        play_whole(alloc, sections, wanted.bytes(), lines);
+    }
+    drop(wanted);
 }

@@ -3,7 +3,7 @@ use Rattle.http_frames.specs.declared.step.Step.{Step}
 use Rattle.http_frames.specs.declared.step.Step.TheVariants as step
 use Rattle.http_frames.specs.declared.refusal.FrameErr.{FrameErr}
 use Rattle.http_frames.specs.Framing.{State, waiting, fed, IsNext}
-use Rattle.frame_tests.proofs.tests.midway.first_request.Goals as goal
+use Rattle.frame_cases.proofs.midway.first_request.Goals as goal
 
 pub returns-in-Request : goal.returns-in-Request
 returns-in-Request c =

@@ -1,12 +1,14 @@
+// A stream that is left behind its first request.
 ghost use Rattle.std.specs.Prelude.{◌≡◌, ℕ, List, [], ◌∷◌, IfOk, IfSome};
 ghost use Rattle.http_frames.specs.HeadRules.{request_of};
 ghost use Rattle.http_frames.specs.Streams.{Whole, Begins};
 
+use crate::given::{has, named};
+use case_text::{Lines, Section};
 use http_frames::laws::{answers_go_on, bytes_go_on};
 use http_frames::{FrameErr, Framer, Step};
 use side_base::Request;
 use std::alloc::Global;
-use std::test::Fail;
 
 /// The first request of the bytes, where it is whole and does not ask for `Continue`: what it gives begins the bytes, and the stream ends there, whatever
 /// follows.
@@ -24,9 +26,23 @@ fn first_request(alloc: Global, bytes: &[u8]) -> Result<Option<Request>, FrameEr
     }
 }
 
-#[test]
-fn a_stream_may_be_left(rt: HostRuntime) -> Result<(), Fail> {
-    let found = first_request(rt.alloc(), b"GET /a HTTP/1.1\r\nHost: a\r\n\r\nGET /b HT")?;
-    assert!(rt; found.is_some_and(|request| request.target.bytes() == b"/a".as_slice()));
-    Ok(())
+// Adds where the first request has another target than is wanted.
+fn compare_first(alloc: Global, bytes: &[u8], wanted: &[u8], lines: &mut Lines) {
+    match first_request(alloc, bytes) {
+        Ok(Some(request)) => {
+            lines.compare("first", wanted, request.target.bytes());
+            drop(request);
+        }
+        Ok(None) => lines.compare("first", wanted, b"none"),
+        Err(error) => lines.compare("first", wanted, error.name().as_bytes()),
+    }
+}
+
+/// Adds where a case names the target of a stream's first request and another comes.
+pub(crate) fn play_first(alloc: Global, sections: &[Section<'_>], bytes: &[u8], lines: &mut Lines) {
+    if has(sections, "first") {
+        let wanted = named(alloc, sections, "first");
+        compare_first(alloc, bytes, wanted.bytes(), lines);
+        drop(wanted);
+    }
 }

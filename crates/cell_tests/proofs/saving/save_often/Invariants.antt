@@ -1,6 +1,6 @@
 use Rattle.turn_cell.specs.Sitting.{IsSeatOf}
 use Rattle.turn_cell.specs.Growth.{Stays}
-use Rattle.store_tests.proofs.saving.save_often.Given as goal
+use Rattle.cell_tests.proofs.saving.save_often.Given as goal
 
 abbrev pub invariant-loop : goal.invariant-loop
 invariant-loop g l = IsSeatOf l.cell l.seat × Stays l.initial.seat l.seat

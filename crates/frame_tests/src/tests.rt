@@ -1,2 +1,0 @@
-mod held;
-mod midway;
