@@ -26,23 +26,22 @@ fn first_request(alloc: Global, bytes: &[u8]) -> Result<Option<Request>, FrameEr
     }
 }
 
-// Adds where the first request has another target than is wanted.
-fn compare_first(alloc: Global, bytes: &[u8], wanted: &[u8], lines: &mut Lines) {
-    match first_request(alloc, bytes) {
-        Ok(Some(request)) => {
-            lines.compare("first", wanted, request.target.bytes());
-            drop(request);
-        }
-        Ok(None) => lines.compare("first", wanted, b"none"),
-        Err(error) => lines.compare("first", wanted, error.name().as_bytes()),
+// The target of the first request, `none`, or the name of a refusal.
+fn text_of(first: &Result<Option<Request>, FrameErr>) -> &[u8] {
+    match first {
+        Ok(Some(request)) => request.target.bytes(),
+        Ok(None) => b"none",
+        Err(error) => error.name().as_bytes(),
     }
 }
 
 /// Adds where a case names the target of a stream's first request and another comes.
 pub(crate) fn play_first(alloc: Global, sections: &[Section<'_>], bytes: &[u8], lines: &mut Lines) {
     if has(sections, "first") {
+        let first = first_request(alloc, bytes);
         let wanted = named(alloc, sections, "first");
-        compare_first(alloc, bytes, wanted.bytes(), lines);
+        lines.compare("first", wanted.bytes(), text_of(&first));
         drop(wanted);
+        drop(first);
     }
 }
