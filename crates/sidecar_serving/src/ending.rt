@@ -1,6 +1,5 @@
 ghost use Rattle.std.specs.Prelude.{◌≡◌};
 ghost use Rattle.sidecar_serving.specs.Ending.{end_of, is_failed, served_of, spent_by, turned_of};
-ghost use Rattle.sidecar_workers.specs.Works.{exit_of_served, exit_of_turned};
 
 use crate::End;
 use conn_serve::Ended;
@@ -33,27 +32,6 @@ pub(crate) fn turned_of(turn: &Turn) -> Turned
         Turn::Delivered { .. } | Turn::Idle { .. } => Turned::Went,
         Turn::Held => Turned::NoMemory,
         Turn::Exhausted { count } => Turned::Spent { count: *count },
-    }
-}
-
-/// How a worker ends that answered so, if it does.
-pub(crate) fn exit_after_serve(served: Served) -> Option<Exit>
-    ensures { result ≡ exit_of_served served }
-{
-    match served {
-        Served::Asked => Some(Exit::Asked),
-        Served::Spent { count } => Some(Exit::Spent { count }),
-        Served::Next | Served::NoMemory => None,
-    }
-}
-
-/// The same after a turn.
-pub(crate) fn exit_after_turn(turned: Turned) -> Option<Exit>
-    ensures { result ≡ exit_of_turned turned }
-{
-    match turned {
-        Turned::Spent { count } => Some(Exit::Spent { count }),
-        Turned::Went | Turned::NoMemory => None,
     }
 }
 

@@ -2,13 +2,13 @@ ghost use Rattle.sidecar_core.specs.Did.{Standing};
 ghost use Rattle.state_core.specs.declared.store.Store.{Store as StoreRecord};
 
 use crate::due::{Due, set, take};
-use crate::ending::{exit_after_serve, exit_after_turn, served_of, turned_of};
+use crate::ending::{served_of, turned_of};
 use crate::serving::Serving;
 use keeper_core::Keeper;
 use rand_core::Rng;
 use side_world::{Accepted, Acceptor, Clock, Link};
 use sidecar_core::{ObjectKinds, deliver, serve_connection};
-use sidecar_workers::{Got, Served, Turned, Work};
+use sidecar_workers::{Got, Served, Turned, Work, after_serve, after_turn};
 use state_core::Store;
 use std::sync::Wait;
 
@@ -65,7 +65,7 @@ impl<K: Keeper, A: Acceptor, L: Link, C: Clock, R: Rng> Work for Serving<'_, K, 
                 );
                 self.acceptor.end(source, sink);
                 let served = served_of(ended);
-                self.exit = exit_after_serve(served);
+                self.exit = after_serve(served);
                 if self.exit.is_some() {
                     self.acceptor.leave();
                     return served;
@@ -88,7 +88,7 @@ impl<K: Keeper, A: Acceptor, L: Link, C: Clock, R: Rng> Work for Serving<'_, K, 
                     &mut self.rng,
                 );
                 let turned = turned_of(&turn);
-                self.exit = exit_after_turn(turned);
+                self.exit = after_turn(turned);
                 if self.exit.is_some() {
                     self.acceptor.leave();
                     return turned;

@@ -31,7 +31,7 @@ pub(crate) fn reason_of(exit: Exit) -> Option<Reason>
 }
 
 /// How a worker ends after such a `serve`; `None` where it goes on.
-pub(crate) fn after_serve(served: Served) -> Option<Exit>
+pub fn after_serve(served: Served) -> Option<Exit>
     ensures { result ≡ exit_of_served served }
 {
     match served {
@@ -42,7 +42,7 @@ pub(crate) fn after_serve(served: Served) -> Option<Exit>
 }
 
 /// How a worker ends after such a `turn`; `None` where it goes on.
-pub(crate) fn after_turn(turned: Turned) -> Option<Exit>
+pub fn after_turn(turned: Turned) -> Option<Exit>
     ensures { result ≡ exit_of_turned turned }
 {
     match turned {

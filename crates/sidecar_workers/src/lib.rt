@@ -11,7 +11,7 @@ mod word;
 mod work;
 mod workers;
 
-pub use exit::Exit;
+pub use exit::{Exit, after_serve, after_turn};
 pub use reason::Reason;
 pub use seat::StopSeat;
 pub use slot::Slot;

@@ -4,7 +4,7 @@ use Rattle.sidecar_serving.proofs.Doings.{served_on}
 use Rattle.sidecar_serving.proofs.working.ServingWork.serve.Goals as goal
 
 pub returns-clause-kept : goal.returns-clause-kept
-returns-clause-kept g c = (refl, λ start done. served_on _ _ _ _ _ start _ _ _ c.in-Serve.source _ c.in-Serve.sink _ _ _ _ _ c.serve_connection-ended.result _ (sym c.take.ensures.taken ∙ c.in-Serve.is) c.take.ensures.left (c.exit_after_serve-self.ensures ∙ ap exit_of_served c.served_of-served.ensures) c.serve_connection-ended.ensures.served c.end.ensures.told done)
+returns-clause-kept g c = (refl, λ start done. served_on _ _ _ _ _ start _ _ _ c.in-Serve.source _ c.in-Serve.sink _ _ _ _ _ c.serve_connection-ended.result _ (sym c.take.ensures.taken ∙ c.in-Serve.is) c.take.ensures.left (c.after_serve-self.ensures ∙ ap exit_of_served c.served_of-served.ensures) c.serve_connection-ended.ensures.served c.end.ensures.told done)
 
 pub returns-then-is_some-clause-kept : goal.returns-then-is_some-clause-kept
-returns-then-is_some-clause-kept g c = (refl, λ start done. served_on _ _ _ _ _ start _ _ _ c.in-Serve.source _ c.in-Serve.sink _ _ _ _ _ c.serve_connection-ended.result _ (sym c.take.ensures.taken ∙ c.in-Serve.is) c.take.ensures.left (c.exit_after_serve-self.ensures ∙ ap exit_of_served c.served_of-served.ensures) c.serve_connection-ended.ensures.served (rw (sym c.leave.ensures.told) at c.end.ensures.told) done)
+returns-then-is_some-clause-kept g c = (refl, λ start done. served_on _ _ _ _ _ start _ _ _ c.in-Serve.source _ c.in-Serve.sink _ _ _ _ _ c.serve_connection-ended.result _ (sym c.take.ensures.taken ∙ c.in-Serve.is) c.take.ensures.left (c.after_serve-self.ensures ∙ ap exit_of_served c.served_of-served.ensures) c.serve_connection-ended.ensures.served (rw (sym c.leave.ensures.told) at c.end.ensures.told) done)
