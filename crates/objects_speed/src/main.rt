@@ -1,8 +1,15 @@
-//! Measures what a save and a get of a store in memory cost, and what it costs a ledger to accept, take and settle a message, among few rows and among many.
+//! Measures what a save and a get of a store in memory cost, and what it costs a ledger to accept, take and settle a message, among few rows and among many;
+//! how many calls a second a turn cell takes, and how late the latest are, beside a `Mutex` round the same object; and what an append to a journal over a file
+//! costs, beside as many syncs behind two plain writes.
 #![tactic(auto)]
 
+mod appends;
+mod callers;
+mod cells;
 mod clock;
 mod commands;
+mod counter;
+mod journals;
 mod ledgers;
 mod line;
 mod messages;
@@ -24,6 +31,15 @@ const OWED: u32 = 1000;
 /// Rows in the smaller one.
 const FEW_OWED: u32 = 100;
 
+/// Calls of all threads of a row, where the third word is no other number.
+const CALLS: u32 = 1600;
+
+/// Appends of each kind in a round, where the fourth word is no other number.
+const APPENDS: u32 = 10;
+
+/// Rounds of appends, each of them with both kinds in turn.
+const ROUNDS: u32 = 3;
+
 /// The number that the word at a place is, or else this one.
 fn number_at(words: &[String], place: usize, other: u32) -> u32 {
     match words.get(place) {
@@ -32,18 +48,40 @@ fn number_at(words: &[String], place: usize, other: u32) -> u32 {
     }
 }
 
-/// How many rows the larger store and the larger ledger have, by the words of the command line.
-fn sizes(rt: &HostRuntime) -> io::Result<(u32, u32)> {
+/// How much is measured.
+#[derive(Clone, Copy)]
+struct Sizes {
+    stored: u32,
+    owed: u32,
+    calls: u32,
+    appends: u32,
+}
+
+/// How much is measured, by the words of the command line.
+fn sizes_of(rt: &HostRuntime) -> io::Result<Sizes> {
     let words: Vec<String> = env::args(rt)?.collect(rt.alloc())?;
-    Ok((number_at(&words, 1, STORED), number_at(&words, 2, OWED)))
+    Ok(Sizes {
+        stored: number_at(&words, 1, STORED),
+        owed: number_at(&words, 2, OWED),
+        calls: number_at(&words, 3, CALLS),
+        appends: number_at(&words, 4, APPENDS),
+    })
 }
 
 fn main(rt: HostRuntime) -> io::Result<()> {
-    let (stored, owed) = sizes(&rt)?;
+    let sizes = sizes_of(&rt)?;
     stores::lasting(&rt, rt.alloc(), FEW_STORED)?;
-    stores::lasting(&rt, rt.alloc(), stored)?;
+    stores::lasting(&rt, rt.alloc(), sizes.stored)?;
     stores::ending(&rt, rt.alloc(), FEW_STORED)?;
-    stores::ending(&rt, rt.alloc(), stored)?;
+    stores::ending(&rt, rt.alloc(), sizes.stored)?;
     ledgers::among(&rt, rt.alloc(), FEW_OWED)?;
-    ledgers::among(&rt, rt.alloc(), owed)
+    ledgers::among(&rt, rt.alloc(), sizes.owed)?;
+    cells::beside(&rt, rt.alloc(), 1, sizes.calls)?;
+    cells::beside(&rt, rt.alloc(), 4, sizes.calls)?;
+    cells::beside(&rt, rt.alloc(), 16, sizes.calls)?;
+    cells::held(&rt, rt.alloc(), rt)?;
+    for _ in 0..ROUNDS {
+        journals::round(&rt, rt.alloc(), sizes.appends)?;
+    }
+    Ok(())
 }

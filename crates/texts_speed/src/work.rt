@@ -18,23 +18,27 @@ pub(crate) struct Desk<'a> {
     pub(crate) response: &'a Response,
 }
 
-fn push_type(alloc: Global, fields: &mut Fields) -> Result<(), NoMemory> {
+/// The field of a response that tells its type.
+fn type_field(alloc: Global) -> Result<Field, NoMemory> {
     let value = Blob::from_bytes(alloc, b"application/json")?;
-    fields.push(Field {
-        name: Text::from_static(alloc, "Content-Type"),
-        value,
-    })
+    let name = Text::from_static(alloc, "Content-Type");
+    Ok(Field { name, value })
+}
+
+fn fields(alloc: Global) -> Result<Fields, NoMemory> {
+    let mut fields = Fields::new(alloc);
+    fields.push(type_field(alloc)?)?;
+    Ok(fields)
 }
 
 /// A response with the content of a get of 100 bytes.
 pub(crate) fn response(alloc: Global) -> Result<Response, NoMemory> {
-    let mut response = Response {
+    let body = Blob::from_bytes(alloc, &[b'x'; 100])?;
+    Ok(Response {
         status: 200,
-        fields: Fields::new(alloc),
-        body: Blob::from_bytes(alloc, &[b'x'; 100])?,
-    };
-    push_type(alloc, &mut response.fields)?;
-    Ok(response)
+        fields: fields(alloc)?,
+        body,
+    })
 }
 
 /// Whether a request has a route.

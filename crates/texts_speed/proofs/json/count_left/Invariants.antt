@@ -1,6 +1,6 @@
 use Rattle.std.proofs.Common.{All}
 use Rattle.json_text.specs.Doc.{IsNode}
-use Rattle.json_speed.proofs.walk.count_values.Given as goal
+use Rattle.texts_speed.proofs.json.count_left.Given as goal
 
 abbrev pub invariant-loop : goal.invariant-loop
 invariant-loop l = All (IsNode l.doc) l.left.items

@@ -33,7 +33,7 @@ const SAVE_100: &[u8] =
 const SAVE_16384: &[u8] =
     b"POST /v1.0/state/statestore HTTP/1.1\r\nHost: a\r\nContent-Length: 16408\r\n\r\n";
 
-/// The rows that are measured, unless an argument names one of them.
+/// The rows that are measured, unless a word names one of them.
 pub(crate) const ROWS: &[Row] = &[
     Row {
         name: "get",
@@ -73,7 +73,7 @@ pub(crate) const ROWS: &[Row] = &[
     },
 ];
 
-/// The parts that are measured, unless an argument names one of them.
+/// The parts that are measured, unless a word names one of them.
 pub(crate) const PARTS: &[Part] = &[
     Part {
         name: "heads",
@@ -101,31 +101,17 @@ pub(crate) const PARTS: &[Part] = &[
     },
 ];
 
-/// The name of one of these rows, where a word is one.
-pub(crate) fn row_name(rows: &[Row], word: &str) -> Option<&'static str> {
-    for row in rows {
-        if row.name == word {
-            return Some(row.name);
-        }
+/// Whether the word at a place is this name, or there is none.
+pub(crate) fn is_wanted(words: &[String], place: usize, name: &str) -> bool {
+    match words.get(place) {
+        Some(word) => word.as_str() == name,
+        None => true,
     }
-    None
-}
-
-/// The name of one of these parts, where a word is one.
-pub(crate) fn part_name(parts: &[Part], word: &str) -> Option<&'static str> {
-    for part in parts {
-        if part.name == word {
-            return Some(part.name);
-        }
-    }
-    None
 }
 
 fn push_request(bytes: &mut Vec<u8>, row: &Row) -> Result<(), NoMemory> {
     bytes.extend_from_slice(row.head)?;
-    for _ in 0..row.content {
-        bytes.push(b'x')?;
-    }
+    bytes.resize(bytes.len().saturating_add(row.content), b'x')?;
     Ok(())
 }
 

@@ -1,5 +1,5 @@
 use Rattle.std.proofs.Common.{◌≤◌, ◌*◌}
-use Rattle.journal_speed.proofs.appends.write.Given as goal
+use Rattle.objects_speed.proofs.appends.write.Given as goal
 
 abbrev pub invariant-loop : goal.invariant-loop
 invariant-loop g l = record {

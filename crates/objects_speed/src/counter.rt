@@ -5,7 +5,7 @@ use std::thread::sleep;
 use std::time::Duration;
 use turn_cell::Object;
 
-/// How long a step of `Hold` takes, in milliseconds.
+/// How long a first step takes that sleeps, in milliseconds.
 const HOLD_MS: u64 = 20;
 
 /// Some work: so many rounds of a few instructions, each of which waits for the one before. A round takes some 2.5 nanoseconds.
@@ -19,41 +19,41 @@ pub(crate) fn rounds(value: u64, count: u32) -> u64 {
     value
 }
 
-/// What a counter does.
+/// What a counter does: it adds the amount, and works for so many rounds.
 #[derive(Clone, Copy)]
-pub(crate) enum Step {
-    /// It adds the amount, and works for so many rounds.
-    Work { amount: u64, rounds: u32 },
-    /// It sleeps.
-    Hold(HostRuntime),
+pub(crate) struct Step {
+    pub(crate) amount: u64,
+    pub(crate) rounds: u32,
 }
 
-/// A counter whose step takes as long as it is told.
-#[derive(Drop)]
+/// A counter whose step takes as long as it is told, and whose first one sleeps where it is given a clock.
+#[derive(Clone, Copy)]
 pub(crate) struct Counter {
     value: u64,
     steps: u64,
+    clock: Option<HostRuntime>,
 }
 
 impl Counter {
     /// A counter at 1.
-    pub(crate) fn new() -> Counter
+    pub(crate) fn new(clock: Option<HostRuntime>) -> Counter
         ensures { result.steps ≡ 0 }
     {
-        Counter { value: 1, steps: 0 }
+        Counter {
+            value: 1,
+            steps: 0,
+            clock,
+        }
     }
 
     /// Makes the step, and returns the value.
-    pub(crate) fn make(&mut self, step: &Step) -> u64
+    pub(crate) fn make(&mut self, step: Step) -> u64
         ensures { self.old.steps < 2 ^ 62 → self.new.steps ≡ self.old.steps + 1 }
     {
-        match step {
-            Step::Work {
-                amount,
-                rounds: count,
-            } => self.value = rounds(self.value.wrapping_add(*amount), *count),
-            Step::Hold(clock) => sleep(clock, Duration::from_millis(HOLD_MS)),
+        if let Some(clock) = self.clock.take() {
+            sleep(&clock, Duration::from_millis(HOLD_MS));
         }
+        self.value = rounds(self.value.wrapping_add(step.amount), step.rounds);
         self.steps = self.steps.wrapping_add(1);
         self.value
     }
@@ -75,7 +75,7 @@ impl Object for Counter {
     ghost mark = { λ _. 0 };
 
     fn apply(&mut self, cmd: &Step) -> u64 {
-        self.make(cmd)
+        self.make(*cmd)
     }
 
     fn used(&self) -> u64 {
