@@ -1,4 +1,5 @@
 pub mod Undone
+pub mod Tokens
 pub mod Marks
 pub mod Joining
 pub mod Shown

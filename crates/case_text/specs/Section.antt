@@ -2,7 +2,7 @@
 use Rattle.std.specs.Prelude.{◌≡◌, ◌⊎◌, ◌^◌, ℕ, zero, suc, nat_lt, bytes_eq, codes, if◌then◌else◌, List, [], ◌∷◌, ◌++◌, Option, option_map, unwrap_or, find}
 use Rattle.std.specs.Str.Parse.{digits_value}
 use Rattle.side_base.specs.Decimal.{digits_at}
-use Rattle.case_text.specs.Escape.{undone}
+use Rattle.case_text.specs.Reading.{undone}
 use Rattle.case_text.specs.Piece.{without_blank}
 use Rattle.case_text.specs.declared.escape.Place.TheVariants.{Outside}
 use Rattle.case_text.specs.declared.section.Section.{Section}

@@ -2,12 +2,14 @@
 //! its sections on a line with `-- ` and what it is; their texts are the lines below. Escapes in them are undone.
 //!
 //! - `piece` cuts a text at marked lines, `section` a case into its sections, `escape` undoes escapes.
+//! - `laws` are theorems on the definitions that the contracts cite.
 //! - `lines` is what is said of a case that differs.
 //! - `tally` counts the cases, and keeps what is said of those that differ.
 //! - `player` plays the cases of files, whole or line by line.
 #![tactic(auto)]
 
 mod escape;
+pub mod laws;
 mod lines;
 mod piece;
 mod player;
