@@ -3,3 +3,4 @@ pub mod Tokens
 pub mod Marks
 pub mod Joining
 pub mod Shown
+pub mod Broken

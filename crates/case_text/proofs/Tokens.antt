@@ -1,13 +1,12 @@
 -- What a reader takes a text for is what the tokens say that are written so.
-use Rattle.std.proofs.Common.{◌≡◌, ◌∙◌, ℕ, ◌+◌, ◌-◌, ◌*◌, ◌%◌, ◌<◌, ◌≤◌, Bool, true, false, cond, ◌&&◌, ◌==◌, nat_le, if◌then◌else◌, List, [], ◌∷◌, ◌++◌, Option, Some, None, IfSome, option_map, unwrap_or, option_to_list, codes, refl, sym, ap, subst, append_assoc, arith}
+use Rattle.std.proofs.Common.{◌≡◌, ◌∙◌, ℕ, ◌+◌, ◌-◌, ◌*◌, ◌%◌, ◌<◌, Bool, true, ◌&&◌, ◌==◌, nat_le, if◌then◌else◌, List, [], ◌∷◌, ◌++◌, Option, Some, None, IfSome, option_map, unwrap_or, codes, refl, sym, ap, subst, arith}
 use Rattle.std.proofs.lemmas.Bool.{eqb-true, eqb-false, ne_eqb, cond_both, and_parts, leb-true}
 use Rattle.std.proofs.lemmas.Option.{none-some, same_Some}
-use Rattle.std.specs.List.{flat_map}
 use Rattle.case_text.specs.declared.escape.Place.{Place}
 use Rattle.case_text.specs.declared.escape.Place.TheVariants.{Outside, Backslash, Digits, Digit}
 use Rattle.case_text.specs.declared.escape.Said.{Said}
 use Rattle.case_text.specs.Escape.{digit_of, Token, Plain, LineEnd, Return, Tab, Doubled, Joined, Numbered, spelling, meaning, written, says, IsWritten, IsSaid}
-use Rattle.case_text.specs.Reading.{step, behind_backslash, first_digit, second_digit, goes_on, with_more, at_end, undone}
+use Rattle.case_text.specs.Reading.{step, first_digit, second_digit, goes_on, with_more, at_end, undone}
 use Rattle.case_text.specs.Reading.{says as says_byte}
 
 -- a digit is below 16

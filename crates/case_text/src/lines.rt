@@ -83,7 +83,15 @@ impl Lines {
         self.add("\n");
     }
 
-    /// Adds a line of these words and what is said of bytes: they themselves, if they are a text.
+    /// Adds words and behind them what is said of bytes: they themselves, if they are a text.
+    pub fn add_shown(&mut self, words: &str, bytes: &[u8])
+        ensures { Added (words.now ++ shown bytes.now) self.old self.new }
+    {
+        self.add(words);
+        self.add(shown(bytes));
+    }
+
+    /// Adds a line of these words and what is said of bytes.
     pub fn add_bytes(&mut self, words: &str, bytes: &[u8])
         ensures { Added (line words.now (shown bytes.now)) self.old self.new }
     {
