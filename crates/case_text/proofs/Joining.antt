@@ -1,7 +1,8 @@
 -- What sections say, one more section at a time.
-use Rattle.std.proofs.Common.{◌≡◌, ◌∙◌, ◌+◌, ◌-◌, ◌<◌, ◌≤◌, ℕ, zero, suc, Bool, true, false, List, [], ◌∷◌, ◌++◌, drop, length, get_or, subst, add-one, drop-cons, bytes_eq, if◌then◌else◌, sym, ap, append_assoc, arith}
+use Rattle.std.proofs.Common.{◌≡◌, ◌∙◌, ◌+◌, ◌-◌, ◌<◌, ◌≤◌, ℕ, zero, suc, Bool, true, false, List, [], ◌∷◌, ◌++◌, drop, length, get_or, subst, add-one, drop-cons, bytes_eq, if◌then◌else◌, sym, ap, append_assoc, decimal, arith}
 use Rattle.std.proofs.lemmas.List.{append-nil}
-use Rattle.case_text.specs.Section.{repeated, joined_of, said_of, times_of}
+use Rattle.case_text.specs.Lines.{line}
+use Rattle.case_text.specs.Section.{repeated, numbered, joined_of, said_of, times_of}
 use Rattle.case_text.specs.declared.section.Section.{Section}
 
 -- of a text that stands some times, the first stands before the others
@@ -23,6 +24,32 @@ pub none_left : (whole all text : List ℕ) (left : ℕ) → left ≤ 0 → whol
 unfolding repeated
 none_left whole all text zero none was = sym (was ∙ append-nil all)
 none_left whole all text (suc left) none was = absurd (omega (arith, none))
+
+-- of texts with their numbers, the first stands before the others
+first_numbered : (text : List ℕ) (number left : ℕ) → 0 < left → numbered number left text ≡ line text (decimal number) ++ numbered (number + 1) (left - 1) text
+unfolding numbered
+first_numbered text number zero some = absurd (omega (arith, some))
+first_numbered text number (suc left) some =
+    let next : suc number ≡ number + 1 = omega arith in
+    let less : left ≡ suc left - 1 = omega arith in
+    ap (λ (n : ℕ). line text (decimal number) ++ numbered n left text) next ∙ ap (λ (n : ℕ). line text (decimal number) ++ numbered (number + 1) n text) less
+
+-- the text with the next number
+pub one_numbered : (whole all text more : List ℕ) (number times : ℕ) → number < times → more ≡ all ++ line text (decimal number) → whole ≡ all ++ numbered number (times - number) text → whole ≡ more ++ numbered (number + 1) (times - (number + 1)) text
+one_numbered whole all text more number times low added was =
+    let less : times - number - 1 ≡ times - (number + 1) = omega arith in
+    was
+    ∙ ap (λ (m : List ℕ). all ++ m) (first_numbered text number (times - number) (omega (arith, low)))
+    ∙ sym (append_assoc all (line text (decimal number)) (numbered (number + 1) (times - number - 1) text))
+    ∙ ap (λ (a : List ℕ). a ++ numbered (number + 1) (times - number - 1) text) (sym added)
+    ∙ ap (λ (n : ℕ). more ++ numbered (number + 1) n text) less
+
+-- no further number
+pub none_numbered : (whole all text : List ℕ) (number times : ℕ) → times ≤ number → whole ≡ all ++ numbered number (times - number) text → all ≡ whole
+unfolding numbered
+none_numbered whole all text number times none was =
+    let over : times - number ≡ 0 = omega (arith, none) in
+    sym (was ∙ ap (λ (n : ℕ). all ++ numbered number n text) over ∙ append-nil all)
 
 one_joined : (whole all more word : List ℕ) (section : Section) (rest : List Section) → bytes_eq section.word.now word ≡ true → more ≡ all ++ repeated (times_of section.name.now) (said_of section) → whole ≡ all ++ joined_of word (section ∷ rest) → whole ≡ more ++ joined_of word rest
 unfolding joined_of

@@ -4,7 +4,7 @@ use Rattle.std.proofs.lemmas.List.{append-nil}
 use Rattle.case_text.specs.declared.escape.Place.{Place}
 use Rattle.case_text.specs.declared.escape.Place.TheVariants.{Outside, Backslash, Digits, Digit}
 use Rattle.case_text.specs.declared.escape.Said.{Said}
-use Rattle.case_text.specs.Escape.{step, with_more, at_end, undone}
+use Rattle.case_text.specs.Reading.{step, with_more, at_end, undone}
 
 behind : (said piece : List ℕ) (more : Option (List ℕ)) → option_map (λ (m : List ℕ). said ++ m) (option_map (λ (m : List ℕ). piece ++ m) more) ≡ option_map (λ (m : List ℕ). (said ++ piece) ++ m) more
 behind said piece None = refl

@@ -1,8 +1,6 @@
--- Escapes, by the bytes of a text from the left.
-use Rattle.std.specs.Prelude.{ℕ, ◌+◌, ◌-◌, ◌*◌, ◌%◌, ◌&&◌, ◌==◌, nat_le, if◌then◌else◌, List, [], ◌∷◌, ◌++◌, Option, Some, None, option_map, option_to_list}
-use Rattle.case_text.specs.declared.escape.Place.{Place}
-use Rattle.case_text.specs.declared.escape.Place.TheVariants.{Outside, Backslash, Digits, Digit}
-use Rattle.case_text.specs.declared.escape.Said.{Said}
+-- Escapes: how what a text says is written.
+use Rattle.std.specs.Prelude.{◌≡◌, ◌≢◌, ℕ, ◌+◌, ◌-◌, ◌*◌, ◌&&◌, nat_le, if◌then◌else◌, List, [], ◌∷◌, Option, Some, None, IfSome}
+use Rattle.std.specs.List.{flat_map}
 
 -- what the digits `0` to `9` and `a` to `f` are
 abbrev pub digit_of : ℕ → Option ℕ
@@ -11,50 +9,48 @@ digit_of byte =
     else if nat_le 97 byte && nat_le byte 102 then Some (byte - 97 + 10)
     else None
 
-abbrev pub says : ℕ → Option Said
-says byte = Some (record { byte = Some byte; place = Outside })
+-- A byte that is no backslash stands as it is. The others are written behind a backslash: a line end, a carriage return, a tab, a backslash,
+-- that the next line is joined, and any byte by its two digits.
+pub data Token : Type 0 where
+  Plain : (byte : ℕ) → byte ≢ 92 → Token
+  LineEnd : Token
+  Return : Token
+  Tab : Token
+  Doubled : Token
+  Joined : Token
+  Numbered : (first second high low : ℕ) → digit_of first ≡ Some high → digit_of second ≡ Some low → Token
 
-abbrev pub goes_on : Place → Option Said
-goes_on place = Some (record { byte = None; place = place })
+-- how it is written: `\n`, `\r`, `\t`, `\\`, a backslash and a line end, and `\x` with two digits
+abbrev pub spelling : Token → List ℕ
+spelling (Plain byte other) = byte ∷ []
+spelling LineEnd = 92 ∷ 110 ∷ []
+spelling Return = 92 ∷ 114 ∷ []
+spelling Tab = 92 ∷ 116 ∷ []
+spelling Doubled = 92 ∷ 92 ∷ []
+spelling Joined = 92 ∷ 10 ∷ []
+spelling (Numbered first second high low is_high is_low) = 92 ∷ 120 ∷ first ∷ second ∷ []
 
--- behind a backslash: `n`, `r`, `t`, a backslash, a line end, which says nothing, and `x`
-abbrev pub behind_backslash : ℕ → Option Said
-behind_backslash byte =
-    if byte == 110 then says 10
-    else if byte == 114 then says 13
-    else if byte == 116 then says 9
-    else if byte == 92 then says 92
-    else if byte == 10 then goes_on Outside
-    else if byte == 120 then goes_on Digits
-    else None
+-- what it says
+abbrev pub meaning : Token → List ℕ
+meaning (Plain byte other) = byte ∷ []
+meaning LineEnd = 10 ∷ []
+meaning Return = 13 ∷ []
+meaning Tab = 9 ∷ []
+meaning Doubled = 92 ∷ []
+meaning Joined = []
+meaning (Numbered first second high low is_high is_low) = (16 * high + low) ∷ []
 
-abbrev first_digit : Option ℕ → Option Said
-first_digit None = None
-first_digit (Some digit) = goes_on (Digit digit)
+abbrev pub written : List Token → List ℕ
+written tokens = flat_map spelling tokens
 
-abbrev second_digit : ℕ → Option ℕ → Option Said
-second_digit high None = None
-second_digit high (Some low) = says (16 * (high % 16) + low)
+abbrev pub says : List Token → List ℕ
+says tokens = flat_map meaning tokens
 
--- what a byte says at a place
-abbrev pub step : Place → ℕ → Option Said
-step Outside byte = if byte == 92 then goes_on Backslash else says byte
-step Backslash byte = behind_backslash byte
-step Digits byte = first_digit (digit_of byte)
-step (Digit high) byte = second_digit high (digit_of byte)
+-- some tokens are written so, and say these bytes
+abbrev pub IsWritten : List ℕ → List ℕ → Type 0
+IsWritten text bytes = (tokens : List Token) × (written tokens ≡ text) × (says tokens ≡ bytes)
 
--- what was said, and what more is said behind it
-unfoldable pub with_more : Option Said → (Place → Option (List ℕ)) → Option (List ℕ)
-with_more None more = None
-with_more (Some said) more = option_map (λ bytes. option_to_list said.byte ++ bytes) (more said.place)
-
-unfoldable pub at_end : Place → Option (List ℕ)
-at_end Outside = Some []
-at_end Backslash = None
-at_end Digits = None
-at_end (Digit high) = None
-
--- what a text says from a place on; nothing where a byte may not stand, or an escape isn't whole
-unfoldable pub undone : Place → List ℕ → Option (List ℕ)
-undone place [] = at_end place
-undone place (byte ∷ text) = with_more (step place byte) (λ next. undone next text)
+-- What a text says, and nothing where no tokens are written so: whichever tokens are, they say this.
+pub record IsSaid (text : List ℕ) (said : Option (List ℕ)) : Type 0 where
+  pub each : (tokens : List Token) → written tokens ≡ text → said ≡ Some (says tokens)
+  pub some : IfSome said (λ bytes. IsWritten text bytes)

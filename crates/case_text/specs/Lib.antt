@@ -1,4 +1,5 @@
 pub mod Piece
 pub mod Escape
+pub mod Reading
 pub mod Section
 pub mod Lines

@@ -1,6 +1,7 @@
 // Escapes, which begin with a backslash.
 ghost use Rattle.std.specs.Prelude.{◌≡◌, ◌<◌, ◌++◌, IfOk, IfSome, OnOk, option_to_list};
-ghost use Rattle.case_text.specs.Escape.{digit_of, says, goes_on, behind_backslash, step, undone};
+ghost use Rattle.case_text.specs.Escape.{digit_of, IsSaid};
+ghost use Rattle.case_text.specs.Reading.{says, goes_on, behind_backslash, step};
 ghost use Rattle.case_text.specs.declared.escape.Place.TheVariants as Place;
 
 use side_base::{Blob, NoMemory};
@@ -98,7 +99,7 @@ fn add(said: &mut Blob, byte: Option<u8>) -> Result<(), NoMemory>
 /// What a text says once its escapes are undone: `\n`, `\r` and `\t`, `\\`, `\x` and two digits `0` to `9` or `a` to `f`, which are any
 /// byte, and a backslash at a line's end, which joins the next line to it. `None` where a backslash begins none of these.
 pub fn unescaped(alloc: Global, text: &[u8]) -> Result<Option<Blob>, NoMemory>
-    ensures { IfOk result (λ said. said ≡ undone Place.Outside text.now) }
+    ensures { IfOk result (λ said. IsSaid text.now said) }
 {
     let mut said = Blob::new(alloc);
     let mut place = Place::Outside;

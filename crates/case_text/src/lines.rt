@@ -26,7 +26,7 @@ fn shown(bytes: &[u8]) -> &str
 }
 
 impl Lines {
-    ghost use Rattle.std.specs.Prelude.{◌≡◌, ◌⊎◌, ◌++◌, ◌∷◌, ◌↔◌, ℕ, List, true, false, [], IsTrue, IfOk, IfErr, decimal};
+    ghost use Rattle.std.specs.Prelude.{◌≡◌, ◌⊎◌, ◌++◌, ◌∷◌, ◌↔◌, ℕ, List, true, false, [], IsTrue, IfOk, IfErr, IfSome, decimal};
     ghost use Rattle.case_text.specs.Lines.{Added, line, shown, differs};
 
     /// No line yet.
@@ -83,16 +83,25 @@ impl Lines {
         self.add("\n");
     }
 
-    /// Adds a line of these words and what is said of bytes: they themselves, if they are a text.
+    /// Adds words and behind them what is said of bytes: they themselves, if they are a text.
+    pub fn add_shown(&mut self, words: &str, bytes: &[u8])
+        ensures { Added (words.now ++ shown bytes.now) self.old self.new }
+    {
+        self.add(words);
+        self.add(shown(bytes));
+    }
+
+    /// Adds a line of these words and what is said of bytes.
     pub fn add_bytes(&mut self, words: &str, bytes: &[u8])
         ensures { Added (line words.now (shown bytes.now)) self.old self.new }
     {
         self.add_line(words, shown(bytes));
     }
 
-    /// Adds what a value says of itself, as errors do.
+    /// Adds what a value says of itself, as errors do: just the bytes that its type states of it, and where its type states none, some.
     pub fn add_told<E: fmt::Display>(&mut self, alloc: Global, told: &E)
-        ensures { (words : List ℕ) × Added words self.old self.new }
+        ensures stated { IfSome (E.output told.now) (λ words. Added words self.old self.new) }
+        ensures any { (words : List ℕ) × Added words self.old self.new }
     {
         match format!(in alloc; "{told}") {
             Ok(words) => self.add(words.as_str()),

@@ -1,8 +1,9 @@
 // Playing the cases of files.
 use crate::CASE;
+use crate::escape::unescaped;
 use crate::lines::Lines;
 use crate::piece::{Piece, pieces};
-use crate::section::{Section, said, sections};
+use crate::section::{Section, add_broken, sections};
 use crate::tally::Tally;
 use side_base::{NoMemory, Text};
 use std::alloc::Global;
@@ -38,9 +39,10 @@ pub trait Answerer {
     ) -> Result<Text, NoMemory>;
 }
 
-// What is wrong of a case; nothing where it is right.
+// What is wrong of a case; nothing where it is right. A broken escape is, whatever comes of the case.
 fn wrong<P: Player>(player: &P, alloc: Global, case: &Piece<'_>) -> Result<Text, NoMemory> {
     let mut lines = Lines::new(alloc);
+    add_broken(alloc, sections(alloc, case)?.as_slice(), &mut lines);
     player.play(alloc, case, &mut lines);
     lines.done()
 }
@@ -84,15 +86,32 @@ struct Line<'a, A> {
 }
 
 impl<A: Answerer> Line<'_, A> {
-    // Adds what is wrong of a line.
-    fn judge(&self, alloc: Global, line: &str, lines: &mut Lines) -> Result<(), NoMemory> {
-        let (given, wanted) = cut(line);
-        let given = said(alloc, given.as_bytes())?;
-        let wanted = said(alloc, wanted.as_bytes())?;
+    // What comes of a line for which this is given, and of which this is wanted, where it is something else.
+    fn other(&self, alloc: Global, given: &[u8], wanted: &[u8]) -> Result<Option<Text>, NoMemory> {
         let got = self
             .answerer
-            .answer(alloc, self.sections, &self.section, given.bytes())?;
-        if got.bytes() != wanted.bytes() {
+            .answer(alloc, self.sections, &self.section, given)?;
+        if got.bytes() == wanted {
+            Ok(None)
+        } else {
+            Ok(Some(got))
+        }
+    }
+
+    // The same of a line, its escapes undone; or that one of them is broken.
+    fn came(&self, alloc: Global, line: &str) -> Result<Option<Text>, NoMemory> {
+        let (given, wanted) = cut(line);
+        let given = unescaped(alloc, given.as_bytes())?;
+        let wanted = unescaped(alloc, wanted.as_bytes())?;
+        match (given, wanted) {
+            (Some(given), Some(wanted)) => self.other(alloc, given.bytes(), wanted.bytes()),
+            _ => Ok(Some(Text::from_static(alloc, "a broken escape"))),
+        }
+    }
+
+    // Adds what is wrong of a line.
+    fn judge(&self, alloc: Global, line: &str, lines: &mut Lines) -> Result<(), NoMemory> {
+        if let Some(got) = self.came(alloc, line)? {
             lines.add_line("-- ", self.section.word);
             lines.add_line("", line);
             lines.add_line("got: ", got.as_str());

@@ -1,11 +1,14 @@
 // The sections of a case, and what they say.
 ghost use Rattle.std.specs.Prelude.{◌≡◌, ◌++◌, option_map, IfOk, OnOk};
-ghost use Rattle.case_text.specs.Section.{name_of, number_at, said_in, said_of, times_of, repeated, joined_of, IsOrLacks};
+ghost use Rattle.case_text.specs.Lines.{Added};
+ghost use Rattle.case_text.specs.Section.{name_of, said_in, said_of, times_of, repeated, joined_of, broken_line, broken_lines, IsOrLacks};
 
 use crate::SECTION;
 use crate::escape::unescaped;
+use crate::lines::Lines;
 use crate::piece::{Piece, pieces, without_blank_end};
-use side_base::{Blob, NoMemory, number_of, split_digits};
+use crate::words::{first_word, number_in, push_times};
+use side_base::{Blob, NoMemory};
 use std::alloc::Global;
 
 /// A section of a case: the first word of its line, what stands behind that, and its text.
@@ -22,17 +25,11 @@ fn section_of<'a>(piece: &Piece<'a>) -> Section<'a> {
         Ok(line) => line,
         Err(_) => "",
     };
-    match line.split_once(' ') {
-        Some((word, name)) => Section {
-            word,
-            name,
-            text: piece.text,
-        },
-        None => Section {
-            word: line,
-            name: "",
-            text: piece.text,
-        },
+    let (word, name) = first_word(line);
+    Section {
+        word,
+        name,
+        text: piece.text,
     }
 }
 
@@ -53,14 +50,6 @@ pub fn name_in<'a>(sections: &[Section<'a>], word: &str) -> Option<&'a str>
         Some(section) => Some(section.name),
         None => None,
     }
-}
-
-/// The number that a text begins with; 0 where it begins with none or with one past `u32::MAX`.
-pub fn number_in(text: &str) -> u32
-    ensures { result ≡ number_at text.now }
-{
-    let (digits, _) = split_digits(text.as_bytes());
-    u32::try_from(number_of(digits)).unwrap_or(0)
 }
 
 /// What bytes say, their escapes undone; the words `no escape` where a backslash begins none.
@@ -91,23 +80,12 @@ fn times_of(section: &Section<'_>) -> u32
     }
 }
 
-fn add_times(all: &mut Blob, text: &[u8], times: u32) -> Result<(), NoMemory>
-    ensures { OnOk result (all.new ≡ all.old ++ repeated times text.now) }
-{
-    let mut left = times;
-    while left > 0 {
-        all.push(text)?;
-        left -= 1;
-    }
-    Ok(())
-}
-
 // Adds what a section says, as many times as its name says.
 fn add_section(all: &mut Blob, alloc: Global, section: &Section<'_>) -> Result<(), NoMemory>
     ensures { OnOk result (all.new ≡ all.old ++ repeated (times_of section.now.name.now) (said_of section.now)) }
 {
     let text = said(alloc, without_blank_end(section.text))?;
-    add_times(all, text.bytes(), times_of(section))
+    push_times(all, text.bytes(), u64::from(times_of(section)))
 }
 
 // What the sections of this word say, one behind the other, each as many times as the number in its name says.
@@ -129,4 +107,24 @@ pub fn joined_text(alloc: Global, sections: &[Section<'_>], word: &str) -> Blob
     ensures { IsOrLacks (joined_of word.now sections.now) result }
 {
     joined(alloc, sections, word).unwrap_or(Blob::new(alloc))
+}
+
+// Adds a line where the text of a section has a backslash that begins no escape.
+fn add_broken_of(alloc: Global, section: &Section<'_>, lines: &mut Lines)
+    ensures { Added (broken_line section.now) lines.old lines.new }
+{
+    match unescaped(alloc, without_blank_end(section.text)) {
+        Ok(Some(_)) => {}
+        Ok(None) => lines.add_line("a broken escape in section ", section.word),
+        Err(_) => lines.lack(),
+    }
+}
+
+/// Adds a line for each section in whose text a backslash begins no escape.
+pub fn add_broken(alloc: Global, sections: &[Section<'_>], lines: &mut Lines)
+    ensures { Added (broken_lines sections.now) lines.old lines.new }
+{
+    for section in sections {
+        add_broken_of(alloc, section, lines);
+    }
 }

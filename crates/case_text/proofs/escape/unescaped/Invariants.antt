@@ -1,6 +1,6 @@
 -- What was said, with what is left to say, is what the whole text says.
 use Rattle.std.proofs.Common.{◌≡◌, List, ℕ, ◌++◌, drop, option_map}
-use Rattle.case_text.specs.Escape.{undone}
+use Rattle.case_text.specs.Reading.{undone}
 use Rattle.case_text.specs.declared.escape.Place.TheVariants as Place
 use Rattle.case_text.proofs.escape.unescaped.Given as goal
 
