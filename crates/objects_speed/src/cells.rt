@@ -249,14 +249,15 @@ fn at_each<R: Threads + Wait + Sync + Clock + Eprint>(
     Ok(())
 }
 
-/// Cells beside mutexes, with so many threads, which make so many calls together, and in rows without work 50 times as many.
+/// Cells beside mutexes, with 1, 4 and 16 threads, which make so many calls together, and in rows without work 50 times as many.
 pub(crate) fn beside<R: Threads + Wait + Sync + Clock + Eprint>(
     rt: &R,
     alloc: Global,
-    threads: u8,
     calls: u32,
 ) -> io::Result<()> {
-    at_each(rt, alloc, threads, calls, &ROWS)
+    at_each(rt, alloc, 1, calls, &ROWS)?;
+    at_each(rt, alloc, 4, calls, &ROWS)?;
+    at_each(rt, alloc, 16, calls, &ROWS)
 }
 
 /// The processor time of all threads so far, in nanoseconds; 0 where it isn't told.

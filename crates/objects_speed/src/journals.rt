@@ -52,9 +52,9 @@ fn through_a_journal<R: Clock, D: Disk + Drop>(
 }
 
 /// What two plain writes with a sync behind each cost, to an empty disk.
-fn plainly<R: Clock, D: Disk>(rt: &R, disk: &mut D, appends: u32) -> Cost {
+fn plainly<R: Clock, D: Disk + Drop>(rt: &R, mut disk: D, appends: u32) -> Cost {
     let begin = now(rt);
-    let taken = write(disk, appends);
+    let taken = write(&mut disk, appends);
     since(rt, begin, taken)
 }
 
@@ -65,7 +65,7 @@ pub(crate) fn round<R: Clock + Eprint + Files<File = File>>(
     appends: u32,
 ) -> io::Result<()> {
     let journal = through_a_journal(rt, alloc, HostDisk::open(rt, JOURNAL)?, appends);
-    let plain = plainly(rt, &mut HostDisk::open(rt, PLAIN)?, appends);
+    let plain = plainly(rt, HostDisk::open(rt, PLAIN)?, appends);
     remove_file(rt, JOURNAL)?;
     remove_file(rt, PLAIN)?;
     let parts = [

@@ -68,20 +68,30 @@ fn sizes_of(rt: &HostRuntime) -> io::Result<Sizes> {
     })
 }
 
-fn main(rt: HostRuntime) -> io::Result<()> {
-    let sizes = sizes_of(&rt)?;
-    stores::lasting(&rt, rt.alloc(), FEW_STORED)?;
-    stores::lasting(&rt, rt.alloc(), sizes.stored)?;
-    stores::ending(&rt, rt.alloc(), FEW_STORED)?;
-    stores::ending(&rt, rt.alloc(), sizes.stored)?;
-    ledgers::among(&rt, rt.alloc(), FEW_OWED)?;
-    ledgers::among(&rt, rt.alloc(), sizes.owed)?;
-    cells::beside(&rt, rt.alloc(), 1, sizes.calls)?;
-    cells::beside(&rt, rt.alloc(), 4, sizes.calls)?;
-    cells::beside(&rt, rt.alloc(), 16, sizes.calls)?;
-    cells::held(&rt, rt.alloc(), rt)?;
+fn measure_stores(rt: &HostRuntime, rows: u32) -> io::Result<()> {
+    stores::lasting(rt, rt.alloc(), FEW_STORED)?;
+    stores::lasting(rt, rt.alloc(), rows)?;
+    stores::ending(rt, rt.alloc(), FEW_STORED)?;
+    stores::ending(rt, rt.alloc(), rows)
+}
+
+fn measure_ledgers(rt: &HostRuntime, rows: u32) -> io::Result<()> {
+    ledgers::among(rt, rt.alloc(), FEW_OWED)?;
+    ledgers::among(rt, rt.alloc(), rows)
+}
+
+fn measure_journals(rt: &HostRuntime, appends: u32) -> io::Result<()> {
     for _ in 0..ROUNDS {
-        journals::round(&rt, rt.alloc(), sizes.appends)?;
+        journals::round(rt, rt.alloc(), appends)?;
     }
     Ok(())
+}
+
+fn main(rt: HostRuntime) -> io::Result<()> {
+    let sizes = sizes_of(&rt)?;
+    measure_stores(&rt, sizes.stored)?;
+    measure_ledgers(&rt, sizes.owed)?;
+    cells::beside(&rt, rt.alloc(), sizes.calls)?;
+    cells::held(&rt, rt.alloc(), rt)?;
+    measure_journals(&rt, sizes.appends)
 }
