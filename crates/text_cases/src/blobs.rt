@@ -1,14 +1,13 @@
 // Blobs, and texts that begin as literals.
 
-use crate::numbers::number_in;
-use crate::told::{add_bytes, note};
-use case_text::Lines;
+use crate::told::note;
+use case_text::{Lines, long_number_in};
 use side_base::{Blob, NoMemory, Text};
 use std::alloc::Global;
 
 fn add_copy(blob: &Blob, lines: &mut Lines) {
     match blob.copy() {
-        Ok(copy) => add_bytes(lines, " ", copy.bytes()),
+        Ok(copy) => lines.add_shown(" ", copy.bytes()),
         Err(error) => note(lines, Err(error)),
     }
 }
@@ -18,7 +17,7 @@ fn ask(blob: &Blob, what: u8, lines: &mut Lines) {
     match what {
         b'?' => lines.add(if blob.is_empty() { " empty" } else { " some" }),
         b'#' => lines.add_number(" ", blob.len() as u64),
-        b'=' => add_bytes(lines, " ", blob.bytes()),
+        b'=' => lines.add_shown(" ", blob.bytes()),
         b'~' => add_copy(blob, lines),
         _ => lines.add(" no such step"),
     }
@@ -28,9 +27,9 @@ pub(crate) fn step(blob: &mut Blob, word: &[u8], lines: &mut Lines) -> Result<()
     match word {
         [b'+', piece @ ..] => blob.push(piece),
         [b'\'', byte] => blob.push_byte(*byte),
-        [b'%', number @ ..] => blob.reserve((number_in(number) % 1_000) as usize),
+        [b'%', number @ ..] => blob.reserve((long_number_in(number) % 1_000) as usize),
         [b'<', number @ ..] => {
-            blob.truncate(number_in(number) as usize);
+            blob.truncate(long_number_in(number) as usize);
             Ok(())
         }
         [b'0'] => {
@@ -65,10 +64,10 @@ fn add_literal_of(alloc: Global, given: &[u8], lines: &mut Lines) -> Result<(), 
     for piece in str::from_utf8(given).unwrap_or("no text").split(' ') {
         text.push(piece)?;
     }
-    add_bytes(lines, "", text.bytes());
-    add_bytes(lines, " ", copy.bytes());
-    add_bytes(lines, " ", text.into_blob()?.bytes());
-    add_bytes(lines, " ", copy.into_blob()?.bytes());
+    lines.add_shown("", text.bytes());
+    lines.add_shown(" ", copy.bytes());
+    lines.add_shown(" ", text.into_blob()?.bytes());
+    lines.add_shown(" ", copy.into_blob()?.bytes());
     Ok(())
 }
 

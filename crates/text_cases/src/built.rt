@@ -1,25 +1,17 @@
 // Long texts of JSON, built of pieces.
 
 use crate::json::{add_found, add_refusal, add_value};
-use crate::numbers::number_in;
 use crate::told::note;
-use case_text::Lines;
+use case_text::{Lines, long_number_in, push_times};
 use json_text::{Doc, Kind, read};
 use side_base::{Blob, NoMemory, split_digits};
 use std::alloc::Global;
-
-fn push_times(text: &mut Blob, piece: &[u8], times: u64) -> Result<(), NoMemory> {
-    for _ in 0..times {
-        text.push(piece)?;
-    }
-    Ok(())
-}
 
 // A piece is a number, a star, and the bytes that stand so often.
 fn push_piece(text: &mut Blob, word: &[u8]) -> Result<(), NoMemory> {
     let (_, rest) = split_digits(word);
     match rest {
-        [b'*', piece @ ..] => push_times(text, piece, number_in(word)),
+        [b'*', piece @ ..] => push_times(text, piece, long_number_in(word)),
         _ => text.push(word),
     }
 }

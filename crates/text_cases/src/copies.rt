@@ -1,9 +1,8 @@
 // Blobs of many bytes, whose copies share them, and texts of such bytes.
 
 use crate::blobs::step;
-use crate::numbers::number_in;
-use crate::told::{add_bytes, note};
-use case_text::Lines;
+use crate::told::note;
+use case_text::{Lines, long_number_in};
 use side_base::{Blob, NoMemory, Text};
 use std::alloc::Global;
 
@@ -18,7 +17,7 @@ fn letters(alloc: Global, len: u64) -> Result<Blob, NoMemory> {
 // The number of bytes, and the last three.
 fn add_end(lines: &mut Lines, bytes: &[u8]) {
     lines.add_number(" ", bytes.len() as u64);
-    add_bytes(lines, " ", &bytes[bytes.len().saturating_sub(3)..]);
+    lines.add_shown(" ", &bytes[bytes.len().saturating_sub(3)..]);
 }
 
 // Those of a copy, if it is still there.
@@ -51,7 +50,7 @@ fn add_text(blob: Blob, lines: &mut Lines) -> Result<(), NoMemory> {
 }
 
 fn add_copies_of(alloc: Global, given: &[u8], lines: &mut Lines) -> Result<(), NoMemory> {
-    let mut blob = letters(alloc, number_in(given))?;
+    let mut blob = letters(alloc, long_number_in(given))?;
     let mut copy = Some(blob.copy()?);
     let mut words = given.split(|byte| *byte == b' ');
     let _ = words.next();

@@ -1,6 +1,6 @@
 // Fields, and the items of their values.
 
-use crate::told::{add_bytes, add_flag, note};
+use crate::told::{add_flag, note};
 use case_text::Lines;
 use side_base::{Blob, Field, Fields, NoMemory, Sequence, Text, first_item, first_value, has_item};
 use std::alloc::Global;
@@ -33,7 +33,7 @@ pub(crate) fn add_value(alloc: Global, given: &[u8], name: &[u8], lines: &mut Li
         note(lines, pushed);
     }
     match first_value(&fields, name) {
-        Some(value) => add_bytes(lines, "value ", value),
+        Some(value) => lines.add_shown("value ", value),
         None => lines.add("none"),
     }
 }
@@ -41,9 +41,9 @@ pub(crate) fn add_value(alloc: Global, given: &[u8], name: &[u8], lines: &mut Li
 /// The first item of a value, and the rest.
 pub(crate) fn add_first_item(given: &[u8], lines: &mut Lines) {
     let (item, rest) = first_item(given);
-    add_bytes(lines, "[", item);
+    lines.add_shown("[", item);
     match rest {
-        Some(rest) => add_bytes(lines, "] rest ", rest),
+        Some(rest) => lines.add_shown("] rest ", rest),
         None => lines.add("]"),
     }
 }

@@ -1,8 +1,7 @@
 // Searches over bytes, compared with plain loops.
 
-use crate::numbers::number_in;
 use byte_lanes::{escaped_len, first_above, first_special};
-use case_text::Lines;
+use case_text::{Lines, long_number_in};
 
 /// The longest text of the table: three blocks of 32 and one byte.
 const LONGEST: usize = 97;
@@ -16,13 +15,13 @@ fn add_place(place: Option<usize>, lines: &mut Lines) {
 
 /// The first special byte from a place on.
 pub(crate) fn add_special(given: &[u8], from: &[u8], lines: &mut Lines) {
-    let from = number_in(from) as usize;
+    let from = long_number_in(from) as usize;
     add_place(first_special(given, from.min(given.len())), lines);
 }
 
 /// The first byte above ASCII from a place on.
 pub(crate) fn add_above(given: &[u8], from: &[u8], lines: &mut Lines) {
-    let from = number_in(from) as usize;
+    let from = long_number_in(from) as usize;
     add_place(first_above(given, from.min(given.len())), lines);
 }
 
@@ -95,7 +94,7 @@ fn are_found_with(len: usize, byte: u8) -> bool {
 
 /// The lengths up to 97 at which not all searches of texts with this byte at one place find what plain loops find.
 pub(crate) fn add_lanes(given: &[u8], lines: &mut Lines) {
-    let byte = (number_in(given) % 256) as u8;
+    let byte = (long_number_in(given) % 256) as u8;
     lines.add("differ:");
     for len in 0..=LONGEST {
         if !are_found_with(len, byte) {

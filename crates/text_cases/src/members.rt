@@ -1,9 +1,8 @@
 // Members of maps, and the texts that strings spell.
 
 use crate::json::add_found;
-use crate::numbers::number_in;
-use crate::told::{add_bytes, add_flag, note};
-use case_text::Lines;
+use crate::told::{add_flag, note};
+use case_text::{Lines, long_number_in};
 use json_text::{Doc, Node, push_string, push_string_of};
 use side_base::{Blob, NoMemory, Text};
 use std::alloc::Global;
@@ -33,7 +32,7 @@ pub(crate) fn add_name_is(doc: &Doc<'_>, name: &[u8], lines: &mut Lines) {
 /// How deep a text is nested, and the first list or map that stands inside so many others.
 pub(crate) fn add_levels(doc: &Doc<'_>, depth: &[u8], lines: &mut Lines) {
     lines.add_number("", doc.nesting(doc.root()) as u64);
-    add_found(doc, doc.first_inside(number_in(depth) as usize), lines);
+    add_found(doc, doc.first_inside(long_number_in(depth) as usize), lines);
 }
 
 // A text, byte by byte, by a walk and by its numbers.
@@ -63,10 +62,10 @@ fn add_texts(alloc: Global, doc: &Doc<'_>, lines: &mut Lines) -> Result<(), NoMe
     let mut pushed = Blob::new(alloc);
     push_bytes(doc, &mut walked, &mut counted)?;
     doc.push_text(doc.root(), &mut pushed)?;
-    add_bytes(lines, "", doc.text_of(alloc, doc.root())?.bytes());
-    add_bytes(lines, "|", walked.bytes());
-    add_bytes(lines, "|", counted.bytes());
-    add_bytes(lines, "|", pushed.bytes());
+    lines.add_shown("", doc.text_of(alloc, doc.root())?.bytes());
+    lines.add_shown("|", walked.bytes());
+    lines.add_shown("|", counted.bytes());
+    lines.add_shown("|", pushed.bytes());
     Ok(())
 }
 
@@ -80,8 +79,8 @@ fn add_names(alloc: Global, doc: &Doc<'_>, node: Node, lines: &mut Lines) -> Res
     if doc.is_node(node) {
         let mut pushed = Blob::new(alloc);
         doc.push_name(node, &mut pushed)?;
-        add_bytes(lines, "", doc.name_of(alloc, node)?.bytes());
-        add_bytes(lines, "|", pushed.bytes());
+        lines.add_shown("", doc.name_of(alloc, node)?.bytes());
+        lines.add_shown("|", pushed.bytes());
         if doc.name_bytes(node).next() != pushed.bytes().first().copied() {
             lines.add("|other");
         }
@@ -98,9 +97,9 @@ pub(crate) fn add_name(alloc: Global, doc: &Doc<'_>, lines: &mut Lines) {
 
 fn add_lasts(alloc: Global, doc: &Doc<'_>, lines: &mut Lines) -> Result<(), NoMemory> {
     for member in doc.last_members(alloc, doc.root())?.into_vec() {
-        add_bytes(lines, " ", member.name.bytes());
+        lines.add_shown(" ", member.name.bytes());
         if doc.is_node(member.node) {
-            add_bytes(lines, "=", doc.value_bytes(member.node));
+            lines.add_shown("=", doc.value_bytes(member.node));
         }
     }
     Ok(())
@@ -117,7 +116,7 @@ fn add_strings(alloc: Global, text: &Text, lines: &mut Lines) -> Result<(), NoMe
     let mut out = Blob::from_bytes(alloc, b"x")?;
     push_string(&mut out, text)?;
     push_string_of(&mut out, text.as_str())?;
-    add_bytes(lines, "", out.bytes());
+    lines.add_shown("", out.bytes());
     Ok(())
 }
 

@@ -1,15 +1,8 @@
 // Durations, decimal digits and moments.
 
-use crate::told::add_bytes;
-use case_text::Lines;
+use case_text::{Lines, long_number_in};
 use side_base::{Moment, duration_ms, number_of, split_digits};
 use std::alloc::Global;
-
-/// The number that a text begins with.
-pub(crate) fn number_in(text: &[u8]) -> u64 {
-    let (digits, _) = split_digits(text);
-    number_of(digits)
-}
 
 /// A duration in milliseconds, or why it is refused.
 pub(crate) fn add_duration(alloc: Global, given: &[u8], lines: &mut Lines) {
@@ -23,12 +16,12 @@ pub(crate) fn add_duration(alloc: Global, given: &[u8], lines: &mut Lines) {
 pub(crate) fn add_digits(given: &[u8], lines: &mut Lines) {
     let (digits, rest) = split_digits(given);
     lines.add_number("", number_of(digits));
-    add_bytes(lines, " ", rest);
+    lines.add_shown(" ", rest);
 }
 
 /// The milliseconds of a moment.
 pub(crate) fn add_moment(given: &[u8], lines: &mut Lines) {
-    match Moment::at(number_in(given)) {
+    match Moment::at(long_number_in(given)) {
         Some(moment) => lines.add_number("", moment.ms()),
         None => lines.add("none"),
     }

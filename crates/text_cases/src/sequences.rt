@@ -1,8 +1,7 @@
 // Sequences of numbers.
 
-use crate::numbers::number_in;
 use crate::told::note;
-use case_text::Lines;
+use case_text::{Lines, long_number_in};
 use side_base::Sequence;
 use std::alloc::Global;
 
@@ -24,10 +23,10 @@ fn at(items: &Sequence<u64>, place: usize) -> Option<u64> {
 fn step(items: &mut Sequence<u64>, word: &[u8], lines: &mut Lines) {
     match word {
         [b'+', number @ ..] => {
-            let pushed = items.push(number_in(number));
+            let pushed = items.push(long_number_in(number));
             note(lines, pushed);
         }
-        [b'@', number @ ..] => add_found(at(items, number_in(number) as usize), lines),
+        [b'@', number @ ..] => add_found(at(items, long_number_in(number) as usize), lines),
         [b'<'] => add_found(items.take_first(), lines),
         [b'#'] => lines.add_number(" ", items.len() as u64),
         [b'?'] => lines.add(if items.is_empty() { " empty" } else { " some" }),

@@ -1,6 +1,6 @@
 // Texts, which are UTF-8.
 
-use crate::told::{add_bytes, note};
+use crate::told::note;
 use case_text::Lines;
 use side_base::{Blob, NoMemory, Text};
 use std::alloc::Global;
@@ -8,8 +8,8 @@ use std::alloc::Global;
 fn add_copies(alloc: Global, text: &Text, lines: &mut Lines) -> Result<(), NoMemory> {
     let copy = text.copy()?;
     let again = Text::from_str(alloc, text.as_str())?;
-    add_bytes(lines, "] [", copy.bytes());
-    add_bytes(lines, "] [", again.bytes());
+    lines.add_shown("] [", copy.bytes());
+    lines.add_shown("] [", again.bytes());
     lines.add("]");
     Ok(())
 }
@@ -18,7 +18,7 @@ fn add_copies(alloc: Global, text: &Text, lines: &mut Lines) -> Result<(), NoMem
 pub(crate) fn add_utf8(alloc: Global, given: &[u8], lines: &mut Lines) {
     match Text::from_bytes(alloc, given) {
         Ok(text) => {
-            add_bytes(lines, "[", text.bytes());
+            lines.add_shown("[", text.bytes());
             let copied = add_copies(alloc, &text, lines);
             note(lines, copied);
         }
@@ -28,7 +28,7 @@ pub(crate) fn add_utf8(alloc: Global, given: &[u8], lines: &mut Lines) {
 
 fn add_outcome(blob: Blob, given: &[u8], lines: &mut Lines) {
     match blob.into_text() {
-        Ok(text) => add_bytes(lines, "text ", text.bytes()),
+        Ok(text) => lines.add_shown("text ", text.bytes()),
         Err(error) => {
             lines.add_number("NotUtf8 ", error.at as u64);
             if error.blob.bytes() == given {
