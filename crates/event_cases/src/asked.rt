@@ -1,21 +1,16 @@
 // Which call a section asks for.
 
 use crate::told::{add_event, add_len, add_time, add_verdict};
-use case_text::Lines;
+use case_text::{Lines, long_number_in, push_times};
 use cloud_events::{EventErr, Sent, verdict, wrap};
 use json_text::read;
-use side_base::{Blob, Moment, NoMemory, Text, number_of, split_digits};
+use side_base::{Blob, Moment, NoMemory, Text};
 use std::alloc::Global;
 
 /// 12:34:56.789 on 29 February 2024.
 const NOW: u64 = 1_709_210_096_789;
 
 const TRACEPARENT: &str = "00-4bf92f3577b34da6a3ce929d0e0e4736-00f067aa0ba902b7-01";
-
-fn number_in(text: &[u8]) -> u64 {
-    let (digits, _) = split_digits(text);
-    number_of(digits)
-}
 
 fn typed(alloc: Global, words: &str) -> Result<Option<Text>, NoMemory> {
     if words == "none" {
@@ -100,14 +95,8 @@ fn add_once(alloc: Global, words: &str, body: &[u8], lines: &mut Lines) -> Resul
 // The time of an event of a moment.
 fn add_moment(alloc: Global, given: &[u8], lines: &mut Lines) -> Result<(), NoMemory> {
     let sent = sent_of(alloc, None, Blob::new(alloc), false);
-    add_time(alloc, &wrapped_at(alloc, &sent, number_in(given)), lines);
-    Ok(())
-}
-
-fn push_times(out: &mut Blob, piece: &[u8], times: u64) -> Result<(), NoMemory> {
-    for _ in 0..times {
-        out.push(piece)?;
-    }
+    let wrapped = wrapped_at(alloc, &sent, long_number_in(given));
+    add_time(alloc, &wrapped, lines);
     Ok(())
 }
 
@@ -141,7 +130,7 @@ fn add_many(alloc: Global, words: &str, times: u64, lines: &mut Lines) -> Result
 
 // The verdict of a reply with this status, whose body is a JSON text or none.
 fn add_reply(alloc: Global, words: &str, body: &[u8], lines: &mut Lines) {
-    let status = u16::try_from(number_in(words.as_bytes())).unwrap_or(0);
+    let status = u16::try_from(long_number_in(words.as_bytes())).unwrap_or(0);
     match read(alloc, body) {
         Ok(doc) => add_verdict(verdict(status, Some(&doc)), lines),
         Err(_) => add_verdict(verdict(status, None), lines),
@@ -155,14 +144,15 @@ fn add_answer(
     given: &[u8],
     lines: &mut Lines,
 ) -> Result<(), NoMemory> {
+    let number = long_number_in(given);
     match word {
         "wrap" => add_wrapped(alloc, words, given, false, lines),
         "traced" => add_wrapped(alloc, words, given, true, lines),
         "once" => add_once(alloc, words, given, lines),
         "moment" => add_moment(alloc, given, lines),
-        "nested" => add_nested(alloc, words, b"", b"", number_in(given), lines),
-        "data-nested" => add_nested(alloc, words, b"{\"data\":", b"}", number_in(given), lines),
-        "many" => add_many(alloc, words, number_in(given), lines),
+        "nested" => add_nested(alloc, words, b"", b"", number, lines),
+        "data-nested" => add_nested(alloc, words, b"{\"data\":", b"}", number, lines),
+        "many" => add_many(alloc, words, number, lines),
         "verdict" => {
             add_reply(alloc, words, given, lines);
             Ok(())

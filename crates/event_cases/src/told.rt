@@ -6,16 +6,10 @@ use json_text::{Doc, read};
 use side_base::Blob;
 use std::alloc::Global;
 
-/// Adds words and bytes behind them, if they are a text.
-fn add_bytes(lines: &mut Lines, words: &str, bytes: &[u8]) {
-    lines.add(words);
-    lines.add(str::from_utf8(bytes).unwrap_or("no text"));
-}
-
 fn add_refusal(error: &EventErr, lines: &mut Lines) {
     match error {
         EventErr::NotJson { at } => lines.add_number("NotJson ", *at as u64),
-        EventErr::Attribute { name } => add_bytes(lines, "Attribute ", name.bytes()),
+        EventErr::Attribute { name } => lines.add_shown("Attribute ", name.bytes()),
         EventErr::BothData => lines.add("BothData"),
         EventErr::BadBase64 { at } => lines.add_number("BadBase64 ", *at as u64),
         EventErr::BadTime => lines.add("BadTime"),
@@ -26,7 +20,7 @@ fn add_refusal(error: &EventErr, lines: &mut Lines) {
 /// Adds an event, or why there is none.
 pub(crate) fn add_event(wrapped: &Result<Blob, EventErr>, lines: &mut Lines) {
     match wrapped {
-        Ok(event) => add_bytes(lines, "", event.bytes()),
+        Ok(event) => lines.add_shown("", event.bytes()),
         Err(error) => add_refusal(error, lines),
     }
 }
