@@ -1,8 +1,9 @@
 // What a case gives: the files of a folder, and for which app they are read.
 
 use crate::each::read_each;
-use case_text::{Lines, Section, name_in, number_in, unescaped, without_blank_end};
-use itoa::Buffer;
+use case_text::{
+    Lines, Section, first_word, name_in, number_in, push_numbered, said, without_blank_end,
+};
 use policy_spec::PolicyErr;
 use resource_files::{
     Refusal, Resources, ResourcesErr, read_resources, refusal_text, usual_resources,
@@ -50,10 +51,8 @@ pub(crate) fn app_of(alloc: Global, sections: &[Section<'_>]) -> Result<Text, No
 
 // The number that a text begins with, and the text behind it and a space.
 fn numbered(text: &str) -> (u64, &str) {
-    match text.split_once(' ') {
-        Some((number, name)) => (number_in(number) as u64, name),
-        None => (number_in(text) as u64, ""),
-    }
+    let (number, name) = first_word(text);
+    (u64::from(number_in(number)), name)
 }
 
 // The calls that are to fail.
@@ -65,18 +64,6 @@ fn failing(alloc: Global, sections: &[Section<'_>]) -> Result<Places, NoMemory> 
     Ok(places)
 }
 
-// This text as often as is said, each time with its number behind it and a line end.
-fn repeated(alloc: Global, text: &[u8], times: u64) -> Result<Blob, NoMemory> {
-    let mut all = Blob::new(alloc);
-    for number in 0..times {
-        let mut buffer = Buffer::new();
-        all.push(text)?;
-        all.push(buffer.format(number).as_bytes())?;
-        all.push_byte(b'\n')?;
-    }
-    Ok(all)
-}
-
 // This text with so many `#` behind it that it has this length.
 fn padded(mut text: Blob, len: u64) -> Result<Blob, NoMemory> {
     let missing = len.saturating_sub(text.len() as u64);
@@ -84,6 +71,13 @@ fn padded(mut text: Blob, len: u64) -> Result<Blob, NoMemory> {
         text.push_byte(b'#')?;
     }
     Ok(text)
+}
+
+// This text so many times, each time with its number.
+fn numbers(alloc: Global, text: &[u8], times: u64) -> Result<Blob, NoMemory> {
+    let mut all = Blob::new(alloc);
+    push_numbered(&mut all, text, times)?;
+    Ok(all)
 }
 
 // The name and the bytes of the file that a section is.
@@ -94,7 +88,7 @@ fn file_of<'a>(
 ) -> Result<(&'a str, Blob), NoMemory> {
     let (number, name) = numbered(section.name);
     match section.word {
-        "numbered" => Ok((name, repeated(alloc, text.bytes(), number)?)),
+        "numbered" => Ok((name, numbers(alloc, text.bytes(), number)?)),
         "padded" => Ok((name, padded(text, number)?)),
         _ => Ok((section.name, text)),
     }
@@ -115,8 +109,8 @@ fn add_section(
     alloc: Global,
     files: &mut MemoryFiles,
     section: &Section<'_>,
-    text: Blob,
 ) -> Result<(), NoMemory> {
+    let text = said(alloc, without_blank_end(section.text))?;
     let (name, bytes) = file_of(alloc, section, text)?;
     add_file(alloc, files, name, bytes)
 }
@@ -128,25 +122,6 @@ fn is_file(word: &str) -> bool {
     }
 }
 
-// Adds the file that a section is, if it is one; `false` where its text has no escape where it should.
-fn add_given(
-    alloc: Global,
-    files: &mut MemoryFiles,
-    section: &Section<'_>,
-) -> Result<bool, NoMemory> {
-    if !is_file(section.word) {
-        return Ok(true);
-    }
-    match unescaped(alloc, without_blank_end(section.text)) {
-        Ok(Some(text)) => match add_section(alloc, files, section, text) {
-            Ok(()) => Ok(true),
-            Err(error) => Err(error),
-        },
-        Ok(None) => Ok(false),
-        Err(error) => Err(error),
-    }
-}
-
 // The folder, without files.
 fn empty_folder(alloc: Global, sections: &[Section<'_>]) -> Result<MemoryFiles, NoMemory> {
     let mut files = MemoryFiles::new(alloc, failing(alloc, sections)?);
@@ -154,18 +129,18 @@ fn empty_folder(alloc: Global, sections: &[Section<'_>]) -> Result<MemoryFiles, 
     Ok(files)
 }
 
-// Adds the files of a case; `false` where the text of one has no escape where it should.
+// Adds the files of a case.
 fn add_all(
     alloc: Global,
     files: &mut MemoryFiles,
     sections: &[Section<'_>],
-) -> Result<bool, NoMemory> {
+) -> Result<(), NoMemory> {
     for section in sections {
-        if !add_given(alloc, files, section)? {
-            return Ok(false);
+        if is_file(section.word) {
+            add_section(alloc, files, section)?;
         }
     }
-    Ok(true)
+    Ok(())
 }
 
 fn doc_of_components(error: &SpecErr) -> Option<usize> {
@@ -273,11 +248,8 @@ fn read_usual(alloc: Global, app: &Text) -> Result<Outcome, NoMemory> {
 // Reads the files of a case.
 fn read_files(alloc: Global, sections: &[Section<'_>], app: &Text) -> Result<Outcome, NoMemory> {
     let mut files = empty_folder(alloc, sections)?;
-    if add_all(alloc, &mut files, sections)? {
-        read_folder(alloc, &mut files, sections, app)
-    } else {
-        Ok(Outcome::Refused(static_reason(alloc, "no escape")))
-    }
+    add_all(alloc, &mut files, sections)?;
+    read_folder(alloc, &mut files, sections, app)
 }
 
 // Reads a folder, or where none is named.

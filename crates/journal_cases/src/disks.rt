@@ -3,8 +3,8 @@
 use crate::bodies::add_commit;
 use crate::crashes::{add_crashes, add_cuts, add_kept_crashes};
 use crate::report::Report;
-use crate::words::{add_outcome, bytes_in, first_word, places_in, text};
-use case_text::{Lines, Section, number_in, said, without_blank_end};
+use crate::words::{add_outcome, bytes_in, places_in, text};
+use case_text::{Lines, Section, first_word, number_in, said, without_blank_end};
 use disk_journal::format;
 use disk_memory::MemoryDisk;
 use side_base::{NoMemory, Places};

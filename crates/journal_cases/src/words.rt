@@ -10,11 +10,6 @@ use std::alloc::Global;
 /// The greatest length of a journal in the program.
 pub(crate) const LIMIT: u64 = 402_653_184;
 
-/// The first word of some, and the others.
-pub(crate) fn first_word(words: &str) -> (&str, &str) {
-    words.split_once(' ').unwrap_or((words, ""))
-}
-
 /// The limit that a part names, or that of the program.
 pub(crate) fn limit_in(words: &str) -> u64
     ensures { result < 2 ^ 32 }

@@ -4,9 +4,9 @@ ghost use Rattle.retry_core.specs.BreakerPolicy.{IsWithinLimit};
 ghost use Rattle.turn_cell.specs.Sitting.{IsSeatOf};
 ghost use Rattle.turn_cell.specs.Growth.{Stays};
 
-use crate::words::{first_word, moment, number, small_number};
+use crate::words::{moment, number};
 use breaker_core::{Breaker, BreakerCmd, BreakerReply};
-use case_text::{Lines, Section, name_in, text_of};
+use case_text::{Lines, Section, first_word, name_in, number_in, text_of};
 use retry_core::{BreakerPolicy, Trip, trip_of};
 use side_base::Text;
 use std::alloc::Global;
@@ -43,7 +43,7 @@ fn policy_of(words: &str) -> Option<BreakerPolicy>
 {
     let (requests, words) = first_word(words);
     let (interval, words) = first_word(words);
-    policy_with(words, small_number(requests), number(interval))
+    policy_with(words, number_in(requests), number(interval))
 }
 
 // A report for a generation at a moment.

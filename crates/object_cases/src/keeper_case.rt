@@ -2,8 +2,8 @@
 ghost use Rattle.std.specs.Prelude.{IsTrue};
 ghost use Rattle.keeper_core.specs.Changes.{IsBelow, VersionsAreBelow};
 
-use crate::words::{blob, bytes, digits, failing, first_part, first_word, number};
-use case_text::{Lines, Section, name_in, text_of};
+use crate::words::{blob, bytes, digits, failing, first_part, number};
+use case_text::{Lines, Section, first_word, name_in, text_of};
 use keeper_core::{Change, ChangeList, Changes, KeepErr, Keeper, MemoryKeeper, RowView};
 use side_base::{Blob, Text};
 use std::alloc::Global;

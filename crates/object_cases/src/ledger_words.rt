@@ -4,7 +4,8 @@ ghost use Rattle.retry_core.specs.RetryPolicy.{IsWithinLimit};
 ghost use Rattle.ledger_core.specs.Plan.{AreWithinLimit};
 
 use crate::retry_case::policy_of;
-use crate::words::{blob, first_part, long_blob, number, small_number, text};
+use crate::words::{blob, first_part, long_blob, number, text};
+use case_text::number_in;
 use ledger_core::{Aim, Aims, Finish, LedgerCmd, Plan, Plans};
 use retry_core::RetryPolicy;
 use side_base::{Blob, Moment};
@@ -47,11 +48,11 @@ pub(crate) fn plans_of(alloc: Global, words: &str) -> Plans
 fn aim_of(alloc: Global, words: &str) -> Aim {
     match words.split_once('=') {
         Some((sub, path)) => Aim {
-            sub: small_number(sub),
+            sub: number_in(sub),
             path: Some(text(alloc, path)),
         },
         None => Aim {
-            sub: small_number(words),
+            sub: number_in(words),
             path: None,
         },
     }
@@ -102,7 +103,7 @@ fn settling(row: &str, finish: Finish, now: Moment, word: u64, dead_aims: Aims) 
     let (sub, claim) = place.split_once('.').unwrap_or((place, ""));
     LedgerCmd::Settle {
         no: number(no),
-        sub: small_number(sub),
+        sub: number_in(sub),
         claim: number(claim),
         finish,
         now,

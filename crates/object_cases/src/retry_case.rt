@@ -1,8 +1,8 @@
 // The waits of a policy of retries.
 ghost use Rattle.retry_core.specs.RetryPolicy.{IsKindWithinLimit, IsWithinLimit};
 
-use crate::words::{first_word, number, small_number};
-use case_text::{Lines, Section, name_in, text_of};
+use crate::words::number;
+use case_text::{Lines, Section, first_word, name_in, number_in, text_of};
 use retry_core::{Next, RetryKind, RetryPolicy, RetryRun};
 use side_base::Text;
 use std::alloc::Global;
@@ -26,7 +26,7 @@ fn retries_in(word: &str) -> Option<u32> {
     if word.is_empty() {
         None
     } else {
-        Some(small_number(word))
+        Some(number_in(word))
     }
 }
 

@@ -1,6 +1,7 @@
 // Commands of a store as a case names them.
 
-use crate::words::{blob, digits, first_part, first_word, long_blob, number, text};
+use crate::words::{blob, digits, first_part, long_blob, number, text};
+use case_text::first_word;
 use side_base::{Blob, Moment, Text};
 use state_core::{Cmd, Item, Items, Keys, Mode, Op, Ops};
 use std::alloc::Global;

@@ -1,7 +1,7 @@
 // Trips: their texts, and of which counts they are true.
 
-use crate::words::{bytes, first_word, number};
-use case_text::{Lines, Section, name_in, text_of};
+use crate::words::{bytes, number};
+use case_text::{Lines, Section, first_word, name_in, text_of};
 use retry_core::{Comparison, Counter, Counts, Join, Sign, Trip, TripErr, trip_of};
 use side_base::Text;
 use std::alloc::Global;

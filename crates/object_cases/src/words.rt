@@ -1,19 +1,13 @@
 // Words of a case. What finds no memory is left out: then the case differs, and is played again.
 
-use case_text::{Lines, Section, name_in, unescaped};
+use case_text::{Lines, Section, long_number_in, name_in, number_in, said};
 use itoa::Buffer;
-use side_base::{Blob, Moment, Places, Text, number_of, split_digits};
+use side_base::{Blob, Moment, Places, Text};
 use std::alloc::Global;
 
 /// The number that a text begins with.
 pub(crate) fn number(text: &str) -> u64 {
-    let (digits, _) = split_digits(text.as_bytes());
-    number_of(digits)
-}
-
-/// The number that a text begins with, if it is below 2^32.
-pub(crate) fn small_number(text: &str) -> u32 {
-    u32::try_from(number(text)).unwrap_or(0)
+    long_number_in(text.as_bytes())
 }
 
 /// The moment that a text says, in milliseconds.
@@ -67,10 +61,7 @@ pub(crate) fn long_blob(alloc: Global, len: u64) -> Blob {
 
 /// The bytes that a text means once its escapes are undone.
 pub(crate) fn bytes(alloc: Global, text: &str) -> Blob {
-    match unescaped(alloc, text.as_bytes()) {
-        Ok(Some(bytes)) => bytes,
-        _ => blob(alloc, "no escape"),
-    }
+    said(alloc, text.as_bytes()).unwrap_or(Blob::new(alloc))
 }
 
 /// Adds words and a number behind them; one past 2^64 is told as the greatest below it.
@@ -84,11 +75,6 @@ pub(crate) fn digits(alloc: Global, number: u64) -> Text {
     text(alloc, buffer.format(number))
 }
 
-/// The first word of some, and the others.
-pub(crate) fn first_word(words: &str) -> (&str, &str) {
-    words.split_once(' ').unwrap_or((words, ""))
-}
-
 /// What stands before the first `;`, and what stands after it.
 pub(crate) fn first_part(words: &str) -> (&str, &str) {
     words.split_once(';').unwrap_or((words, ""))
@@ -99,7 +85,7 @@ pub(crate) fn failing(alloc: Global, sections: &[Section<'_>]) -> Places {
     let mut places = Places::new(alloc);
     if let Some(words) = name_in(sections, "failing") {
         for word in words.split(' ') {
-            let _ = places.push(small_number(word));
+            let _ = places.push(number_in(word));
         }
     }
     places

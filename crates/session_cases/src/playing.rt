@@ -2,7 +2,7 @@
 
 use crate::given::{sizes, words};
 use crate::world::{Made, world};
-use case_text::{Lines, Piece, Section, joined_text, name_in, sections, text_of};
+use case_text::{Lines, Piece, Section, add_broken, joined_text, name_in, sections, text_of};
 use itoa::Buffer;
 use side_base::{NoMemory, Text};
 use side_memory::Sizes;
@@ -142,10 +142,9 @@ fn wrong<W: Threads + Wait + Sync>(
     case: &Piece<'_>,
 ) -> Result<Text, NoMemory> {
     let mut lines = Lines::new(alloc);
-    match sections(alloc, case) {
-        Ok(sections) => judge_case(rt, alloc, &sections, &mut lines),
-        Err(_) => lines.lack(),
-    }
+    let sections = sections(alloc, case)?;
+    add_broken(alloc, &sections, &mut lines);
+    judge_case(rt, alloc, &sections, &mut lines);
     lines.done()
 }
 

@@ -3,9 +3,9 @@ ghost use Rattle.std.specs.Prelude.{IfSome, IfOk};
 ghost use Rattle.state_api.specs.Asked.{IsState};
 ghost use Rattle.state_api.specs.Response.{IsCut};
 
-use crate::given::{first_word, text, text_in};
+use crate::given::{text, text_in};
 use api_routes::Route;
-use case_text::{Section, joined_text, name_in, text_of};
+use case_text::{Section, first_word, joined_text, name_in, text_of};
 use side_base::{Blob, Field, Fields, Method, Request, Text};
 use state_api::{StateErr, command};
 use state_core::{Cmd, Prefix};

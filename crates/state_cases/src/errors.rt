@@ -1,6 +1,6 @@
 // Errors by their codes.
 
-use crate::given::{first_word, number, text_in};
+use crate::given::{number, text_in};
 use crate::response_text::told;
 use api_error::{Code, error_response};
 use side_base::Text;

@@ -1,9 +1,9 @@
 // A book of metadata as a case has it: what is noted, and what is told.
 ghost use Rattle.turn_cell.specs.Sitting.{IsSeatOf};
 
-use crate::given::{first_word, number, repeated, text};
+use crate::given::{number, repeated, text};
 use crate::response_text::told;
-use case_text::{Section, name_in};
+use case_text::{Section, first_word, name_in};
 use itoa::Buffer;
 use meta_api::{
     ComponentNote, ComponentNotes, NoteErr, Notes, NotesCmd, NotesReply, Pairs, SubscriptionNote,

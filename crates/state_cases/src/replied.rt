@@ -10,9 +10,9 @@ ghost use Rattle.state_core.specs.Fits.{Fits, MayWrite, ArePlaces, IsDelete, key
 ghost use Rattle.state_api.specs.Ran.{IsAnswer};
 ghost use Rattle.state_api.specs.Response.{IsCut};
 
-use crate::given::{first_word, number};
+use crate::given::number;
 use crate::response_text::told;
-use case_text::{Section, text_of};
+use case_text::{Section, first_word, number_in, text_of};
 use policy_run::Refusal;
 use side_base::{NoMemory, Sequence, Text};
 use state_api::{Ran, response};
@@ -87,7 +87,7 @@ fn of_write(word: &str, words: &str) -> Option<Reply>
 fn numbers(alloc: Global, words: &str) -> Vec<u32> {
     let mut numbers = Vec::new(alloc);
     for word in words.split(' ') {
-        let _ = numbers.push(u32::try_from(number(word)).unwrap_or(0));
+        let _ = numbers.push(number_in(word));
     }
     numbers
 }
@@ -248,7 +248,7 @@ fn refusal_of(word: &str, words: &str) -> Option<Refusal> {
             until: number(words),
         }),
         "half-open" => Some(Refusal::TooMany {
-            out: u32::try_from(number(words)).unwrap_or(0),
+            out: number_in(words),
         }),
         _ => None,
     }

@@ -2,7 +2,7 @@
 
 use crate::given::World;
 use crate::subs_text::{aims_text, names_text, subs_text};
-use case_text::{Lines, Section, text_of};
+use case_text::{Lines, Section, first_word, text_of};
 use json_text::{Doc, JsonErr};
 use resource_spec::Component;
 use side_base::{NoMemory, Text};
@@ -23,14 +23,6 @@ fn refused_text(alloc: Global, refused: &Option<Text>) -> Result<Text, NoMemory>
     match refused {
         Some(text) => text.copy(),
         None => Ok(line(alloc, "it is read\n")),
-    }
-}
-
-// The first word of a text, and the text behind it and a space.
-fn first_word(text: &str) -> (&str, &str) {
-    match text.split_once(' ') {
-        Some((word, rest)) => (word, rest),
-        None => (text, ""),
     }
 }
 

@@ -1,8 +1,7 @@
 // What a case gives: documents, lists, and for which app they are read.
 
 use crate::refusal_text::refusal_text;
-use case_text::{Section, name_in, number_in, text_of};
-use itoa::Buffer;
+use case_text::{Section, name_in, number_in, push_numbered, text_of};
 use json_text::JsonErr;
 use resource_spec::{Components, components};
 use side_base::{Blob, NoMemory, Text};
@@ -32,18 +31,6 @@ pub(crate) fn is_given(word: &str) -> bool {
 /// The app for which a case is read.
 pub(crate) fn app_of(alloc: Global, sections: &[Section<'_>]) -> Result<Text, NoMemory> {
     Text::from_str(alloc, name_in(sections, "for").unwrap_or(APP))
-}
-
-// This text as often as is said, each time with its number behind it and a line end.
-fn repeated(alloc: Global, text: &[u8], times: u32) -> Result<Blob, NoMemory> {
-    let mut all = Blob::new(alloc);
-    for number in 0..times {
-        let mut buffer = Buffer::new();
-        all.push(text)?;
-        all.push(buffer.format(number).as_bytes())?;
-        all.push_byte(b'\n')?;
-    }
-    Ok(all)
 }
 
 fn refuse(world: &mut World, text: Text) {
@@ -138,7 +125,8 @@ fn take_numbered(
     text: &[u8],
     app: &Text,
 ) -> Result<(), NoMemory> {
-    let all = repeated(alloc, text, number_in(times))?;
+    let mut all = Blob::new(alloc);
+    push_numbered(&mut all, text, u64::from(number_in(times)))?;
     take_file(alloc, world, all.bytes(), app)
 }
 
