@@ -7,7 +7,7 @@ use crate::clock::{nanos, now};
 use crate::counter::{Counter, Step, rounds};
 use crate::line::{behind, tell};
 use std::alloc::{AllocError, Global};
-use std::io;
+use std::io::{self, ErrorKind};
 use std::rt::Clock;
 use std::sync::{Mutex, Wait};
 use std::thread::{Threads, map_vec};
@@ -179,6 +179,15 @@ fn on_one_mutex<R: Threads + Wait + Sync + Clock>(
     called(rt, alloc, vec![in alloc; &lock; threads as usize], pace)
 }
 
+/// An error where calls were to be made and there are no figures, since memory lacked.
+fn check(pace: Pace, figures: Figures) -> io::Result<()> {
+    if pace.calls > 0 && figures.rate == 0 {
+        Err(io::Error::from(ErrorKind::OutOfMemory))
+    } else {
+        Ok(())
+    }
+}
+
 /// Writes what so many threads did at the same pace, on a cell and on a mutex.
 fn tell_both<R: Eprint>(
     rt: &R,
@@ -188,6 +197,8 @@ fn tell_both<R: Eprint>(
     cell: Figures,
     mutex: Figures,
 ) -> io::Result<()> {
+    check(pace, cell)?;
+    check(pace, mutex)?;
     let parts = [
         behind("", u64::from(threads)),
         behind(which, u64::from(pace.work)),
@@ -280,7 +291,7 @@ pub(crate) fn held<R: Threads + Wait + Sync + Clock + CpuClock + Eprint>(
         turn: 0,
     };
     let (begin, before) = (now(rt), burnt(rt));
-    on_one_cell(rt, alloc, 8, Some(clock), pace);
+    check(pace, on_one_cell(rt, alloc, 8, Some(clock), pace))?;
     let parts = [
         behind(
             "8 threads, one of which holds its turn: ",

@@ -3,6 +3,7 @@
 use crate::given::{number, text_in};
 use crate::response_text::told;
 use api_error::{Code, error_response};
+use case_text::first_word;
 use side_base::Text;
 use std::alloc::Global;
 

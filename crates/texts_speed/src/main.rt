@@ -8,17 +8,29 @@ mod json;
 mod rows;
 mod work;
 
-use std::{env, io};
+use std::env;
+use std::io::{self, ErrorKind};
 
-/// How many requests of each row are made, and how often JSON is read, where the first word is no other number.
+/// How many requests of each row are made, and how often JSON is read, where no word says it.
 const TIMES: u32 = 1600;
 
-/// Measures what these words name.
-fn measure(rt: &HostRuntime, words: &[String]) -> io::Result<()> {
-    let times = match words.get(1) {
-        Some(word) => word.parse().unwrap_or(TIMES),
-        None => TIMES,
+/// The number that the first word is; an error where it is none.
+fn times_of(words: &[String]) -> io::Result<u32> {
+    let Some(word) = words.get(1) else {
+        return Ok(TIMES);
     };
+    match word.parse() {
+        Ok(times) => Ok(times),
+        Err(_) => Err(io::Error::from(ErrorKind::InvalidInput)),
+    }
+}
+
+/// Measures what these words name; an error where they name nothing.
+fn measure(rt: &HostRuntime, words: &[String]) -> io::Result<()> {
+    let times = times_of(words)?;
+    if !rows::are_known(words) {
+        return Err(io::Error::from(ErrorKind::InvalidInput));
+    }
     if rows::is_wanted(words, 2, "json") {
         json::tell(rt, times)?;
     }

@@ -101,6 +101,39 @@ pub(crate) const PARTS: &[Part] = &[
     },
 ];
 
+/// Whether this is the name of a row, or `json`.
+fn is_row(name: &str) -> bool {
+    for row in ROWS {
+        if row.name == name {
+            return true;
+        }
+    }
+    name == "json"
+}
+
+/// Whether this is the name of a part.
+fn is_part(name: &str) -> bool {
+    for part in PARTS {
+        if part.name == name {
+            return true;
+        }
+    }
+    false
+}
+
+/// Whether the second word is a row and the third a part, as far as there are such.
+pub(crate) fn are_known(words: &[String]) -> bool {
+    let is_row = match words.get(2) {
+        Some(word) => is_row(word.as_str()),
+        None => true,
+    };
+    let is_part = match words.get(3) {
+        Some(word) => is_part(word.as_str()),
+        None => true,
+    };
+    is_row && is_part
+}
+
 /// Whether the word at a place is this name, or there is none.
 pub(crate) fn is_wanted(words: &[String], place: usize, name: &str) -> bool {
     match words.get(place) {
