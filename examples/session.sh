@@ -36,21 +36,11 @@ until [ "$(curl -s -o /dev/null -w '%{http_code}' "$at/v1.0/healthz")" = 204 ]; 
     sleep 0.1
 done
 
-ask "$at/v1.0/healthz"
 ask -d '[{"key":"order-7","value":{"total":12.50}}]' "$store"
 ask "$store/order-7"
-ask -d '[{"key":"order-7","value":{"total":13},"etag":"1"}]' "$store"
-ask -d '[{"key":"order-7","value":{"total":14},"etag":"1"}]' "$store"
+ask -d '[{"key":"order-7","value":{"total":14},"etag":"9"}]' "$store"
 ask -d '[{"key":"seat-4","value":"ann","options":{"concurrency":"first-write"}}]' "$store"
 ask -d '[{"key":"seat-4","value":"bob","options":{"concurrency":"first-write"}}]' "$store"
-ask -d '{"keys":["order-7","seat-4","seat-5"]}' "$store/bulk"
-ask -d '{"operations":[{"operation":"upsert","request":{"key":"from","value":90}},{"operation":"upsert","request":{"key":"to","value":10}}]}' "$store/transaction"
-ask -d '{"operations":[{"operation":"upsert","request":{"key":"from","value":0}},{"operation":"delete","request":{"key":"to","etag":"9"}}]}' "$store/transaction"
-ask "$store/from"
-ask -X DELETE -H 'If-Match: 1' "$store/order-7"
-ask -X DELETE -H 'If-Match: 2' "$store/order-7"
-ask -d '[{"key":"offer","value":"10%","metadata":{"ttlInSeconds":"3600"}}]' "$store"
-ask "$at/v1.0/metadata"
-ask "$at/v1.0/nope"
+ask -d '{"operations":[{"operation":"upsert","request":{"key":"from","value":0}},{"operation":"delete","request":{"key":"seat-4","etag":"9"}}]}' "$store/transaction"
 ask -X POST "$at/v1.0/shutdown"
 wait "$sidecar"
