@@ -7,10 +7,11 @@ use Rattle.side_world.specs.declared.sink.Sink.{Ghosts as Writes}
 use Rattle.side_world.specs.Faults.{Rose}
 use Rattle.side_world.specs.Told.{IsFresh}
 
--- a connection that came back: the bytes that were read from it and written to it, whether its source has ended, and the counts
--- of faults of its source and its sink
+-- a connection that came back: the bytes that were read from it, of them those that all reads but the last have given, the bytes that were written to it,
+-- whether its source has ended, and the counts of faults of its source and its sink
 pub record Back : Type 0 where
   pub read : List ℕ
+  pub earlier : List ℕ
   pub written : List ℕ
   pub ended : Bool
   pub faults : ℕ
@@ -52,11 +53,13 @@ module _ {S N : Type 0} (reads : Reads S) (writes : Writes N) where
     pub no_faults : reads.faults source ≡ 0
     pub no_sink_faults : writes.faults sink ≡ 0
     pub unread : IsFresh (reads.taken source)
+    pub no_earlier : IsFresh (reads.earlier source)
     pub unwritten : IsFresh (writes.contents sink)
 
   -- what comes back of a connection whose source and sink tell it
   pub record ComesBack (source : S) (sink : N) (back : Back) : Type 0 where
     pub read : reads.taken source ≡ Some back.read
+    pub earlier : reads.earlier source ≡ Some back.earlier
     pub written : writes.contents sink ≡ Some back.written
     pub ended : reads.ended source ≡ back.ended
     pub faults : reads.faults source ≡ back.faults

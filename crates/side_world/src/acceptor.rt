@@ -2,6 +2,7 @@ ghost use Rattle.std.specs.Prelude.{◌≡◌, ◌≤◌, ℕ, List, [], ◌∷�
 ghost use Rattle.side_world.specs.Told.{Tells};
 
 use crate::{Sink, Source};
+use side_base::Moment;
 
 /// What an acceptor answers.
 #[derive(Debug, Drop)]
@@ -52,6 +53,15 @@ pub trait Acceptor {
         ensures told { told self.new ≡ told self.old }
         ensures faults { faults self.new ≡ faults self.old }
     {}
+
+    /// Says when the work that its worker found idle falls due next, so that the `accept` of some worker should answer `Idle` at that moment at the latest.
+    /// The least moment that any worker has told counts. A hint as `wake` is one.
+    fn due(&mut self, moment: Moment)
+        ensures told { told self.new ≡ told self.old }
+        ensures faults { faults self.new ≡ faults self.old }
+    {
+        let _ = moment;
+    }
 
     /// Says that its worker ends for a reason of its own, and that all others are to end too: their `accept` should answer soon, and what they wait for
     /// within a request should be waited for no longer than where others want them. A hint as `wake` is one.

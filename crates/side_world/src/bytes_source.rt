@@ -6,11 +6,14 @@ use std::marker::Model;
 
 /// A source whose bytes are in memory, and which never fails. It tells them.
 ///
-/// Contracts see the bytes that were taken, those that are left, and whether it has ended.
+/// Contracts see the bytes that were taken, those that all reads but the last took, those that are left, and whether it has ended.
 #[derive(Debug, Drop)]
 pub struct BytesSource {
     bytes: Blob,
+    /// How many bytes were read.
     at: usize,
+    /// How many had been before the last read.
+    before: usize,
     ended: bool,
 }
 
@@ -20,7 +23,7 @@ impl Model for BytesSource {
 
     ghost Value = { BytesState };
 
-    ghost view = { λ s. record { taken = take s.at s.bytes; left = drop s.at s.bytes; ended = s.ended } };
+    ghost view = { λ s. record { taken = take s.at s.bytes; earlier = take s.before s.bytes; left = drop s.at s.bytes; ended = s.ended } };
 
     ghost invariant = { λ s. s.at ≤ length s.bytes };
 }
@@ -28,11 +31,12 @@ impl Model for BytesSource {
 impl BytesSource {
     /// A source of `bytes`, of which none was taken; takes no memory.
     pub fn new(bytes: Blob) -> Self
-        ensures { result ≡ record { taken = []; left = bytes; ended = false } }
+        ensures { result ≡ record { taken = []; earlier = []; left = bytes; ended = false } }
     {
         BytesSource {
             bytes,
             at: 0,
+            before: 0,
             ended: false,
         }
     }
@@ -42,6 +46,8 @@ impl Source for BytesSource {
     ghost left = { λ s. Some s.left };
 
     ghost taken = { λ s. Some s.taken };
+
+    ghost earlier = { λ s. Some s.earlier };
 
     ghost ended = { λ s. s.ended };
 
@@ -54,6 +60,7 @@ impl Source for BytesSource {
             self.ended = true;
         }
         into[..n].copy_from_slice(&rest[..n]);
+        self.before = self.at;
         self.at += n;
         Ok(n)
     }

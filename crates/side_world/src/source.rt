@@ -12,6 +12,9 @@ pub trait Source {
     // All bytes that reads have given, where the source tells them.
     ghost taken: { Self → Option (List ℕ) };
 
+    // The bytes that all reads but the last have given, where the source tells them: behind them stands what the last read gave.
+    ghost earlier: { Self → Option (List ℕ) };
+
     // Whether a read has answered that the input has ended.
     ghost ended: { Self → Bool };
 
@@ -26,6 +29,7 @@ pub trait Source {
         ensures within { IfOk result (λ n. n ≤ length into.old) }
         ensures took { IfOk result (λ n. Took (left self.old) (left self.new) (take n into.new)) }
         ensures taken { IfOk result (λ n. Told (taken self.old) (taken self.new) (take n into.new)) }
+        ensures earlier { OnOk result (earlier self.new ≡ taken self.old) }
         ensures end { IfOk result (λ n. EndsWhereTold (left self.old) n) }
         ensures ended { IfOk result (λ n. ended self.new ≡ (ended self.old || (n == 0))) }
         ensures no_fault { OnOk result (faults self.new ≡ faults self.old) }
@@ -33,6 +37,7 @@ pub trait Source {
         ensures failed { OnErr result (Rose (faults self.old) (faults self.new)) }
         ensures untouched { OnErr result (left self.new ≡ left self.old) }
         ensures nothing_taken { OnErr result (taken self.new ≡ taken self.old) }
+        ensures no_read { OnErr result (earlier self.new ≡ earlier self.old) }
         ensures not_ended { OnErr result (ended self.new ≡ ended self.old) }
         ensures no_fewer { faults self.old ≤ faults self.new };
 
@@ -41,6 +46,7 @@ pub trait Source {
     fn between(&mut self, is_between: bool)
         ensures left { left self.new ≡ left self.old }
         ensures taken { taken self.new ≡ taken self.old }
+        ensures earlier { earlier self.new ≡ earlier self.old }
         ensures ended { ended self.new ≡ ended self.old }
         ensures faults { faults self.new ≡ faults self.old }
     {
