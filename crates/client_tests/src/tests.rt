@@ -36,6 +36,8 @@ impl Source for OneByOne {
 
     ghost taken = { λ s. Some s.bytes.taken };
 
+    ghost earlier = { λ s. Some s.bytes.earlier };
+
     ghost ended = { λ s. s.bytes.ended };
 
     ghost faults = { λ _. 0 };

@@ -14,7 +14,7 @@ use Rattle.http_frames.specs.Streams.{IsMarked, IsWholeStream, Midway, GivesRequ
 use Rattle.http_frames.specs.declared.refusal.FrameErr.{FrameErr}
 use Rattle.conn_serve.specs.declared.ended.Ended.{Ended}
 use Rattle.conn_serve.specs.Exchanged.{Exchanged, AreAnswered, IsMark, IsStop, request_in, is_head, answer_bytes, out_of, wholes_of}
-use Rattle.conn_serve.specs.Ends.{SinkAt, SourceAt, Sent, Cut, Passed, Read, IsFinish}
+use Rattle.conn_serve.specs.Ends.{SinkAt, SourceAt, Sent, Cut, Passed, ReadOnce, IsFinish}
 use Rattle.conn_serve.specs.Going.{Gathering, Going, mark_at}
 use Rattle.conn_serve.specs.Answering.{MakesRoom, keeps, sends, breaks}
 use Rattle.conn_serve.specs.Sending.{SentBeforeRead, GathersFew}
@@ -39,7 +39,7 @@ module _ {E : Type 0} (exchange : Request → List E → Result Response ApiErr 
     below = omega arith;
     acted = none-done;
     passed = record { sent = []; went = record { told = told_nothing sink.contents; no_fault = refl }; whole = refl };
-    before_read = nothing_read sink;
+    before_read = nothing_read source sink;
     gathering = gathers_none [] [] sink sink ([], told_nothing sink.contents);
     read = record { took = took_nothing source.left; taken = told_nothing source.taken; no_fault = refl };
   }
@@ -72,14 +72,14 @@ module _ {E : Type 0} (exchange : Request → List E → Result Response ApiErr 
   cut_all sink'' cut = subst (λ l. Cut l sink sink'') g.passed.whole (sent_then_cut g.passed.sent out sink sink' sink'' g.passed.went cut)
 
   -- what the sink has of the answers, whatever it is sent then
-  pub before_still : (sink'' : SinkAt) (added : List ℕ) → Told sink'.contents sink''.contents added → SentBeforeRead g.bytes g.done sink sink''
-  before_still sink'' added told = before_on g.bytes g.done sink sink' sink'' g.before_read added told
+  pub before_still : (sink'' : SinkAt) (added : List ℕ) → Told sink'.contents sink''.contents added → SentBeforeRead g.bytes g.done source source' sink sink''
+  before_still sink'' added told = before_on g.bytes g.done source source' sink sink' sink'' g.before_read added told
 
   pub few_still : (sink'' : SinkAt) (added : List ℕ) → Told sink'.contents sink''.contents added → GathersFew g.done sink sink''
   few_still sink'' added told = few_of g.done out sink sink' sink'' g.gathering added told
 
   -- all that was gathered was sent, and then more bytes were read
-  pub fed_on : (sink'' : SinkAt) → Sent out sink' sink'' → (piece : List ℕ) (source'' : SourceAt) → Read piece source' source'' → length piece ≤ 16384 → IsWholeStream g.bytes (wholes_of g.done) state None → Midway (g.bytes ++ piece) (wholes_of g.done) (fed state piece)
+  pub fed_on : (sink'' : SinkAt) → Sent out sink' sink'' → (piece : List ℕ) (source'' : SourceAt) → ReadOnce piece source' source'' → length piece ≤ 16384 → IsWholeStream g.bytes (wholes_of g.done) state None → Midway (g.bytes ++ piece) (wholes_of g.done) (fed state piece)
       → Going exchange did source source'' sink sink'' (fed state piece) number []
   fed_on sink'' sent piece source'' read short stream midway = record {
     bytes = g.bytes ++ piece;
@@ -92,12 +92,12 @@ module _ {E : Type 0} (exchange : Request → List E → Result Response ApiErr 
     acted = g.acted;
     passed = subst (λ b. Passed (out_of g.done ++ mark_at b) [] sink sink'') (sym (still state.refused g.midway.waits))
         (record { sent = g.passed.sent ++ out; went = two_sent g.passed.sent out sink sink' sink'' g.passed.went sent; whole = append-nil (g.passed.sent ++ out) ∙ g.passed.whole });
-    before_read = read_on g.bytes piece g.done state.pending (mark_at state.continued) sink sink'' short stream.stream (marked_is state.pending state.continued stream.marked) (sent_all sink'' sent).told;
+    before_read = read_on g.bytes piece g.done state.pending (mark_at state.continued) source source'' sink sink'' (subst (λ z. Told source.taken z g.bytes) (sym read.last) g.read.taken) short stream.stream (marked_is state.pending state.continued stream.marked) (sent_all sink'' sent).told;
     gathering = gathers_none g.done [] sink sink'' (mark_at state.continued, (sent_all sink'' sent).told);
     read = record {
-      took = took_on source.left source'.left source''.left g.bytes piece g.read.took read.took;
-      taken = told_on source.taken source'.taken source''.taken g.bytes piece g.read.taken read.taken;
-      no_fault = read.no_fault ∙ g.read.no_fault;
+      took = took_on source.left source'.left source''.left g.bytes piece g.read.took read.read.took;
+      taken = told_on source.taken source'.taken source''.taken g.bytes piece g.read.taken read.read.taken;
+      no_fault = read.read.no_fault ∙ g.read.no_fault;
     };
   }
     where
@@ -151,8 +151,8 @@ module _ {E : Type 0} (exchange : Request → List E → Result Response ApiErr 
   wholes_too response stop = subst (λ l. Midway g.bytes l state') (sym (map-append (λ x. x.whole) g.done (answered_as response stop ∷ []))) gives.midway
 
   -- what the sink has of the answers, whatever it is sent then
-  pub before_with : (response : Response) (stop : Option Ended) (sink'' : SinkAt) (added : List ℕ) → Told sink'.contents sink''.contents added → SentBeforeRead g.bytes (g.done ++ answered_as response stop ∷ []) sink sink''
-  before_with response stop sink'' added told = before_more g.bytes g.done (answered_as response stop) sink sink'' (before_still exchange did source source' sink sink' state number out g sink'' added told)
+  pub before_with : (response : Response) (stop : Option Ended) (sink'' : SinkAt) (added : List ℕ) → Told sink'.contents sink''.contents added → SentBeforeRead g.bytes (g.done ++ answered_as response stop ∷ []) source source' sink sink''
+  before_with response stop sink'' added told = before_more g.bytes g.done (answered_as response stop) source source' sink sink'' (before_still exchange did source source' sink sink' state number out g sink'' added told)
 
   pub few_with_it : (response : Response) (stop : Option Ended) (sink'' : SinkAt) (added : List ℕ) → Told sink'.contents sink''.contents added → GathersFew (g.done ++ answered_as response stop ∷ []) sink sink''
   few_with_it response stop sink'' added told = few_with g.done (answered_as response stop) out sink sink' sink'' g.gathering added told

@@ -7,7 +7,7 @@ use Rattle.side_world.proofs.Composed.{told_on, sent_after, sent_before}
 use Rattle.http_frames.specs.Framing.{State, Kept}
 use Rattle.conn_serve.specs.declared.ended.Ended.{Ended}
 use Rattle.conn_serve.specs.declared.ended.Ended.TheVariants.{Done, Closed, Asked, ClosedByPeer, Refused, Limit, Spent, SourceFailed, SinkFailed, NoMemory}
-use Rattle.conn_serve.specs.Ends.{SinkAt, SourceAt, Sent, Cut, Read, HasEnded, IsFinish, wrote, failed}
+use Rattle.conn_serve.specs.Ends.{SinkAt, SourceAt, Sent, Cut, ReadOnce, HasEnded, IsFinish, wrote, failed}
 use Rattle.conn_serve.specs.Answering.{Wants, IsEnd}
 use Rattle.conn_serve.specs.Answering as wants
 
@@ -30,11 +30,14 @@ finish_after ended first second sink between sink' result one (failed is two) = 
 -- ---- the source
 
 -- a read behind a hint
-pub read_after : (source hinted source' : SourceAt) (bytes : List ℕ) → hinted.left ≡ source.left → hinted.taken ≡ source.taken → hinted.faults ≡ source.faults → Took hinted.left source'.left bytes → Told hinted.taken source'.taken bytes → source'.faults ≡ hinted.faults → Read bytes source source'
-read_after source hinted source' bytes left taken faults took told no_fault = record {
-  took = subst (λ (z : Option (List ℕ)). Took z source'.left bytes) left took;
-  taken = subst (λ (z : Option (List ℕ)). Told z source'.taken bytes) taken told;
-  no_fault = no_fault ∙ faults;
+pub read_after : (source hinted source' : SourceAt) (bytes : List ℕ) → hinted.left ≡ source.left → hinted.taken ≡ source.taken → hinted.faults ≡ source.faults → Took hinted.left source'.left bytes → Told hinted.taken source'.taken bytes → source'.earlier ≡ hinted.taken → source'.faults ≡ hinted.faults → ReadOnce bytes source source'
+read_after source hinted source' bytes left taken faults took told last no_fault = record {
+  read = record {
+    took = subst (λ (z : Option (List ℕ)). Took z source'.left bytes) left took;
+    taken = subst (λ (z : Option (List ℕ)). Told z source'.taken bytes) taken told;
+    no_fault = no_fault ∙ faults;
+  };
+  last = last ∙ taken;
 }
 
 drained_by : (left left' : Option (List ℕ)) → EndsWhereTold left 0 → Took left left' [] → IsDrained left'
@@ -46,12 +49,12 @@ pub short_piece : (n : ℕ) (into room : List ℕ) → n ≤ length room → len
 short_piece n into room within short = omega (arith, length-take n into, within, short)
 
 -- a read of no bytes
-pub ended_at : (source hinted source' : SourceAt) (n : ℕ) (into : List ℕ) → n ≡ 0 → hinted.left ≡ source.left → hinted.taken ≡ source.taken → hinted.faults ≡ source.faults → Took hinted.left source'.left (take n into) → Told hinted.taken source'.taken (take n into) → EndsWhereTold hinted.left n → source'.ended ≡ (hinted.ended || (n == 0)) → source'.faults ≡ hinted.faults
+pub ended_at : (source hinted source' : SourceAt) (n : ℕ) (into : List ℕ) → n ≡ 0 → hinted.left ≡ source.left → hinted.taken ≡ source.taken → hinted.faults ≡ source.faults → Took hinted.left source'.left (take n into) → Told hinted.taken source'.taken (take n into) → source'.earlier ≡ hinted.taken → EndsWhereTold hinted.left n → source'.ended ≡ (hinted.ended || (n == 0)) → source'.faults ≡ hinted.faults
     → HasEnded source source'
-ended_at source hinted source' n into none-read left taken faults took told ends ended no_fault =
+ended_at source hinted source' n into none-read left taken faults took told last ends ended no_fault =
     let bare : take n into ≡ [] = ap (λ (k : ℕ). take k into) none-read in
     let took' = subst (λ (l : List ℕ). Took hinted.left source'.left l) bare took in record {
-      read = read_after source hinted source' [] left taken faults took' (subst (λ (l : List ℕ). Told hinted.taken source'.taken l) bare told) no_fault;
+      once = read_after source hinted source' [] left taken faults took' (subst (λ (l : List ℕ). Told hinted.taken source'.taken l) bare told) last no_fault;
       ended = ended ∙ ap (λ (k : ℕ). hinted.ended || (k == 0)) none-read ∙ or_true hinted.ended;
       drained = drained_by hinted.left source'.left (subst (λ (k : ℕ). EndsWhereTold hinted.left k) none-read ends) took';
     }

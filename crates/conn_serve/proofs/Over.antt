@@ -1,5 +1,5 @@
 -- How a session ends.
-use Rattle.std.proofs.Common.{◌≡◌, ◌≢◌, ◌⊎◌, ◌↔◌, ℕ, ◌+◌, ◌≤◌, Bool, true, false, List, [], ◌∷◌, ◌++◌, length, take, Option, Some, None, is_some, flat_map, Result, Ok, Err, refl, sym, ap, subst, ◌∙◌, inl, inr, ⊎_elim, append-nil}
+use Rattle.std.proofs.Common.{◌≡◌, ◌≢◌, ◌⊎◌, ◌↔◌, ℕ, ◌+◌, ◌≤◌, Bool, true, false, List, [], ◌∷◌, ◌++◌, length, take, Option, Some, None, is_some, flat_map, Result, Ok, Err, refl, sym, ap, subst, ◌∙◌, inl, inr, ⊎_elim, append-nil, arith}
 use Rattle.std.proofs.lemmas.List.Elements.{All-push}
 use Rattle.side_base.specs.declared.message.Request.{Request}
 use Rattle.side_base.specs.declared.message.Response.{Response}
@@ -21,12 +21,13 @@ use Rattle.conn_serve.specs.declared.ended.Ended.{Ended}
 use Rattle.conn_serve.specs.declared.ended.Ended.TheVariants.{Done, Closed, Asked, ClosedByPeer, Refused, Limit, Spent, SourceFailed, SinkFailed, NoMemory}
 use Rattle.conn_serve.specs.Exchanged.{Exchanged, Unanswered, IsStop, IsMark, is_head, out_of, wholes_of, request_in}
 use Rattle.conn_serve.specs.Session.{IsNext, Ends, sent_at, EndsSending, EndsAfter, EndsWithoutMemory, EndsRefused, EndsSpent, EndsWith, IsSpentAnswer, refused_bytes}
-use Rattle.conn_serve.specs.Ends.{SinkAt, SourceAt, Sent, Cut, Read, HasEnded, HasFailed, IsFinish, wrote, failed}
+use Rattle.conn_serve.specs.Ends.{SinkAt, SourceAt, Sent, Cut, ReadOnce, HasEnded, HasFailed, IsFinish, wrote, failed}
+use Rattle.conn_serve.specs.Sending.{SentBeforeRead}
 use Rattle.conn_serve.specs.Served.{Served, NoFault, IsOver, HasCause, IsShown}
 use Rattle.conn_serve.specs.Answering.{Wants, Went, Answers, Finishes, keeps, sends, breaks}
 use Rattle.conn_serve.specs.Answering as wants
 use Rattle.conn_serve.proofs.Moved.{finish_after, sent_then_cut}
-use Rattle.conn_serve.proofs.Sending.{finish_tells}
+use Rattle.conn_serve.proofs.Sending.{finish_tells, read_on, before_failed}
 use Rattle.conn_serve.specs.Going.{Going, After, Continues, EndsBy, mark_at}
 use Rattle.conn_serve.proofs.Going.{marks, marked_is, before_still, few_still, before_with, few_with_it, finish_all, sent_all, cut_all, fed_on, continue_on, answered_as, answered_too, traced, wholes_too, with_response, answered_on}
 
@@ -54,21 +55,25 @@ module _ {E : Type 0} (exchange : Request → List E → Result Response ApiErr 
   no_fault sent = record { read = g.read.no_fault; wrote = sent.no_fault }
 
   -- it ended so, with no more requests, when this was added to what was sent
-  over_so : (source'' : SourceAt) (ended : Ended) (added : List ℕ) → Told sink'.contents sink''.contents added → Took source.left source''.left g.bytes → Told source.taken source''.taken g.bytes → Ends exchange g.bytes g.done None (sent_at ended all front) ended → HasCause source source'' sink sink'' ended
+  over_so : (source'' : SourceAt) (ended : Ended) → SentBeforeRead g.bytes g.done source source'' sink sink'' → (added : List ℕ) → Told sink'.contents sink''.contents added → Took source.left source''.left g.bytes → Told source.taken source''.taken g.bytes → Ends exchange g.bytes g.done None (sent_at ended all front) ended → HasCause source source'' sink sink'' ended
       → Served exchange did shows source source'' sink sink'' ended
-  over_so source'' ended added told took taken ends cause = record {
+  over_so source'' ended before added told took taken ends cause = record {
     bytes = g.bytes;
     done = g.done;
     more = None;
     session = record { answered = g.answered; ends = ends };
     took = took;
     taken = taken;
-    before_read = before_still exchange did source source' sink sink' state number out g sink'' added told;
+    before_read = before;
     gathered = few_still exchange did source source' sink sink' state number out g sink'' added told;
     acted = subst did (sym (append-nil (flat_map (λ x. x.trace) g.done))) g.acted;
     shown = none_shown shows;
     cause = cause;
   }
+
+  -- the same where nothing was read since
+  over_here : (ended : Ended) (added : List ℕ) → Told sink'.contents sink''.contents added → Ends exchange g.bytes g.done None (sent_at ended all front) ended → HasCause source source' sink sink'' ended → Served exchange did shows source source' sink sink'' ended
+  over_here ended added told ends cause = over_so source' ended (before_still exchange did source source' sink sink' state number out g sink'' added told) added told g.read.took g.read.taken ends cause
 
   -- there was no memory, and no request of which steps were made
   without_memory : (sent : List ℕ → Type 0) → sent ((out_of g.done ++ mark_at state.continued) ++ no_memory_response) → EndsWithoutMemory exchange g.bytes g.done None sent
@@ -86,13 +91,13 @@ module _ {E : Type 0} (exchange : Request → List E → Result Response ApiErr 
   lacking result how = by (finish_all exchange did source source' sink sink' state number out g NoMemory no_memory_response sink'' result how) where
     by : IsFinish NoMemory ((out_of g.done ++ mark_at state.continued) ++ no_memory_response) sink sink'' result → Served exchange did shows source source' sink sink'' result
     by whole = let added = finish_tells NoMemory (out ++ no_memory_response) sink' sink'' result how in elim_finish NoMemory ((out_of g.done ++ mark_at state.continued) ++ no_memory_response) sink sink'' result (λ e. Served exchange did shows source source' sink sink'' e)
-        (λ sent. over_so source' NoMemory added.0 added.1 g.read.took g.read.taken (without_memory all sent.told) (no_fault sent))
-        (λ cut. over_so source' SinkFailed added.0 added.1 g.read.took g.read.taken (inr (NoMemory, without_memory front cut.front)) (cut.failed, g.read.no_fault)) whole
+        (λ sent. over_here NoMemory added.0 added.1 (without_memory all sent.told) (no_fault sent))
+        (λ cut. over_here SinkFailed added.0 added.1 (inr (NoMemory, without_memory front cut.front)) (cut.failed, g.read.no_fault)) whole
 
   -- the sink failed while what was gathered was being sent
   pub cut_off : Cut out sink' sink'' → Served exchange did shows source source' sink sink'' SinkFailed
   cut_off cut = let whole = cut_all exchange did source source' sink sink' state number out g sink'' cut in
-      over_so source' SinkFailed (take cut.front.0 out) cut.front.2 g.read.took g.read.taken (inl (record { going = g.going; rest = state.pending; begins = g.midway.begins; mark = mark_at state.continued; marked = mark_is state.pending state.continued g.midway.asking; no-more = refl; wrote = whole.front })) (whole.failed, g.read.no_fault)
+      over_here SinkFailed (take cut.front.0 out) cut.front.2 (inl (record { going = g.going; rest = state.pending; begins = g.midway.begins; mark = mark_at state.continued; marked = mark_is state.pending state.continued g.midway.asking; no-more = refl; wrote = whole.front })) (whole.failed, g.read.no_fault)
 
   -- what comes next is refused
   pub refused : (why : FrameErr) (result : Ended) → IsWholeStream g.bytes (wholes_of g.done) state (Some why) → (IsFinish (Refused why) (out ++ refused_bytes why) sink' sink'' result ⊎ IsFinish NoMemory (out ++ no_memory_response) sink' sink'' result) → Served exchange did shows source source' sink sink'' result
@@ -102,8 +107,8 @@ module _ {E : Type 0} (exchange : Request → List E → Result Response ApiErr 
 
     said : IsFinish (Refused why) (out ++ refused_bytes why) sink' sink'' result → Served exchange did shows source source' sink sink'' result
     said one = let added = finish_tells (Refused why) (out ++ refused_bytes why) sink' sink'' result one in elim_finish (Refused why) ((out_of g.done ++ mark_at state.continued) ++ refused_bytes why) sink sink'' result (λ e. Served exchange did shows source source' sink sink'' e)
-        (λ sent. over_so source' (Refused why) added.0 added.1 g.read.took g.read.taken (ends all sent.told) (no_fault sent))
-        (λ cut. over_so source' SinkFailed added.0 added.1 g.read.took g.read.taken (inr (Refused why, ends front cut.front)) (cut.failed, g.read.no_fault))
+        (λ sent. over_here (Refused why) added.0 added.1 (ends all sent.told) (no_fault sent))
+        (λ cut. over_here SinkFailed added.0 added.1 (inr (Refused why, ends front cut.front)) (cut.failed, g.read.no_fault))
         (finish_all exchange did source source' sink sink' state number out g (Refused why) (refused_bytes why) sink'' result one)
 
   module _ (stream : IsWholeStream g.bytes (wholes_of g.done) state None) (source'' : SourceAt) (sent : Sent out sink' sink'') where
@@ -115,17 +120,21 @@ module _ {E : Type 0} (exchange : Request → List E → Result Response ApiErr 
 
     module _ (has : HasEnded source' source'') where
       no_more_taken : Told source.taken source''.taken g.bytes
-      no_more_taken = subst (λ l. Told source.taken source''.taken l) (append-nil g.bytes) (told_on source.taken source'.taken source''.taken g.bytes [] g.read.taken has.read.taken)
+      no_more_taken = subst (λ l. Told source.taken source''.taken l) (append-nil g.bytes) (told_on source.taken source'.taken source''.taken g.bytes [] g.read.taken has.once.read.taken)
 
       no_more_took : Took source.left source''.left g.bytes
-      no_more_took = subst (λ l. Took source.left source''.left l) (append-nil g.bytes) (took_on source.left source'.left source''.left g.bytes [] g.read.took has.read.took)
+      no_more_took = subst (λ l. Took source.left source''.left l) (append-nil g.bytes) (took_on source.left source'.left source''.left g.bytes [] g.read.took has.once.read.took)
 
       over_now : IsOver source source'' sink sink''
-      over_now = record { no_fault = record { read = has.read.no_fault ∙ g.read.no_fault; wrote = whole_sent.no_fault }; ended = has.ended; drained = has.drained }
+      over_now = record { no_fault = record { read = has.once.read.no_fault ∙ g.read.no_fault; wrote = whole_sent.no_fault }; ended = has.ended; drained = has.drained }
+
+      before_now : SentBeforeRead g.bytes g.done source source'' sink sink''
+      before_now = subst (λ l. SentBeforeRead l g.done source source'' sink sink'') (append-nil g.bytes)
+          (read_on g.bytes [] g.done state.pending (mark_at state.continued) source source'' sink sink'' (subst (λ z. Told source.taken z g.bytes) (sym has.once.last) g.read.taken) (omega arith) stream.stream (marked_is state.pending state.continued stream.marked) whole_sent.told)
 
       -- the source has ended, between two requests
       pub done_now : state ≡ waiting [] false → Served exchange did shows source source'' sink sink'' Done
-      done_now is = over_so source'' Done out sent.told no_more_took no_more_taken (record {
+      done_now is = over_so source'' Done before_now out sent.told no_more_took no_more_taken (record {
         all = record { going = g.going; stream = subst (λ l. IsStream g.bytes (wholes_of g.done) l) (ap (λ (z : State). z.pending) is) stream.stream; accepted = subst (λ l. IsAccepted l) (ap (λ (z : State). z.pending) is) stream.end };
         no-more = refl;
         wrote = subst all (ap (λ (z : State). out_of g.done ++ mark_at z.continued) is ∙ append-nil (out_of g.done)) whole_sent.told;
@@ -133,11 +142,11 @@ module _ {E : Type 0} (exchange : Request → List E → Result Response ApiErr 
 
       -- or inside one
       pub closed_now : state.pending ≢ [] → Served exchange did shows source source'' sink sink'' ClosedByPeer
-      closed_now some = over_so source'' ClosedByPeer out sent.told no_more_took no_more_taken (state.pending, some, with_rest) over_now
+      closed_now some = over_so source'' ClosedByPeer before_now out sent.told no_more_took no_more_taken (state.pending, some, with_rest) over_now
 
     -- a read failed
     pub failed_now : HasFailed source' source'' → Served exchange did shows source source'' sink sink'' SourceFailed
-    failed_now has = over_so source'' SourceFailed out sent.told (subst (λ z. Took source.left z g.bytes) (sym has.left) g.read.took) (subst (λ z. Told source.taken z g.bytes) (sym has.taken) g.read.taken)
+    failed_now has = over_so source'' SourceFailed (before_failed g.bytes g.done source source' source'' sink sink'' (before_still exchange did source source' sink sink' state number out g sink'' out sent.told) has.taken has.earlier) out sent.told (subst (λ z. Took source.left z g.bytes) (sym has.left) g.read.took) (subst (λ z. Told source.taken z g.bytes) (sym has.taken) g.read.taken)
         (state.pending, with_rest) (subst (λ n. Rose n source''.faults) g.read.no_fault has.failed, whole_sent.no_fault)
 
 -- ---- the last request
@@ -326,7 +335,7 @@ module _ {E : Type 0} (exchange : Request → List E → Result Response ApiErr 
     (stream : IsWholeStream g.bytes (wholes_of g.done) state None)
     (feeds : (bytes piece : List ℕ) (wholes : List Whole) (at : State) → Midway bytes wholes at → Midway (bytes ++ piece) wholes (fed at piece)) where
   -- all was sent, and then this piece was read
-  fed_now : (piece : List ℕ) (between : SinkAt) → Sent out sink' between → Read piece source' source'' → length piece ≤ 16384 → Going exchange did source source'' sink between (fed state piece) number []
+  fed_now : (piece : List ℕ) (between : SinkAt) → Sent out sink' between → ReadOnce piece source' source'' → length piece ≤ 16384 → Going exchange did source source'' sink between (fed state piece) number []
   fed_now piece between sent read short = fed_on exchange did source source' sink sink' state number out g between sent piece source'' read short stream (feeds g.bytes piece (wholes_of g.done) state g.midway)
 
   pub wanted_on : Wants state out out' kept source' source'' sink' sink'' None → (piece : List ℕ) × Stands (fed state piece) kept × Going exchange did source source'' sink sink'' (fed state piece) number out'

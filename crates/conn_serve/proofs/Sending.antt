@@ -8,8 +8,8 @@ use Rattle.http_frames.specs.Requests.{ReadsHead}
 use Rattle.http_frames.specs.Streams.{IsStream}
 use Rattle.conn_serve.specs.declared.ended.Ended.{Ended}
 use Rattle.conn_serve.specs.Exchanged.{Exchanged, IsMark, out_of, response_bytes, responses_of, wholes_of}
-use Rattle.conn_serve.specs.Ends.{SinkAt, SentFirst, IsFinish, wrote, failed}
-use Rattle.conn_serve.specs.Sending.{SentBeforeRead, GathersFew}
+use Rattle.conn_serve.specs.Ends.{SinkAt, SourceAt, SentFirst, IsFinish, wrote, failed}
+use Rattle.conn_serve.specs.Sending.{SentBeforeRead, GathersFew, HadRead, reads, no_read}
 use Rattle.conn_serve.specs.Going.{Gathering}
 
 -- what was sent first stays so
@@ -32,8 +32,9 @@ no_head head after is = omega (arith, ap length is.reads.1, length-append (print
 module _ {E : Type 0} where
   -- ---- before the last piece was read
 
-  pub nothing_read : (sink : SinkAt) → SentBeforeRead {E = E} [] [] sink sink
-  nothing_read sink = record {
+  pub nothing_read : (source : SourceAt) (sink : SinkAt) → SentBeforeRead {E = E} [] [] source source sink sink
+  nothing_read source sink = record {
+    had = no_read refl refl refl;
     before = [];
     piece = [];
     read = refl;
@@ -48,8 +49,9 @@ module _ {E : Type 0} where
     sent = ([], told_nothing sink.contents);
   }
 
-  pub read_on : (bytes piece : List ℕ) (done : List (Exchanged E)) (rest mark : List ℕ) (sink sink' : SinkAt) → length piece ≤ 16384 → IsStream bytes (wholes_of done) rest → IsMark rest mark → Told sink.contents sink'.contents (out_of done ++ mark) → SentBeforeRead (bytes ++ piece) done sink sink'
-  read_on bytes piece done rest mark sink sink' short stream marked told = record {
+  pub read_on : (bytes piece : List ℕ) (done : List (Exchanged E)) (rest mark : List ℕ) (source source' : SourceAt) (sink sink' : SinkAt) → Told source.taken source'.earlier bytes → length piece ≤ 16384 → IsStream bytes (wholes_of done) rest → IsMark rest mark → Told sink.contents sink'.contents (out_of done ++ mark) → SentBeforeRead (bytes ++ piece) done source source' sink sink'
+  read_on bytes piece done rest mark source source' sink sink' had short stream marked told = record {
+    had = reads had;
     before = bytes;
     piece = piece;
     read = refl;
@@ -64,8 +66,9 @@ module _ {E : Type 0} where
     sent = ([], subst (λ l. Told sink.contents sink'.contents l) (sym (append-nil (out_of done ++ mark))) told);
   }
 
-  pub before_on : (bytes : List ℕ) (done : List (Exchanged E)) (sink between sink' : SinkAt) → SentBeforeRead bytes done sink between → (added : List ℕ) → Told between.contents sink'.contents added → SentBeforeRead bytes done sink sink'
-  before_on bytes done sink between sink' b added told = record {
+  pub before_on : (bytes : List ℕ) (done : List (Exchanged E)) (source source' : SourceAt) (sink between sink' : SinkAt) → SentBeforeRead bytes done source source' sink between → (added : List ℕ) → Told between.contents sink'.contents added → SentBeforeRead bytes done source source' sink sink'
+  before_on bytes done source source' sink between sink' b added told = record {
+    had = b.had;
     before = b.before;
     piece = b.piece;
     read = b.read;
@@ -80,8 +83,9 @@ module _ {E : Type 0} where
     sent = first_on (out_of b.old ++ b.mark) sink between sink' b.sent added told;
   }
 
-  pub before_more : (bytes : List ℕ) (done : List (Exchanged E)) (x : Exchanged E) (sink sink' : SinkAt) → SentBeforeRead bytes done sink sink' → SentBeforeRead bytes (done ++ x ∷ []) sink sink'
-  before_more bytes done x sink sink' b = record {
+  pub before_more : (bytes : List ℕ) (done : List (Exchanged E)) (x : Exchanged E) (source source' : SourceAt) (sink sink' : SinkAt) → SentBeforeRead bytes done source source' sink sink' → SentBeforeRead bytes (done ++ x ∷ []) source source' sink sink'
+  before_more bytes done x source source' sink sink' b = record {
+    had = b.had;
     before = b.before;
     piece = b.piece;
     read = b.read;
@@ -95,6 +99,28 @@ module _ {E : Type 0} where
     marked = b.marked;
     sent = b.sent;
   }
+
+  -- a read that failed was none
+  pub before_failed : (bytes : List ℕ) (done : List (Exchanged E)) (source between source' : SourceAt) (sink sink' : SinkAt) → SentBeforeRead bytes done source between sink sink' → source'.taken ≡ between.taken → source'.earlier ≡ between.earlier → SentBeforeRead bytes done source source' sink sink'
+  before_failed bytes done source between source' sink sink' b taken earlier = record {
+    had = still b.had;
+    before = b.before;
+    piece = b.piece;
+    read = b.read;
+    short = b.short;
+    old = b.old;
+    new = b.new;
+    whole = b.whole;
+    rest = b.rest;
+    stream = b.stream;
+    mark = b.mark;
+    marked = b.marked;
+    sent = b.sent;
+  }
+    where
+      still : HadRead source between b.before → HadRead source source' b.before
+      still (reads had) = reads (subst (λ z. Told source.taken z b.before) (sym earlier) had)
+      still (no_read bare same was) = no_read bare (taken ∙ same) (earlier ∙ was)
 
   -- ---- what is gathered
 

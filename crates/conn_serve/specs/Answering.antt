@@ -12,7 +12,7 @@ use Rattle.conn_serve.specs.declared.ended.Ended.{Ended}
 use Rattle.conn_serve.specs.declared.ended.Ended.TheVariants.{Done, ClosedByPeer, Refused, Spent, SourceFailed, SinkFailed, NoMemory}
 use Rattle.conn_serve.specs.Exchanged.{IsStop, is_head}
 use Rattle.conn_serve.specs.Session.{IsSpentAnswer, refused_bytes}
-use Rattle.conn_serve.specs.Ends.{SinkAt, SourceAt, Sent, Cut, IsFinish, Read, HasEnded, HasFailed}
+use Rattle.conn_serve.specs.Ends.{SinkAt, SourceAt, Sent, Cut, IsFinish, ReadOnce, HasEnded, HasFailed}
 
 -- the session is over, and ended so
 abbrev pub Finishes : Ended → List ℕ → SinkAt → SinkAt → Option Ended → Type 0
@@ -48,8 +48,8 @@ Answers number request out out' sink sink' (Err (error.Exhausted count)) result 
 
 -- More bytes are wanted: what was gathered is sent, and then the source is read, whose bytes the framer takes, 16,384 at most
 pub data Wants (state : State) (out out' : List ℕ) (kept : Kept) (source source' : SourceAt) (sink sink' : SinkAt) (result : Option Ended) : Type 0 where
-  more : (piece : List ℕ) → result ≡ None → out' ≡ [] → Sent out sink sink' → Read piece source source' → length piece ≤ 16384 → Stands (fed state piece) kept → Wants state out out' kept source source' sink sink' result
-  lacks : (piece : List ℕ) (between : SinkAt) → Sent out sink between → Read piece source source' → length piece ≤ 16384 → LacksRoom [] between sink' result → Wants state out out' kept source source' sink sink' result
+  more : (piece : List ℕ) → result ≡ None → out' ≡ [] → Sent out sink sink' → ReadOnce piece source source' → length piece ≤ 16384 → Stands (fed state piece) kept → Wants state out out' kept source source' sink sink' result
+  lacks : (piece : List ℕ) (between : SinkAt) → Sent out sink between → ReadOnce piece source source' → length piece ≤ 16384 → LacksRoom [] between sink' result → Wants state out out' kept source source' sink sink' result
   cut : result ≡ Some SinkFailed → Cut out sink sink' → source' ≡ source → Wants state out out' kept source source' sink sink' result
   done : result ≡ Some Done → state ≡ waiting [] false → Sent out sink sink' → HasEnded source source' → Wants state out out' kept source source' sink sink' result
   closed : result ≡ Some ClosedByPeer → state ≢ waiting [] false → Sent out sink sink' → HasEnded source source' → Wants state out out' kept source source' sink sink' result

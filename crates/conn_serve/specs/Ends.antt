@@ -15,15 +15,17 @@ pub record SinkAt : Type 0 where
 abbrev pub sink_at : {N : Type 0} → Takes N → N → SinkAt
 sink_at takes sink = record { contents = takes.contents sink; faults = takes.faults sink }
 
--- what a source shows: the bytes that are left and those that were read, where it tells them; whether it has ended; its count of faults
+-- what a source shows: the bytes that are left, those that were read, and those that all reads but the last gave, where it tells them; whether it has ended; its
+-- count of faults
 pub record SourceAt : Type 0 where
   pub left : Option (List ℕ)
   pub taken : Option (List ℕ)
+  pub earlier : Option (List ℕ)
   pub ended : Bool
   pub faults : ℕ
 
 abbrev pub source_at : {S : Type 0} → Gives S → S → SourceAt
-source_at gives source = record { left = gives.left source; taken = gives.taken source; ended = gives.ended source; faults = gives.faults source }
+source_at gives source = record { left = gives.left source; taken = gives.taken source; earlier = gives.earlier source; ended = gives.ended source; faults = gives.faults source }
 
 -- these bytes were sent, without a fault
 pub record Sent (bytes : List ℕ) (sink sink' : SinkAt) : Type 0 where
@@ -56,9 +58,14 @@ pub record Read (bytes : List ℕ) (source source' : SourceAt) : Type 0 where
   pub taken : Told source.taken source'.taken bytes
   pub no_fault : source'.faults ≡ source.faults
 
+-- the same by one read, which is the last one so far
+pub record ReadOnce (bytes : List ℕ) (source source' : SourceAt) : Type 0 where
+  pub read : Read bytes source source'
+  pub last : source'.earlier ≡ source.taken
+
 -- the source has ended
 pub record HasEnded (source source' : SourceAt) : Type 0 where
-  pub read : Read [] source source'
+  pub once : ReadOnce [] source source'
   pub ended : source'.ended ≡ true
   pub drained : IsDrained source'.left
 
@@ -66,4 +73,5 @@ pub record HasEnded (source source' : SourceAt) : Type 0 where
 pub record HasFailed (source source' : SourceAt) : Type 0 where
   pub left : source'.left ≡ source.left
   pub taken : source'.taken ≡ source.taken
+  pub earlier : source'.earlier ≡ source.earlier
   pub failed : Rose source.faults source'.faults

@@ -46,7 +46,7 @@ pub record Going {E : Type 0} (exchange : Request → List E → Result Response
   pub below : number < 100000
   pub acted : did (flat_map (λ x. x.trace) done)
   pub passed : Passed (out_of done ++ mark_at state.continued) out sink sink'
-  pub before_read : SentBeforeRead bytes done sink sink'
+  pub before_read : SentBeforeRead bytes done source source' sink sink'
   pub gathering : Gathering done out sink sink'
   pub read : Read bytes source source'
 

@@ -49,7 +49,7 @@ pub record Served {E : Type 0} (exchange : Request → List E → Result Respons
   pub session : Session exchange bytes done more (λ out. Told sink.contents sink'.contents out) (λ out. SentSome sink.contents sink'.contents out) ended
   pub took : Took source.left source'.left bytes
   pub taken : Told source.taken source'.taken bytes
-  pub before_read : SentBeforeRead bytes done sink sink'
+  pub before_read : SentBeforeRead bytes done source source' sink sink'
   pub gathered : GathersFew done sink sink'
   pub acted : did (trace_of done more)
   pub shown : IsShown shows more

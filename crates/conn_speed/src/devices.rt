@@ -21,6 +21,8 @@ impl Source for Again<'_> {
 
     ghost taken = { λ _. None };
 
+    ghost earlier = { λ _. None };
+
     ghost ended = { λ s. s.ended };
 
     ghost faults = { λ _. 0 };

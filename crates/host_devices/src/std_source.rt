@@ -31,6 +31,8 @@ impl<R: Read> Source for StdSource<R> {
 
     ghost taken = { λ _. None };
 
+    ghost earlier = { λ _. None };
+
     ghost ended = { λ s. s.ended };
 
     ghost faults = { λ s. s.faults };

@@ -72,6 +72,8 @@ impl<R: Net + time::Clock + Copy + Drop> Source for TimedStream<R> {
 
     ghost taken = { λ _. None };
 
+    ghost earlier = { λ _. None };
+
     ghost ended = { λ s. s.ended };
 
     ghost faults = { λ s. s.faults };

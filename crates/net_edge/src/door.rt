@@ -2,7 +2,7 @@ use crate::door_limits::DoorLimits;
 use crate::pace::Pace;
 use crate::places::Places;
 use crate::ready_set::{Bell, ReadySet, When};
-use crate::waiting::now_ms;
+use crate::waiting::{moment_ms, now_ms};
 use std::io::{self, ErrorKind};
 use std::net::{Ipv4Addr, Net, SocketAddrV4, TcpListener, TcpStream};
 use std::os::fd::AsRawFd;
@@ -29,6 +29,9 @@ const SWEEP_MS: u64 = 50;
 /// The longest that a worker waits before it looks again at what others changed, in milliseconds.
 pub(crate) const LOOK_MS: i32 = 50;
 
+/// The moment of work that never falls due.
+const NEVER: u64 = u64::MAX;
+
 /// What all workers share of a door: the set of what they wait for, and the connections that none of them serves.
 #[derive(Drop)]
 pub(crate) struct Door {
@@ -48,6 +51,8 @@ pub(crate) struct Door {
     swept_at: AtomicU64,
     sweeps: AtomicU64,
     has_other_work: AtomicBool,
+    /// The least moment at which idle work falls due that a worker has told since other work was last taken, in milliseconds since 1970; `NEVER` where none has.
+    due_at: AtomicU64,
     /// A worker ended for a reason of its own, and so all end.
     is_ending: AtomicBool,
     is_shut: AtomicBool,
@@ -113,6 +118,7 @@ impl Door {
             swept_at: AtomicU64::new(0),
             sweeps: AtomicU64::new(0),
             has_other_work: AtomicBool::new(false),
+            due_at: AtomicU64::new(NEVER),
             is_ending: AtomicBool::new(false),
             is_shut: AtomicBool::new(false),
         })
@@ -160,10 +166,31 @@ impl Door {
         self.bell.ring();
     }
 
+    /// Says when idle work falls due.
+    pub(crate) fn tell_due(&self, moment: u64) {
+        self.due_at.fetch_min(moment, Ordering::SeqCst);
+    }
+
     /// Whether there is other work, which the caller then does.
     pub(crate) fn take_other_work(&self) -> bool {
         self.has_other_work.load(Ordering::SeqCst)
             && self.has_other_work.swap(false, Ordering::SeqCst)
+            || self.is_due() && self.due_at.swap(NEVER, Ordering::SeqCst) != NEVER
+    }
+
+    /// Whether idle work has fallen due.
+    fn is_due(&self) -> bool {
+        let at = self.due_at.load(Ordering::SeqCst);
+        at != NEVER && at <= moment_ms()
+    }
+
+    /// For how many milliseconds a worker may wait: until idle work falls due, and `LOOK_MS` at most.
+    pub(crate) fn rest_ms(&self) -> u64 {
+        let at = self.due_at.load(Ordering::SeqCst);
+        if at == NEVER {
+            return LOOK_MS as u64;
+        }
+        at.saturating_sub(moment_ms()).min(LOOK_MS as u64)
     }
 
     /// Waits at most so many milliseconds for one thing, and does what is to be done for it.
@@ -340,6 +367,9 @@ impl Door {
     /// Whether something wants a worker: other work, of which the bell may tell no longer, or what the set has ready. Where a pause
     /// of accepting is over and no worker has looked since, those who wait to connect are among that only from now on.
     fn is_wanted(&self) -> bool {
-        self.has_other_work.load(Ordering::SeqCst) || self.resume().is_err() || self.set.has_ready()
+        self.has_other_work.load(Ordering::SeqCst)
+            || self.is_due()
+            || self.resume().is_err()
+            || self.set.has_ready()
     }
 }

@@ -6,6 +6,7 @@ use crate::tcp_sink::TcpSink;
 use crate::tcp_source::TcpSource;
 use crate::waiting::now_ms;
 use host_devices::FaultCount;
+use side_base::Moment;
 use side_world::{Accepted, Acceptor, Failed, Sink, Source};
 use std::io;
 use std::net::TcpStream;
@@ -77,7 +78,7 @@ impl<R: Wait + AllocGlobal> TcpAcceptor<R> {
         &self.faults
     }
 
-    /// Waits for what comes next, `LOOK_MS` at most. Other work comes first, but not twice in a row.
+    /// Waits for what comes next, until idle work falls due and `LOOK_MS` at most. Other work comes first, but not twice in a row.
     fn await_next(&self, spare: &mut Option<Doors>) -> io::Result<Next> {
         if self.door.is_shut() {
             return Ok(Next::Closed);
@@ -90,8 +91,8 @@ impl<R: Wait + AllocGlobal> TcpAcceptor<R> {
         }
         let now = now_ms();
         self.door.sweep(now);
-        let until = now.saturating_add(LOOK_MS as u64);
-        let mut ms = LOOK_MS;
+        let until = now.saturating_add(self.door.rest_ms());
+        let mut ms = ms_until(until);
         for _ in 0..LOOKS {
             match self.door.look(&self.rt, ms)? {
                 Look::Conn { stream, has_ended } => return self.shared(stream, has_ended, spare),
@@ -192,6 +193,10 @@ impl<R: Wait + AllocGlobal> Acceptor for TcpAcceptor<R> {
 
     fn wake(&mut self) {
         self.door.wake();
+    }
+
+    fn due(&mut self, moment: Moment) {
+        self.door.tell_due(moment.ms());
     }
 
     fn leave(&mut self) {

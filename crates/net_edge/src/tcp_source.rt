@@ -196,6 +196,8 @@ impl Source for TcpSource {
 
     ghost taken = { λ _. None };
 
+    ghost earlier = { λ _. None };
+
     ghost ended = { λ s. s.ended };
 
     ghost faults = { λ s. s.faults };

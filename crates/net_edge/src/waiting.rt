@@ -1,15 +1,24 @@
 use libc::net::{self, POLLIN, POLLOUT};
 use libc::types::{pollfd, timespec};
-use libc::{CLOCK_MONOTONIC, clock_gettime};
+use libc::{CLOCK_MONOTONIC, CLOCK_REALTIME, clock_gettime};
 use std::os::fd::RawFd;
 
 /// The milliseconds since some start, by the system's clock that is never set back.
 pub(crate) fn now_ms() -> u64 {
+    ms_of(CLOCK_MONOTONIC)
+}
+
+/// The milliseconds since 1970 in UTC, by the clock of the day.
+pub(crate) fn moment_ms() -> u64 {
+    ms_of(CLOCK_REALTIME)
+}
+
+fn ms_of(clock: i32) -> u64 {
     let mut time = timespec {
         tv_sec: 0,
         tv_nsec: 0,
     };
-    clock_gettime(CLOCK_MONOTONIC, &mut time);
+    clock_gettime(clock, &mut time);
     let nanos = time.tv_nsec.unsigned_abs();
     time.tv_sec
         .unsigned_abs()

@@ -15,7 +15,7 @@ use Rattle.session_laws.specs.WorkedBy.{HasDoneBy}
 
 -- a connection from which these bytes were read, and to which those were written; its source has ended, and nothing failed
 abbrev pub came_back : List ℕ → List ℕ → Answer
-came_back read written = conn (Some (record { read = read; written = written; ended = true; faults = 0; sink_faults = 0 }))
+came_back read written = conn (Some (record { read = read; earlier = read; written = written; ended = true; faults = 0; sink_faults = 0 }))
 
 -- a connection in which health is asked for, none for a while, and none any more
 abbrev pub is_asked_once : List Answer

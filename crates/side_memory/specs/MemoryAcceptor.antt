@@ -15,7 +15,7 @@ use Rattle.side_memory.specs.declared.memory_acceptor.Visited.{Visited}
 
 -- what came back of a connection
 abbrev pub back_of : Visited → Back
-back_of visited = record { read = visited.source.taken; written = visited.sink.contents; ended = visited.source.ended; faults = visited.source.faults; sink_faults = visited.sink.faults }
+back_of visited = record { read = visited.source.taken; earlier = visited.source.earlier; written = visited.sink.contents; ended = visited.source.ended; faults = visited.source.faults; sink_faults = visited.sink.faults }
 
 abbrev pub told_of : AcceptorNote → Answer
 told_of (note.Conn None) = conn None
@@ -36,7 +36,7 @@ pub record AcceptorState : Type 0 where
 -- the connection that a visit makes
 abbrev pub IsVisit : Visit → SourceState → SinkState → Type 0
 IsVisit visit source sink =
-    (source ≡ record { taken = []; left = visit.input; ended = false; faults = 0; plan = begun visit.failing_reads })
+    (source ≡ record { taken = []; earlier = []; left = visit.input; ended = false; faults = 0; plan = begun visit.failing_reads })
     × (sink ≡ record { contents = []; faults = 0; plan = begun visit.failing_writes })
 
 -- an answer is the first of a list, of which these are left then; behind its end no connection comes

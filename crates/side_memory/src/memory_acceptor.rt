@@ -7,7 +7,7 @@ use crate::memory_sink::MemorySink;
 use crate::memory_source::MemorySource;
 use crate::notes::Notes;
 use disk_memory::{Schedule, Sizes};
-use side_base::{Blob, Places, Sequence};
+use side_base::{Blob, Moment, Places, Sequence};
 use side_world::{Accepted, Acceptor, Failed, Sink, Source};
 use std::alloc::Global;
 use std::marker::Model;
@@ -185,6 +185,12 @@ impl Acceptor for MemoryAcceptor {
     fn wake(&mut self)
         ensures same { self.new ≡ self.old }
     {}
+
+    fn due(&mut self, moment: Moment)
+        ensures same { self.new ≡ self.old }
+    {
+        let _ = moment;
+    }
 }
 
 fn note(answer: &Accepted<MemorySource, MemorySink>) -> AcceptorNote

@@ -8,7 +8,7 @@ use std::marker::Model;
 
 /// A source whose bytes are in memory. It tells them.
 ///
-/// Contracts see the bytes that were taken and those that are left, whether it has ended, and its count of faults.
+/// Contracts see the bytes that were taken, those that all reads but the last took, those that are left, whether it has ended, and its count of faults.
 #[derive(Debug, Drop)]
 pub struct MemorySource {
     bytes: BytesSource,
@@ -21,13 +21,13 @@ impl Model for MemorySource {
 
     ghost Value = { SourceState };
 
-    ghost view = { λ s. record { taken = s.bytes.taken; left = s.bytes.left; ended = s.bytes.ended; faults = s.schedule.faults; plan = plan_in s.schedule } };
+    ghost view = { λ s. record { taken = s.bytes.taken; earlier = s.bytes.earlier; left = s.bytes.left; ended = s.bytes.ended; faults = s.schedule.faults; plan = plan_in s.schedule } };
 }
 
 impl MemorySource {
     /// A source of `bytes`, whose reads give at most `sizes` bytes; `failing` are the reads that fail, counted from 0.
     pub fn new(bytes: Blob, sizes: Sizes, failing: Places) -> Self
-        ensures { result ≡ record { taken = []; left = bytes; ended = false; faults = 0; plan = begun failing } }
+        ensures { result ≡ record { taken = []; earlier = []; left = bytes; ended = false; faults = 0; plan = begun failing } }
     {
         MemorySource {
             bytes: BytesSource::new(bytes),
@@ -46,6 +46,8 @@ impl Source for MemorySource {
 
     ghost taken = { λ s. Some s.taken };
 
+    ghost earlier = { λ s. Some s.earlier };
+
     ghost ended = { λ s. s.ended };
 
     ghost faults = { λ s. s.faults };
@@ -56,6 +58,7 @@ impl Source for MemorySource {
         ensures within { IfOk result (λ n. n ≤ length into.old) }
         ensures took { IfOk result (λ n. Took (Some self.old.left) (Some self.new.left) (take n into.new)) }
         ensures taken { IfOk result (λ n. Told (Some self.old.taken) (Some self.new.taken) (take n into.new)) }
+        ensures earlier { OnOk result (Some self.new.earlier ≡ Some self.old.taken) }
         ensures end { IfOk result (λ n. EndsWhereTold (Some self.old.left) n) }
         ensures ended { IfOk result (λ n. self.new.ended ≡ (self.old.ended || (n == 0))) }
         ensures no_fault { OnOk result (self.new.faults ≡ self.old.faults) }
@@ -63,6 +66,7 @@ impl Source for MemorySource {
         ensures failed { OnErr result (Rose self.old.faults self.new.faults) }
         ensures untouched { OnErr result (Some self.new.left ≡ Some self.old.left) }
         ensures nothing_taken { OnErr result (Some self.new.taken ≡ Some self.old.taken) }
+        ensures no_read { OnErr result (Some self.new.earlier ≡ Some self.old.earlier) }
         ensures not_ended { OnErr result (self.new.ended ≡ self.old.ended) }
         ensures no_fewer { self.old.faults ≤ self.new.faults }
         ensures listed { IsErr result ↔ FailsNext self.old.plan }

@@ -27,6 +27,8 @@ impl Source for Asking<'_> {
 
     ghost taken = { λ _. None };
 
+    ghost earlier = { λ _. None };
+
     ghost ended = { λ s. s.has_ended };
 
     ghost faults = { λ s. s.faults };
