@@ -2,7 +2,6 @@ pub mod Again
 pub mod Causes
 pub mod Fine
 pub mod Gathered
-pub mod Joined
 pub mod Judged
 pub mod Lasts
 pub mod Moments

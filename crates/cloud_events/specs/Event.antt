@@ -5,6 +5,7 @@ use Rattle.std.specs.Ordering.{nat_cmp}
 use Rattle.std.specs.declared.cmp.Ordering.TheVariants.{Less}
 use Rattle.std.specs.Cmp.Lexicographic.{slice_cmp}
 use Rattle.json_text.specs.Spelling.{string_of}
+pub use Rattle.json_text.specs.Joined.{joined, comma, member_text, in_braces}
 use Rattle.cloud_events.specs.declared.sent.Sent.{Sent}
 use Rattle.cloud_events.specs.declared.item.Item.{Item}
 use Rattle.cloud_events.specs.declared.item.Value.{Value}
@@ -34,22 +35,11 @@ NamesRise (member ∷ next ∷ members) = (slice_cmp nat_cmp member.name next.na
 
 -- the name as a JSON string, a colon, and the value
 abbrev pub member_bytes : Attribute → List ℕ
-member_bytes member = string_of member.name ++ 58 ∷ member.value
-
--- with a comma between each two
-abbrev pub joined : List (List ℕ) → List ℕ
-joined [] = []
-joined (text ∷ []) = text
-joined (text ∷ next ∷ others) = text ++ 44 ∷ joined (next ∷ others)
-
--- a comma before each but the first
-abbrev pub comma : Bool → List ℕ
-comma true = []
-comma false = 44 ∷ []
+member_bytes member = member_text member.name member.value
 
 -- in braces
 abbrev pub event_bytes : List Attribute → List ℕ
-event_bytes members = 123 ∷ (joined (map member_bytes members) ++ 125 ∷ [])
+event_bytes members = in_braces (map member_bytes members)
 
 -- the bytes are the event that has exactly these values, in byte order of their names and without spaces
 pub record IsEvent (table : List ℕ → Option (List ℕ)) (event : List ℕ) : Type 0 where

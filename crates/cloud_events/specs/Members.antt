@@ -1,8 +1,6 @@
 -- The members of a JSON map by their names (RFC 8259, section 4). Of repeated members the last counts; null counts as absent.
 use Rattle.std.specs.Prelude.{ℕ, Bool, true, false, List, Option, Some, None, ⊤, if◌then◌else◌}
 use Rattle.std.specs.Str.{bytes_eq}
-use Rattle.json_text.specs.Kind.{Kind}
-use Rattle.json_text.specs.Kind.TheVariants as kinds
 use Rattle.json_text.specs.declared.spot.Span.{Span}
 use Rattle.json_text.specs.declared.spot.Spot.{Spot}
 use Rattle.json_text.specs.declared.doc.Doc.{Doc}
@@ -10,6 +8,7 @@ use Rattle.json_text.specs.declared.doc.Node.{Node}
 use Rattle.json_text.specs.Forest.{Forest, empty, grows}
 use Rattle.json_text.specs.Unescape.{unescaped, content}
 use Rattle.json_text.specs.Doc.{StandsAt}
+pub use Rattle.json_text.specs.Shape.{is_null}
 
 abbrev pub has_name : List ℕ → Option Span → List ℕ → Bool
 has_name bytes None name = false
@@ -24,10 +23,6 @@ or_else (Some value) other = Some value
 abbrev pub last_of : List ℕ → List ℕ → Forest → Option Spot
 last_of bytes name empty = None
 last_of bytes name (grows spot children later) = or_else (last_of bytes name later) (if has_name bytes spot.name name then Some spot else None)
-
-abbrev pub is_null : Kind → Bool
-is_null kinds.Null = true
-is_null _ = false
 
 abbrev pub unless_null : Option Spot → Option Spot
 unless_null None = None

@@ -4,8 +4,7 @@ ghost use Rattle.json_text.specs.Doc.{IsNode, OfNode, bytes_read};
 ghost use Rattle.json_text.specs.declared.spot.Spot.{Spot};
 ghost use Rattle.cloud_events.specs.Gather.{Adds, AllNodes, AreItems};
 ghost use Rattle.cloud_events.specs.Items.{AreSaid, by_kind, item_at, number_value, value_at};
-ghost use Rattle.cloud_events.specs.Members.{IsAt, is_null};
-ghost use Rattle.json_text.specs.Shape.{is_map};
+ghost use Rattle.cloud_events.specs.Members.{IsAt};
 ghost use Rattle.json_text.specs.Unescape.{text_shown};
 
 use crate::item::{Item, Value, is_int32, is_same};
@@ -47,7 +46,7 @@ fn add(alloc: Global, doc: &Doc<'_>, items: &mut Vec<Item>, member: Member) -> R
     requires { IsNode doc.now member.node }
     ensures { OnOk result (Adds doc.now member items.old.items items.new.items) }
 {
-    if is_null(doc, member.node) {
+    if doc.is_null(member.node) {
         return Ok(());
     }
     match item_of(alloc, doc, member) {
@@ -123,47 +122,5 @@ fn number_value(number: &[u8]) -> Value
         Value::Simple
     } else {
         Value::Other
-    }
-}
-
-// Whether the value is null.
-fn is_null(doc: &Doc<'_>, n: Node) -> bool
-    requires { IsNode doc.now n }
-    ensures { (spot : Spot) → IsAt doc.now n spot → result ≡ is_null spot.kind }
-{
-    is_null_kind(doc.kind(n))
-}
-
-fn is_null_kind(kind: Kind) -> bool
-    ensures { result ≡ is_null kind }
-{
-    match kind {
-        Kind::Null => true,
-        Kind::Flag { .. } => false,
-        Kind::Number => false,
-        Kind::Text => false,
-        Kind::List => false,
-        Kind::Map => false,
-    }
-}
-
-/// Whether the value is a map.
-pub(crate) fn is_map(doc: &Doc<'_>, n: Node) -> bool
-    requires { IsNode doc.now n }
-    ensures { (spot : Spot) → IsAt doc.now n spot → result ≡ is_map spot.kind }
-{
-    is_map_kind(doc.kind(n))
-}
-
-fn is_map_kind(kind: Kind) -> bool
-    ensures { result ≡ is_map kind }
-{
-    match kind {
-        Kind::Null => false,
-        Kind::Flag { .. } => false,
-        Kind::Number => false,
-        Kind::Text => false,
-        Kind::List => false,
-        Kind::Map => true,
     }
 }

@@ -11,7 +11,7 @@ ghost use Rattle.cloud_events.specs.Reading.{AreData, IsData, IsUnreadBy, body_i
 ghost use Rattle.cloud_events.specs.Wrapped.{AreGiven, AreSent, IsDataRefusal, IsEventRefusal, IsRefused, IsWrapped};
 
 use crate::complete::{complete, text_item};
-use crate::gather::{gather, is_map};
+use crate::gather::gather;
 use crate::item::{Item, Value};
 use crate::judge::judge;
 use crate::media::{Form, form_of};
@@ -96,7 +96,7 @@ fn items_of(alloc: Global, doc: &Doc<'_>) -> Result<Vec<Item>, EventErr>
     ensures err { (bytes : List ℕ) → Shows doc.now bytes → IfErr result (IsEventRefusal bytes) }
 {
     let root = doc.root();
-    if !is_map(doc, root) {
+    if !doc.is_map(root) {
         return Err(EventErr::NotJson { at: 0 });
     }
     match gather(alloc, doc, root) {

@@ -1,12 +1,12 @@
 //! The bytes of an event.
 ghost use Rattle.std.specs.Prelude.{◌≡◌, ◌++◌, ◌∷◌, map, IfOk, OnOk};
-ghost use Rattle.cloud_events.specs.Event.{attribute_of, comma, event_bytes, item_bytes, joined, spelled, spelled_value};
+ghost use Rattle.cloud_events.specs.Event.{attribute_of, event_bytes, item_bytes, joined, spelled, spelled_value};
 ghost use Rattle.cloud_events.specs.declared.item.Value.TheVariants.{Body};
 
 use crate::base::push_encoded;
 use crate::item::{Item, Value, part};
 use byte_lanes::escaped_len;
-use json_text::{push_string, push_string_of};
+use json_text::{push_comma, push_string, push_string_of};
 use side_base::{Blob, NoMemory};
 use std::alloc::Global;
 
@@ -64,17 +64,6 @@ fn push_members(
         push_member(alloc, event, body, &items[i])?;
     }
     Ok(())
-}
-
-// A comma, unless it would be the first byte.
-fn push_comma(event: &mut Blob, is_first: bool) -> Result<(), NoMemory>
-    ensures { OnOk result (event.new ≡ event.old ++ comma is_first) }
-{
-    if is_first {
-        Ok(())
-    } else {
-        event.push_byte(b',')
-    }
 }
 
 fn push_member(alloc: Global, event: &mut Blob, body: &[u8], item: &Item) -> Result<(), NoMemory>

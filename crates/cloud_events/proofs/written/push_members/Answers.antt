@@ -1,7 +1,7 @@
 use Rattle.std.proofs.Common.{rules, arith, ◌∙◌, ◌++◌, ◌∷◌, [], take, ap, sym, refl, ◌==◌, append_assoc, append-nil}
 use Rattle.std.proofs.lemmas.List.{take_more}
 use Rattle.cloud_events.specs.Event.{item_bytes}
-use Rattle.cloud_events.proofs.Joined.{appended_next}
+use Rattle.json_text.proofs.Joined.{appended_next}
 use Rattle.cloud_events.proofs.written.push_members.Goals as goal
 
 pub loop-i-init : goal.loop-i-init

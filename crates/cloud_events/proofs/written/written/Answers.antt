@@ -1,6 +1,6 @@
 use Rattle.std.proofs.Common.{map, ap, sym}
 use Rattle.cloud_events.specs.Event.{attribute_of, item_bytes, joined, member_bytes}
-use Rattle.cloud_events.proofs.Joined.{fused, built}
+use Rattle.json_text.proofs.Joined.{fused, built}
 use Rattle.cloud_events.proofs.written.written.Goals as goal
 
 pub returns : goal.returns
