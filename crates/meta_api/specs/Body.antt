@@ -1,6 +1,7 @@
 -- The responses of metadata and health.
 use Rattle.std.specs.Prelude.{ℕ, Bool, true, false, List, [], ◌∷◌, ◌++◌, map, codes, decimal, Option, Some, None}
 use Rattle.json_text.specs.Spelling.{string_of}
+pub use Rattle.json_text.specs.Joined.{joined, comma}
 use Rattle.side_base.specs.declared.message.Response.{Response}
 use Rattle.api_error.specs.declared.code.Code.TheVariants.{MetadataFull}
 use Rattle.api_error.specs.Body.{error_response, json_type}
@@ -13,17 +14,6 @@ use Rattle.meta_api.specs.declared.response.SubscriptionNote.{SubscriptionNote}
 -- without content
 abbrev pub done : Response
 done = record { status = 204; fields = []; body = [] }
-
--- texts with a comma between each two
-abbrev pub joined : List (List ℕ) → List ℕ
-joined [] = []
-joined (text ∷ []) = text
-joined (text ∷ next ∷ others) = text ++ 44 ∷ joined (next ∷ others)
-
--- a comma before each text but the first
-abbrev pub comma : Bool → List ℕ
-comma true = []
-comma false = 44 ∷ []
 
 -- ---- what is listed
 

@@ -1,10 +1,10 @@
 ghost use Rattle.std.specs.Prelude.{◌≡◌, ◌++◌, List, ℕ, map, codes, decimal, OnOk, IfOk};
-ghost use Rattle.meta_api.specs.Body.{IsPutReply, comma, component_text, dead_text, done, full_text, joined, member_text, names_text, metadata_body, metadata_response, pair_text, put_response, subscription_text};
+ghost use Rattle.meta_api.specs.Body.{IsPutReply, component_text, dead_text, done, full_text, joined, member_text, names_text, metadata_body, metadata_response, pair_text, put_response, subscription_text};
 
 use crate::{NotesReply, Pair, Pairs};
 use api_error::{Code, error_response, json_fields};
 use itoa::Buffer;
-use json_text::push_string_of;
+use json_text::{push_comma, push_string_of};
 use side_base::{Blob, NoMemory, Response, Sequence, Text};
 use std::alloc::Global;
 
@@ -200,11 +200,4 @@ fn push_all<L: Listed>(body: &mut Blob, list: &Sequence<L>) -> Result<(), NoMemo
         list.at(i).push_to(body)?;
     }
     Ok(())
-}
-
-/// Appends a comma, unless it would be the first byte of a list.
-fn push_comma(body: &mut Blob, is_first: bool) -> Result<(), NoMemory>
-    ensures { OnOk result (body.new ≡ body.old ++ comma is_first) }
-{
-    if is_first { Ok(()) } else { body.push(b",") }
 }

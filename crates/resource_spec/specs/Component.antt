@@ -4,6 +4,7 @@ use Rattle.resource_spec.specs.declared.component.ComponentKind.{ComponentKind}
 use Rattle.resource_spec.specs.declared.component.ComponentKind.TheVariants as kinds
 use Rattle.resource_spec.specs.declared.setting.Setting.{Setting}
 use Rattle.resource_spec.specs.Setting.{setting_named}
+use Rattle.resource_spec.specs.Schedule.{period_in}
 use Rattle.resource_spec.specs.Url.{address_of}
 
 -- the type that documents give a component of a kind
@@ -12,6 +13,7 @@ kind_name kinds.StateMemory = codes "state.in-memory"
 kind_name kinds.StateJournal = codes "state.journal"
 kind_name kinds.PubsubMemory = codes "pubsub.in-memory"
 kind_name kinds.BindingHttp = codes "bindings.http"
+kind_name kinds.BindingCron = codes "bindings.cron"
 
 pub record Loaded : Type 0 where
   pub name : List ℕ
@@ -39,6 +41,14 @@ HasUrl c = IsUrl (setting_of c (codes "url"))
     IsUrl None = ⊥
     IsUrl (Some url) = IsSome (address_of url)
 
+-- a cron component has a schedule that says a period
+abbrev pub HasSchedule : Loaded → Type 0
+HasSchedule c = IsSchedule (setting_of c (codes "schedule"))
+  where
+    IsSchedule : Option (List ℕ) → Type 0
+    IsSchedule None = ⊥
+    IsSchedule (Some schedule) = IsSome (period_in schedule)
+
 -- what a component of its kind has
 abbrev pub HasNeeds : Loaded → Type 0
 HasNeeds c = of_kind c.kind
@@ -48,6 +58,7 @@ HasNeeds c = of_kind c.kind
     of_kind kinds.StateJournal = HasPath c × HasPrefix c
     of_kind kinds.PubsubMemory = Unit {0}
     of_kind kinds.BindingHttp = HasUrl c
+    of_kind kinds.BindingCron = HasSchedule c
 
 -- what stands before the keys of an app in a state component: the app's id, the component's name, another text, or nothing
 abbrev pub prefix_by : List ℕ → List ℕ → Option (List ℕ) → Option (List ℕ)

@@ -1,5 +1,6 @@
 pub mod Setting
 pub mod Url
+pub mod Schedule
 pub mod Component
 pub mod Components
 pub mod Follow

@@ -14,6 +14,7 @@ use Rattle.resource_spec.specs.declared.spec_err.SpecErr.{SpecErr}
 use Rattle.resource_spec.specs.declared.spec_err.SpecErr.TheVariants.{Missing, Wrong, Repeated, SecretRef, UnknownType, NoMemory, TooMany}
 use Rattle.resource_spec.specs.Follow.{follow}
 use Rattle.resource_spec.specs.Setting.{setting_named}
+use Rattle.resource_spec.specs.Schedule.{period_in}
 use Rattle.resource_spec.specs.Url.{Address, address_of}
 use Rattle.resource_spec.specs.Field.{field_at, text_at, asked_at}
 use Rattle.resource_spec.specs.Document.{head_of}
@@ -29,7 +30,7 @@ abbrev pub in_doc : {T : Type 0} → ℕ → Result T FieldErr → Result T Spec
 in_doc doc (Ok x) = Ok x
 in_doc doc (Err e) = Err (err_in doc e)
 
--- the kind of component that has this type
+-- the kind of component that has this type; cron components are not known yet
 abbrev pub type_named : List ℕ → Option ComponentKind
 type_named name =
     if bytes_eq name (kind_name kinds.StateMemory) then Some kinds.StateMemory
@@ -57,12 +58,22 @@ abbrev pub url_need : Option (List ℕ) → Result (Unit {0}) FieldErr
 url_need None = Err (fields.Missing (codes "spec.metadata.url"))
 url_need (Some url) = address_need (address_of url)
 
+-- a schedule must be there, and say a period
+abbrev pub period_need : Option ℕ → Result (Unit {0}) FieldErr
+period_need None = Err (fields.Wrong (codes "spec.metadata.schedule"))
+period_need (Some ms) = Ok tt
+
+abbrev pub schedule_need : Option (List ℕ) → Result (Unit {0}) FieldErr
+schedule_need None = Err (fields.Missing (codes "spec.metadata.schedule"))
+schedule_need (Some schedule) = period_need (period_in schedule)
+
 -- what a component of a kind must have among its settings
 abbrev pub needs_of : ComponentKind → List Setting → Result (Unit {0}) FieldErr
 needs_of kinds.StateMemory settings = prefix_need (setting_named (codes "keyPrefix") settings)
 needs_of kinds.StateJournal settings = follow (path_need (setting_named (codes "path") settings)) (λ _. prefix_need (setting_named (codes "keyPrefix") settings))
 needs_of kinds.PubsubMemory settings = Ok tt
 needs_of kinds.BindingHttp settings = url_need (setting_named (codes "url") settings)
+needs_of kinds.BindingCron settings = schedule_need (setting_named (codes "schedule") settings)
 
 abbrev pub is_there : Trees → Bool
 is_there none = false
@@ -123,6 +134,7 @@ journal_of c = of_kind c.kind
     of_kind kinds.StateMemory = None
     of_kind kinds.PubsubMemory = None
     of_kind kinds.BindingHttp = None
+    of_kind kinds.BindingCron = None
 
 -- a path that is another one with `.v2` behind it
 abbrev pub is_second : List ℕ → List ℕ → Bool

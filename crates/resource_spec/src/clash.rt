@@ -13,6 +13,7 @@ fn journal_path(c: &Component) -> Option<&Text>
         ComponentKind::StateMemory => None,
         ComponentKind::PubsubMemory => None,
         ComponentKind::BindingHttp => None,
+        ComponentKind::BindingCron => None,
     }
 }
 

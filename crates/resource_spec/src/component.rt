@@ -1,7 +1,10 @@
-ghost use Rattle.std.specs.Prelude.{◌≡◌, ℕ, List, Some, codes, option_map};
+ghost use Rattle.std.specs.Prelude.{◌≡◌, ◌≤◌, ℕ, List, Some, codes, option_map};
 ghost use Rattle.resource_spec.specs.Component.{HasNeeds, kind_name, setting_of, prefix_by, key_prefix_of};
+ghost use Rattle.side_base.specs.Limits.{greatest_duration};
+ghost use Rattle.resource_spec.specs.Schedule.{period_in};
 ghost use Rattle.resource_spec.specs.Url.{address_of, url_shown};
 
+use crate::schedule::period_of;
 use crate::setting::Settings;
 use crate::url::{Url, url_of};
 use side_base::Text;
@@ -18,6 +21,8 @@ pub enum ComponentKind {
     PubsubMemory,
     /// `bindings.http`: an output binding; its setting `url` is an address.
     BindingHttp,
+    /// `bindings.cron`: an input binding, which ticks; its setting `schedule` says how often. No document has this type yet.
+    BindingCron,
 }
 
 impl ComponentKind {
@@ -30,12 +35,13 @@ impl ComponentKind {
             ComponentKind::StateJournal => "state.journal",
             ComponentKind::PubsubMemory => "pubsub.in-memory",
             ComponentKind::BindingHttp => "bindings.http",
+            ComponentKind::BindingCron => "bindings.cron",
         }
     }
 }
 
-/// A component that has what its kind needs: a journal has a path, an output binding an address, and a store no prefix by
-/// namespaces. Contracts see it as the record of its name, kind, version and settings.
+/// A component that has what its kind needs: a journal has a path, an output binding an address, a cron component a schedule that
+/// says a period, and a store no prefix by namespaces. Contracts see it as the record of its name, kind, version and settings.
 #[derive(Debug, Drop)]
 pub struct Component {
     name: Text,
@@ -116,6 +122,33 @@ impl Component {
         match self.settings.find(b"url") {
             Some(url) => match url_of(url.bytes()) {
                 Some(url) => url,
+                None => unreachable!(),
+            },
+            None => unreachable!(),
+        }
+    }
+
+    /// The schedule of a cron component.
+    pub fn schedule(&self) -> &Text
+        requires { self.now.kind ≡ ComponentKind.BindingCron }
+        ensures { setting_of self.now (codes "schedule") ≡ Some result.now }
+    {
+        match self.settings.find(b"schedule") {
+            Some(schedule) => schedule,
+            None => unreachable!(),
+        }
+    }
+
+    /// How often a cron component ticks, in milliseconds: from 1,000 to 31,536,000,000.
+    pub fn period(&self) -> u64
+        requires { self.now.kind ≡ ComponentKind.BindingCron }
+        ensures says { (text : List ℕ) → setting_of self.now (codes "schedule") ≡ Some text → period_in text ≡ Some result }
+        ensures low { 1000 ≤ result }
+        ensures high { result ≤ greatest_duration }
+    {
+        match self.settings.find(b"schedule") {
+            Some(schedule) => match period_of(schedule.bytes()) {
+                Some(period) => period,
                 None => unreachable!(),
             },
             None => unreachable!(),

@@ -1,5 +1,5 @@
 // One component of a document.
-ghost use Rattle.std.specs.Prelude.{◌≡◌, ◌↔◌, ℕ, List, [], ◌∷◌, Ok, Err, Some, codes, option_map, bytes_eq, if◌then◌else◌, IfOk, IfSome, unwrap_or};
+ghost use Rattle.std.specs.Prelude.{◌≡◌, ◌≢◌, ◌↔◌, ℕ, List, [], ◌∷◌, Ok, Err, Some, codes, option_map, bytes_eq, if◌then◌else◌, IfOk, IfSome, unwrap_or};
 ghost use Rattle.yaml_subset.specs.Docs.{IsPart, row_of, IsFirst};
 ghost use Rattle.yaml_subset.specs.Trees.{Trees};
 ghost use Rattle.resource_spec.specs.Component.{Loaded, HasNeeds, kind_name};
@@ -8,11 +8,12 @@ ghost use Rattle.resource_spec.specs.Document.{IsRead};
 ghost use Rattle.resource_spec.specs.Field.{field_at, text_at};
 ghost use Rattle.resource_spec.specs.Follow.{follow};
 ghost use Rattle.resource_spec.specs.Setting.{setting_named};
-ghost use Rattle.resource_spec.specs.Load.{err_in, in_doc, type_named, needs_of, url_need, prefix_need, setting_in, settings_from, settings_listed, settings_in, component_by, component_in, IsSpecErr, IsLoad};
+ghost use Rattle.resource_spec.specs.Load.{err_in, in_doc, type_named, needs_of, schedule_need, url_need, prefix_need, setting_in, settings_from, settings_listed, settings_in, component_by, component_in, IsSpecErr, IsLoad};
 
 use crate::component::{Component, ComponentKind};
 use crate::field::{asked, field_of, said};
 use crate::field_err::FieldErr;
+use crate::schedule::period_of;
 use crate::setting::{Setting, Settings};
 use crate::spec_err::SpecErr;
 use crate::url::url_of;
@@ -34,7 +35,7 @@ pub(crate) fn in_document(doc: usize, error: FieldErr) -> SpecErr
 // The kind of component that has this type.
 fn kind_of_type(name: &str) -> Option<ComponentKind>
     ensures kind { result ≡ type_named name.now }
-    ensures exact { (kind : ComponentKind) → (result ≡ Some kind) ↔ (name.now ≡ kind_name kind) }
+    ensures exact { (kind : ComponentKind) → kind ≢ ComponentKind.BindingCron → (result ≡ Some kind) ↔ (name.now ≡ kind_name kind) }
 {
     match name {
         "state.in-memory" => Some(ComponentKind::StateMemory),
@@ -84,6 +85,22 @@ fn test_url(alloc: Global, settings: &Settings) -> Result<(), FieldErr>
     }
 }
 
+fn test_schedule(alloc: Global, settings: &Settings) -> Result<(), FieldErr>
+    ensures { IsRead result (schedule_need (setting_named (codes "schedule") settings.now)) }
+{
+    match settings.find(b"schedule") {
+        Some(schedule) => match period_of(schedule.bytes()) {
+            Some(_) => Ok(()),
+            None => Err(FieldErr::Wrong {
+                field: fixed(alloc, "spec.metadata.schedule"),
+            }),
+        },
+        None => Err(FieldErr::Missing {
+            field: fixed(alloc, "spec.metadata.schedule"),
+        }),
+    }
+}
+
 fn test_journal(alloc: Global, settings: &Settings) -> Result<(), FieldErr>
     ensures { IsRead result (needs_of ComponentKind.StateJournal settings.now) }
 {
@@ -103,6 +120,7 @@ fn test_needs(alloc: Global, kind: ComponentKind, settings: &Settings) -> Result
         ComponentKind::StateJournal => test_journal(alloc, settings),
         ComponentKind::PubsubMemory => Ok(()),
         ComponentKind::BindingHttp => test_url(alloc, settings),
+        ComponentKind::BindingCron => test_schedule(alloc, settings),
     }
 }
 

@@ -69,6 +69,7 @@ same_choice kind.StateMemory = refl
 same_choice kind.StateJournal = refl
 same_choice kind.PubsubMemory = refl
 same_choice kind.BindingHttp = refl
+same_choice kind.BindingCron = refl
 
 filter_same : {A : Type 0} (f g : A → Bool) → ((x : A) → f x ≡ g x) → (xs : List A) → filter f xs ≡ filter g xs
 filter_same f g same [] = refl

@@ -57,6 +57,7 @@ path_of_kind c cs kind.StateMemory is same = kept_path c cs (ap is_store is) sam
 path_of_kind c cs kind.StateJournal is same = kept_path c cs (ap is_store is) same
 path_of_kind c cs kind.PubsubMemory is same = passed_path c cs kind.PubsubMemory is refl refl same
 path_of_kind c cs kind.BindingHttp is same = passed_path c cs kind.BindingHttp is refl refl same
+path_of_kind c cs kind.BindingCron is same = passed_path c cs kind.BindingCron is refl refl same
 
 -- only stores have journals
 same_paths : (cs : List Loaded) → paths_of (stores_of cs) ≡ paths_of cs

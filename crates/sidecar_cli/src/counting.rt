@@ -49,9 +49,10 @@ fn is_pubsub(kind: ComponentKind) -> bool
 {
     match kind {
         ComponentKind::PubsubMemory => true,
-        ComponentKind::StateMemory | ComponentKind::StateJournal | ComponentKind::BindingHttp => {
-            false
-        }
+        ComponentKind::StateMemory
+        | ComponentKind::StateJournal
+        | ComponentKind::BindingHttp
+        | ComponentKind::BindingCron => { false }
     }
 }
 

@@ -38,6 +38,7 @@ is_binding kinds.StateMemory = false
 is_binding kinds.StateJournal = false
 is_binding kinds.PubsubMemory = false
 is_binding kinds.BindingHttp = true
+is_binding kinds.BindingCron = false
 
 -- the binding of this name
 abbrev pub binding_of : Config → List ℕ → Option Loaded

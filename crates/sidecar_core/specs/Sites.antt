@@ -19,12 +19,14 @@ is_store kinds.StateMemory = true
 is_store kinds.StateJournal = true
 is_store kinds.PubsubMemory = false
 is_store kinds.BindingHttp = false
+is_store kinds.BindingCron = false
 
 abbrev pub is_pubsub : ComponentKind → Bool
 is_pubsub kinds.StateMemory = false
 is_pubsub kinds.StateJournal = false
 is_pubsub kinds.PubsubMemory = true
 is_pubsub kinds.BindingHttp = false
+is_pubsub kinds.BindingCron = false
 
 -- the state components, in order
 abbrev pub stores_of : List Loaded → List Loaded

@@ -145,7 +145,8 @@ fn is_store(kind: ComponentKind) -> bool
 {
     match kind {
         ComponentKind::StateMemory | ComponentKind::StateJournal => true,
-        ComponentKind::PubsubMemory | ComponentKind::BindingHttp => false,
+        ComponentKind::PubsubMemory | ComponentKind::BindingHttp | ComponentKind::BindingCron =>
+            false,
     }
 }
 
@@ -155,9 +156,10 @@ fn is_pubsub(kind: ComponentKind) -> bool
 {
     match kind {
         ComponentKind::PubsubMemory => true,
-        ComponentKind::StateMemory | ComponentKind::StateJournal | ComponentKind::BindingHttp => {
-            false
-        }
+        ComponentKind::StateMemory
+        | ComponentKind::StateJournal
+        | ComponentKind::BindingHttp
+        | ComponentKind::BindingCron => { false }
     }
 }
 

@@ -13,6 +13,7 @@ is_store kinds.StateMemory = true
 is_store kinds.StateJournal = true
 is_store kinds.PubsubMemory = false
 is_store kinds.BindingHttp = false
+is_store kinds.BindingCron = false
 
 -- the state components, in order
 abbrev pub stores_of : List Loaded → List Loaded

@@ -42,7 +42,8 @@ fn is_store(kind: ComponentKind) -> bool
 {
     match kind {
         ComponentKind::StateMemory | ComponentKind::StateJournal => true,
-        ComponentKind::PubsubMemory | ComponentKind::BindingHttp => false,
+        ComponentKind::PubsubMemory | ComponentKind::BindingHttp | ComponentKind::BindingCron =>
+            false,
     }
 }
 

@@ -104,7 +104,9 @@ fn add_keeper<O: Outside>(
             }
             Err(error) => Err(error),
         },
-        ComponentKind::PubsubMemory | ComponentKind::BindingHttp => Ok(()),
+        ComponentKind::PubsubMemory | ComponentKind::BindingHttp | ComponentKind::BindingCron => Ok(
+            (),
+        ),
     }
 }
 

@@ -97,6 +97,7 @@ is_pubsub kinds.PubsubMemory = true
 is_pubsub kinds.StateMemory = false
 is_pubsub kinds.StateJournal = false
 is_pubsub kinds.BindingHttp = false
+is_pubsub kinds.BindingCron = false
 
 abbrev pub lets : List ℕ → List ℕ → Option Loaded → Bool
 lets app topic None = false

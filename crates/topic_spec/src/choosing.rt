@@ -34,6 +34,7 @@ fn is_pubsub(kind: ComponentKind) -> bool
         ComponentKind::StateMemory => false,
         ComponentKind::StateJournal => false,
         ComponentKind::BindingHttp => false,
+        ComponentKind::BindingCron => false,
     }
 }
 

@@ -1,6 +1,6 @@
 use Rattle.std.proofs.Common.{rules, arith, ◌∙◌, ◌++◌, ◌∷◌, [], take, ap, sym, refl, ◌==◌, append_assoc, append-nil}
 use Rattle.std.proofs.lemmas.List.{take_more}
-use Rattle.meta_api.proofs.Joined.{appended_next}
+use Rattle.json_text.proofs.Joined.{appended_next}
 use Rattle.meta_api.proofs.response.push_all.Goals as goal
 
 pub loop-i-init : goal.loop-i-init
