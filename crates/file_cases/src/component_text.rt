@@ -36,7 +36,7 @@ fn add_facts(lines: &mut Lines, component: &Component, app: &Text) {
         }
         ComponentKind::PubsubMemory => {}
         ComponentKind::BindingHttp => add_url(lines, &component.url()),
-        ComponentKind::BindingCron => lines.add_number(" every ", component.period()),
+        ComponentKind::BindingCron => lines.add_number_line("  every ", component.period()),
     }
 }
 

@@ -8,11 +8,11 @@ pub mod Fine
 pub mod FirstFault
 pub mod Following
 pub mod Gathering
-pub mod Joined
 pub mod Judging
 pub mod Keyed
 pub mod Lasts
 pub mod Members
+pub mod Nested
 pub mod Nodes
 pub mod OneAnswer
 pub mod Wording

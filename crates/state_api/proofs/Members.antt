@@ -8,8 +8,8 @@ use Rattle.json_text.specs.declared.doc.Doc.{Doc}
 use Rattle.json_text.specs.declared.doc.Node.{Node}
 use Rattle.json_text.specs.Forest.{Forest, empty, grows}
 use Rattle.json_text.specs.Unescape.{unescaped, content, HasName}
-use Rattle.json_text.specs.Doc.{bytes_read, NoneNamed, IsTailOf, IsLastNamed}
-use Rattle.state_api.specs.Values.{AreAt, values_in, has_name, last_named, or_else}
+use Rattle.json_text.specs.Doc.{bytes_read, NoneNamed, IsTailOf, IsLastNamed, IsUnlessNull, IsLastThere}
+use Rattle.state_api.specs.Values.{Value, AreAt, is_null, values_in, has_name, last_named, or_else, unless_null}
 
 pub none_some : {A : Type 0} (x : A) (B : Type 0) → None ≡ Some x → B
 none_some x B h = let bad : ⊥ = cc in absurd bad
@@ -50,3 +50,17 @@ pub last_is : (doc : Doc) (name : List ℕ) (values : Forest) (found : Option No
 last_is doc name values None h = subst (AreAt doc None) (sym (none_last (bytes_read doc) name values h)) tt
 last_is doc name values (Some node) h =
     subst (AreAt doc (Some node)) (sym (tail_last (bytes_read doc) name h.spot h.children h.later values h.of_them h.named h.last)) (h.later, h.here)
+
+-- unless it is null
+unless_is : (doc : Doc) (found there : Option Node) (value : Option Value) → AreAt doc found value → IsUnlessNull doc found there → AreAt doc there (unless_null value)
+unless_is doc None there None at is = subst (λ r. AreAt doc r None) (sym is) tt
+unless_is doc None there (Some value) at is = absurd at
+unless_is doc (Some node) there None at is = absurd at
+unless_is doc (Some node) there (Some value) at is = subst (λ r. AreAt doc r (unless_null (Some value))) (sym (is (grows value.spot value.children at.0) at.1)) (by (is_null value.spot.kind))
+  where
+    by : (null : Bool) → AreAt doc (cond null None (Some node)) (cond null None (Some value))
+    by true = tt
+    by false = at
+
+pub there_is : (doc : Doc) (name : List ℕ) (values : Forest) (there : Option Node) → IsLastThere doc name values there → AreAt doc there (unless_null (last_named (bytes_read doc) name (values_in values)))
+there_is doc name values there is = unless_is doc is.0 there _ (last_is doc name values is.0 is.1) is.2

@@ -1,10 +1,17 @@
--- What a save means, in terms of its items and their words.
-use Rattle.std.specs.Prelude.{◌≡◌, ◌≢◌, ◌≤◌, ◌⊎◌, ℕ, List, [], ◌∷◌, ◌++◌, length, map, codes, decimal, Option, Some, None, Ok, Err, All}
+-- What a save means, in terms of its items and their words, and how deep the values of a transaction are nested.
+use Rattle.std.specs.Prelude.{◌≡◌, ◌≢◌, ◌≤◌, ◌⊎◌, ℕ, ◌+◌, List, [], ◌∷◌, ◌++◌, length, map, codes, decimal, Option, Some, None, Ok, Err, All}
 use Rattle.side_base.specs.declared.message.Request.{Request}
 use Rattle.api_routes.specs.declared.route.Route.TheVariants as route
 use Rattle.state_core.specs.declared.command.Prefix.{Prefix}
 use Rattle.state_core.specs.declared.command.Item.{Item}
-use Rattle.state_core.specs.declared.command.Cmd.TheVariants.{Save}
+use Rattle.state_core.specs.declared.command.Op.{Op}
+use Rattle.state_core.specs.declared.command.Op.TheVariants.{Upsert, Remove}
+use Rattle.state_core.specs.declared.command.Cmd.TheVariants.{Save, Transact}
+use Rattle.json_text.specs.Kind.{Kind}
+use Rattle.json_text.specs.Forest.{Forest, one}
+use Rattle.json_text.specs.Grammar.{IsText}
+use Rattle.json_text.specs.Faults.{IsClean}
+use Rattle.json_text.specs.Shape.{is_holder, levels, nesting}
 use Rattle.state_api.specs.declared.what.What.{What}
 use Rattle.state_api.specs.declared.what.What.TheVariants.{Json, Shape, Key, Concurrency, Operation, TooMany, Ttl}
 use Rattle.state_api.specs.declared.raw.RawItem.{RawItem}
@@ -116,3 +123,22 @@ pub record AreOf (prefix : Prefix) (raws : List RawItem) (items : List Item) : T
 abbrev pub SavesFineItems : Prefix → Request → List ℕ → List RawItem → Type 0
 SavesFineItems prefix request store raws =
     HasItems request raws → length raws ≤ 1024 → All IsFine raws → (items : List Item) × AsksSave prefix request store items × AreOf prefix raws items
+
+-- ---- transactions
+
+-- the value is a JSON text in which nothing is wrong, without white space round it, and in which at most so many lists and maps stand within one another
+pub record IsNested (most : ℕ) (value : List ℕ) : Type 0 where
+  pub kind : Kind
+  pub children : Forest
+  pub text : IsText value (one (record { kind = kind; span = record { start = 0; end = length value }; name = None }) children)
+  pub clean : IsClean value (length value + 1)
+  pub low : levels (is_holder kind) (nesting children) ≤ most
+
+-- of an operation that has a value
+abbrev pub IsNestedOp : ℕ → Op → Type 0
+IsNestedOp most (Upsert item) = IsNested most item.value
+IsNestedOp most (Remove key etag mode) = Unit {0}
+
+-- the request means a transaction of these operations
+abbrev pub AsksTransaction : Prefix → Request → List ℕ → List Op → Type 0
+AsksTransaction prefix request store ops = Asks prefix request (route.Transact store) (Ok (Transact ops 0))

@@ -2,6 +2,7 @@
 use Rattle.std.specs.Prelude.{ℕ, Bool, true, false, List, [], ◌∷◌, ◌++◌, map, drop, codes, decimal, Option, Some, None, All}
 use Rattle.std.specs.Str.{IsCharBoundary}
 use Rattle.json_text.specs.Spelling.{string_of}
+pub use Rattle.json_text.specs.Joined.{joined, comma}
 use Rattle.side_base.specs.declared.message.Field.{Field}
 use Rattle.side_base.specs.declared.message.Response.{Response}
 use Rattle.api_error.specs.declared.code.Code.{Code}
@@ -36,16 +37,9 @@ etag_field version = record { name = codes "ETag"; value = decimal version }
 
 -- ---- a bulk get
 
--- texts with a comma between each two
-abbrev pub joined : List (List ℕ) → List ℕ
-joined [] = []
-joined (text ∷ []) = text
-joined (text ∷ next ∷ others) = text ++ 44 ∷ joined (next ∷ others)
-
 -- one more text of such a list: a comma stands before it, unless it is the first
 abbrev pub next_text : Bool → List ℕ → List ℕ
-next_text true text = text
-next_text false text = 44 ∷ text
+next_text is_first text = comma is_first ++ text
 
 abbrev pub found_text : Option Found → List ℕ
 found_text None = []

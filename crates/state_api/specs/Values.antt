@@ -1,8 +1,6 @@
 -- The values of a JSON text by their names (RFC 8259, section 4). Of repeated members the last counts; null counts as absent.
 use Rattle.std.specs.Prelude.{◌≡◌, ◌<◌, ℕ, length, slice_index_or, Bool, true, false, ◌&&◌, ◌||◌, not, is_none, List, [], ◌∷◌, Option, Some, None, Result, Ok, Err, ⊤, if◌then◌else◌}
 use Rattle.std.specs.Str.{bytes_eq}
-use Rattle.json_text.specs.Kind.{Kind}
-use Rattle.json_text.specs.Kind.TheVariants as kinds
 use Rattle.json_text.specs.declared.spot.Span.{Span}
 use Rattle.json_text.specs.declared.spot.Spot.{Spot}
 use Rattle.json_text.specs.declared.doc.Doc.{Doc}
@@ -10,6 +8,7 @@ use Rattle.json_text.specs.declared.doc.Node.{Node}
 use Rattle.json_text.specs.Forest.{Forest, empty, grows}
 use Rattle.json_text.specs.Unescape.{unescaped, content, text_shown}
 use Rattle.json_text.specs.Doc.{StandsAt, IsNode}
+pub use Rattle.json_text.specs.Shape.{is_list, is_map, is_null, is_text}
 use Rattle.json_text.specs.declared.last.Member.{Member}
 use Rattle.state_api.specs.declared.what.What.{What}
 use Rattle.state_api.specs.declared.what.What.TheVariants.{Shape}
@@ -46,10 +45,6 @@ last_named bytes name [] = None
 last_named bytes name (value ∷ later) =
     or_else (last_named bytes name later) (if has_name bytes value.spot.name name then Some value else None)
 
-abbrev pub is_null : Kind → Bool
-is_null kinds.Null = true
-is_null _ = false
-
 abbrev pub unless_null : Option Value → Option Value
 unless_null None = None
 unless_null (Some value) = if is_null value.spot.kind then None else Some value
@@ -59,18 +54,6 @@ abbrev pub member : List ℕ → List ℕ → Value → Option Value
 member bytes name value = unless_null (last_named bytes name (held_in value))
 
 -- ---- kinds
-
-abbrev pub is_list : Kind → Bool
-is_list kinds.List = true
-is_list _ = false
-
-abbrev pub is_map : Kind → Bool
-is_map kinds.Map = true
-is_map _ = false
-
-abbrev pub is_text : Kind → Bool
-is_text kinds.Text = true
-is_text _ = false
 
 -- a text
 abbrev pub text_of : List ℕ → Value → Result (List ℕ) What

@@ -1,5 +1,5 @@
 //! What holds of the definitions that the contracts cite, as functions whose contract is the law.
-ghost use Rattle.std.specs.Prelude.{◌≡◌, ◌<◌, List, ℕ, length, Result};
+ghost use Rattle.std.specs.Prelude.{◌≡◌, ◌<◌, All, List, ℕ, length, Result};
 ghost use Rattle.side_base.specs.declared.message.Request.{Request};
 ghost use Rattle.api_routes.specs.declared.route.Route.{Route};
 ghost use Rattle.state_core.specs.declared.command.Prefix.{Prefix};
@@ -8,12 +8,13 @@ ghost use Rattle.state_api.specs.declared.what.What.{What};
 ghost use Rattle.state_api.specs.declared.what.What.TheVariants.{TooMany};
 ghost use Rattle.state_api.specs.declared.raw.RawItem.{RawItem};
 ghost use Rattle.state_core.specs.declared.command.Item.{Item};
+ghost use Rattle.state_core.specs.declared.command.Op.{Op};
 ghost use Rattle.state_api.specs.declared.running.Ran.{Ran};
 ghost use Rattle.state_api.specs.Moment.{IsSame};
 ghost use Rattle.state_api.specs.Ran.{IsAnswer};
 ghost use Rattle.state_api.specs.Response.{IsCut, response_of};
 ghost use Rattle.state_api.specs.Asked.{Asks};
-ghost use Rattle.state_api.specs.Laws.{AreKeyed, AsksSave, HasItems, IsFaultySave, IsOfWords, RefusesSave, SavesFineItems};
+ghost use Rattle.state_api.specs.Laws.{AreKeyed, AsksSave, AsksTransaction, HasItems, IsFaultySave, IsNestedOp, IsOfWords, RefusesSave, SavesFineItems};
 
 use json_text::laws::a_text_has_one_tree;
 
@@ -51,4 +52,10 @@ pub fn a_save_is_refused_for_its_items_alone()
     ensures fine { (prefix : Prefix) (request : Request) (store : List ℕ) (raws : List RawItem) → SavesFineItems prefix request store raws }
     ensures faulty { (prefix : Prefix) (request : Request) (store : List ℕ) (what : What) → IsFaultySave request what → RefusesSave prefix request store what }
     ensures many { (prefix : Prefix) (request : Request) (store : List ℕ) (raws : List RawItem) → HasItems request raws → 1024 < length raws → RefusesSave prefix request store TooMany }
+{}
+
+/// A transaction that a request means has values that are JSON texts by themselves, in which at most 60 lists and maps stand within
+/// one another: a body has at most 64 of them, and the map, its list, the operation and its request stand round each value.
+pub fn a_transaction_has_values_nested_60_deep()
+    ensures { (prefix : Prefix) (request : Request) (store : List ℕ) (ops : List Op) → AsksTransaction prefix request store ops → All (IsNestedOp 60) ops }
 {}

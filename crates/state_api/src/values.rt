@@ -1,12 +1,12 @@
 //! Members of the maps of a JSON text, by their names. Of repeated members the last counts; null counts as absent.
-ghost use Rattle.std.specs.Prelude.{◌≡◌, IfSome, Option, Ok};
+ghost use Rattle.std.specs.Prelude.{◌≡◌, IfSome, Ok};
 ghost use Rattle.json_text.specs.Doc.{IsNode, bytes_read};
 ghost use Rattle.state_api.specs.Given.{Gives};
-ghost use Rattle.state_api.specs.Values.{AreAt, AreNodes, AreTextsAt, IsAt, Value, are_texts, held_in, is_list, is_map, is_null, is_text, last_named, member, needed, optional, text_of, unless_null};
+ghost use Rattle.state_api.specs.Values.{AreAt, AreNodes, AreTextsAt, IsAt, Value, are_texts, held_in, is_list, is_map, is_text, last_named, member, needed, optional, text_of};
 
 use crate::{StateErr, What};
 use json_text::laws::a_walk_visits_all_items;
-use json_text::{Doc, Kind, Members, Node};
+use json_text::{Doc, Members, Node};
 use side_base::Text;
 use std::alloc::Global;
 
@@ -28,33 +28,7 @@ pub(crate) fn member(doc: &Doc<'_>, n: Node, name: &[u8]) -> Option<Node>
     ensures node { IfSome result (IsNode doc.now) }
     ensures member { (value : Value) → IsAt doc.now n value → AreAt doc.now result (member (bytes_read doc.now) name.now value) }
 {
-    unless_null(doc, last_member(doc, n, name))
-}
-
-/// The value, unless it is null.
-fn unless_null(doc: &Doc<'_>, found: Option<Node>) -> Option<Node>
-    requires { IfSome found (IsNode doc.now) }
-    ensures node { IfSome result (IsNode doc.now) }
-    ensures same { (value : Option Value) → AreAt doc.now found value → AreAt doc.now result (unless_null value) }
-{
-    match found {
-        Some(n) => { if is_null(doc.kind(n)) { None } else { Some(n) } }
-        None => None,
-    }
-}
-
-/// Whether it is null.
-fn is_null(kind: Kind) -> bool
-    ensures { result ≡ is_null kind }
-{
-    match kind {
-        Kind::Null => true,
-        Kind::Flag { .. } => false,
-        Kind::Number => false,
-        Kind::Text => false,
-        Kind::List => false,
-        Kind::Map => false,
-    }
+    doc.member_unless_null(n, name)
 }
 
 /// Whether the value is a list.
@@ -62,21 +36,7 @@ pub(crate) fn is_list(doc: &Doc<'_>, n: Node) -> bool
     requires { IsNode doc.now n }
     ensures { (value : Value) → IsAt doc.now n value → result ≡ is_list value.spot.kind }
 {
-    is_list_kind(doc.kind(n))
-}
-
-/// Whether it is a list.
-fn is_list_kind(kind: Kind) -> bool
-    ensures { result ≡ is_list kind }
-{
-    match kind {
-        Kind::Null => false,
-        Kind::Flag { .. } => false,
-        Kind::Number => false,
-        Kind::Text => false,
-        Kind::List => true,
-        Kind::Map => false,
-    }
+    doc.is_list(n)
 }
 
 /// Whether the value is a map.
@@ -84,21 +44,7 @@ pub(crate) fn is_map(doc: &Doc<'_>, n: Node) -> bool
     requires { IsNode doc.now n }
     ensures { (value : Value) → IsAt doc.now n value → result ≡ is_map value.spot.kind }
 {
-    is_map_kind(doc.kind(n))
-}
-
-/// Whether it is a map.
-fn is_map_kind(kind: Kind) -> bool
-    ensures { result ≡ is_map kind }
-{
-    match kind {
-        Kind::Null => false,
-        Kind::Flag { .. } => false,
-        Kind::Number => false,
-        Kind::Text => false,
-        Kind::List => false,
-        Kind::Map => true,
-    }
+    doc.is_map(n)
 }
 
 /// Whether the value is a text.
@@ -106,21 +52,7 @@ pub(crate) fn is_text(doc: &Doc<'_>, n: Node) -> bool
     requires { IsNode doc.now n }
     ensures { (value : Value) → IsAt doc.now n value → result ≡ is_text value.spot.kind }
 {
-    is_text_kind(doc.kind(n))
-}
-
-/// Whether it is a text.
-fn is_text_kind(kind: Kind) -> bool
-    ensures { result ≡ is_text kind }
-{
-    match kind {
-        Kind::Null => false,
-        Kind::Flag { .. } => false,
-        Kind::Number => false,
-        Kind::Text => true,
-        Kind::List => false,
-        Kind::Map => false,
-    }
+    doc.is_text(n)
 }
 
 /// The value as a text.

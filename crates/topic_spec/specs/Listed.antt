@@ -5,6 +5,7 @@ use Rattle.json_text.specs.Kind.TheVariants as kinds
 use Rattle.json_text.specs.declared.spot.Spot.{Spot}
 use Rattle.json_text.specs.Forest.{Forest, empty, grows}
 use Rattle.json_text.specs.Unescape.{text_shown}
+pub use Rattle.json_text.specs.Shape.{is_list, is_map, is_null, is_text}
 use Rattle.resource_spec.specs.declared.field_err.FieldErr.{FieldErr}
 use Rattle.resource_spec.specs.declared.field_err.FieldErr.TheVariants as fields
 use Rattle.resource_spec.specs.Follow.{follow}
@@ -29,38 +30,6 @@ kind_of (grows spot children later) = spot.kind
 abbrev pub shown : List ℕ → Forest → List ℕ
 shown bytes empty = []
 shown bytes (grows spot children later) = text_shown bytes spot
-
-abbrev pub is_null : Kind → Bool
-is_null kinds.Null = true
-is_null (kinds.Flag on) = false
-is_null kinds.Number = false
-is_null kinds.Text = false
-is_null kinds.List = false
-is_null kinds.Map = false
-
-abbrev pub is_list : Kind → Bool
-is_list kinds.List = true
-is_list kinds.Null = false
-is_list (kinds.Flag on) = false
-is_list kinds.Number = false
-is_list kinds.Text = false
-is_list kinds.Map = false
-
-abbrev pub is_map : Kind → Bool
-is_map kinds.Map = true
-is_map kinds.Null = false
-is_map (kinds.Flag on) = false
-is_map kinds.Number = false
-is_map kinds.Text = false
-is_map kinds.List = false
-
-abbrev pub is_text : Kind → Bool
-is_text kinds.Text = true
-is_text kinds.Null = false
-is_text (kinds.Flag on) = false
-is_text kinds.Number = false
-is_text kinds.List = false
-is_text kinds.Map = false
 
 -- unless it is null
 abbrev pub there : Option Forest → Option Forest

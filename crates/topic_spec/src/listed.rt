@@ -4,105 +4,42 @@ ghost use Rattle.json_text.specs.Doc.{bytes_read, IsNode};
 ghost use Rattle.json_text.specs.Forest.{Forest};
 ghost use Rattle.resource_spec.specs.Document.{IsRead};
 ghost use Rattle.rule_value.specs.Standing.{IsAt, IsFound};
-ghost use Rattle.rule_value.specs.Values.{last_named, held};
+ghost use Rattle.rule_value.specs.Values.{held};
 ghost use Rattle.topic_spec.specs.Draft.{IsSaid, unless_self};
-ghost use Rattle.topic_spec.specs.Listed.{kind_of, is_null, is_list, is_map, is_text, there, member_of, as_text, text_or_none, text_in, or_missing, needed_in, rule_members, rule_of, rules_from, rules_of, routes_members, routes_or_route, routes_of, draft_members, draft_of, item_draft};
+ghost use Rattle.topic_spec.specs.Listed.{kind_of, is_list, is_map, is_text, member_of, as_text, text_or_none, text_in, or_missing, needed_in, rule_members, rule_of, rules_from, rules_of, routes_members, routes_or_route, routes_of, draft_members, draft_of, item_draft};
 
 use crate::draft::{
     Draft, Routes, RuleText, RuleTexts, in_document, missing, one_route, path_said, some_route,
     unless_self, with_slash, wrong,
 };
 use crate::sub_err::SubErr;
-use json_text::{Doc, Kind, Node};
+use json_text::{Doc, Node};
 use resource_spec::FieldErr;
 use side_base::{Sequence, Text};
 use std::alloc::Global;
 
-// The last member of this name.
-fn last_member(doc: &Doc<'_>, n: Node, name: &[u8]) -> Option<Node>
+/// Whether the value is a list.
+pub(crate) fn is_list(doc: &Doc<'_>, n: Node) -> bool
     requires { IsNode doc.now n }
-    ensures node { IfSome result (IsNode doc.now) }
-    ensures found { (values : Forest) → IsAt doc.now n values → IsFound doc.now result (last_named (bytes_read doc.now) name.now (held values)) }
+    ensures { (values : Forest) → IsAt doc.now n values → result ≡ is_list (kind_of values) }
 {
-    doc.member(n, name)
+    doc.is_list(n)
 }
 
-fn is_null(kind: Kind) -> bool
-    ensures { result ≡ is_null kind }
-{
-    match kind {
-        Kind::Null => true,
-        Kind::Flag { .. } => false,
-        Kind::Number => false,
-        Kind::Text => false,
-        Kind::List => false,
-        Kind::Map => false,
-    }
-}
-
-/// Whether it is a list.
-pub(crate) fn is_list(kind: Kind) -> bool
-    ensures { result ≡ is_list kind }
-{
-    match kind {
-        Kind::Null => false,
-        Kind::Flag { .. } => false,
-        Kind::Number => false,
-        Kind::Text => false,
-        Kind::List => true,
-        Kind::Map => false,
-    }
-}
-
-fn is_map(kind: Kind) -> bool
-    ensures { result ≡ is_map kind }
-{
-    match kind {
-        Kind::Null => false,
-        Kind::Flag { .. } => false,
-        Kind::Number => false,
-        Kind::Text => false,
-        Kind::List => false,
-        Kind::Map => true,
-    }
-}
-
-fn is_text(kind: Kind) -> bool
-    ensures { result ≡ is_text kind }
-{
-    match kind {
-        Kind::Null => false,
-        Kind::Flag { .. } => false,
-        Kind::Number => false,
-        Kind::Text => true,
-        Kind::List => false,
-        Kind::Map => false,
-    }
-}
-
-/// What a value is.
-pub(crate) fn kind_of(doc: &Doc<'_>, n: Node) -> Kind
+// Whether the value is a map.
+fn is_map(doc: &Doc<'_>, n: Node) -> bool
     requires { IsNode doc.now n }
-    ensures { (values : Forest) → IsAt doc.now n values → result ≡ kind_of values }
+    ensures { (values : Forest) → IsAt doc.now n values → result ≡ is_map (kind_of values) }
 {
-    doc.kind(n)
+    doc.is_map(n)
 }
 
-fn unless_null(doc: &Doc<'_>, found: Option<Node>) -> Option<Node>
-    requires { IfSome found (IsNode doc.now) }
-    ensures node { IfSome result (IsNode doc.now) }
-    ensures there { (values : Option Forest) → IsFound doc.now found values → IsFound doc.now result (there values) }
+// Whether the value is a text.
+fn is_text(doc: &Doc<'_>, n: Node) -> bool
+    requires { IsNode doc.now n }
+    ensures { (values : Forest) → IsAt doc.now n values → result ≡ is_text (kind_of values) }
 {
-    match found {
-        Some(n) => {
-            if is_null(kind_of(doc, n)) {
-                None
-            } else {
-                Some(n)
-            }
-        }
-        None => None,
-    }
+    doc.is_text(n)
 }
 
 // The member of this name, if it is there.
@@ -112,7 +49,7 @@ fn member_of(doc: &Doc<'_>, n: Node, name: &[u8]) -> Option<Node>
     ensures node { IfSome result (IsNode doc.now) }
     ensures found { (values : Forest) → IsAt doc.now n values → IsFound doc.now result (member_of (bytes_read doc.now) name.now values) }
 {
-    unless_null(doc, last_member(doc, n, name))
+    doc.member_unless_null(n, name)
 }
 
 // The text that a value is.
@@ -120,7 +57,7 @@ fn as_text(alloc: Global, doc: &Doc<'_>, n: Node, field: &'static str) -> Result
     requires { IsNode doc.now n }
     ensures { (values : Forest) → IsAt doc.now n values → IsRead result (as_text (bytes_read doc.now) field.now values) }
 {
-    if !is_text(kind_of(doc, n)) {
+    if !is_text(doc, n) {
         return Err(wrong(alloc, field));
     }
     match doc.text_of(alloc, n) {
@@ -211,7 +148,7 @@ fn rule_of(alloc: Global, doc: &Doc<'_>, n: Node) -> Result<RuleText, FieldErr>
     requires { IsNode doc.now n }
     ensures { (values : Forest) → IsAt doc.now n values → IsRead result (rule_of (bytes_read doc.now) values) }
 {
-    if is_map(kind_of(doc, n)) {
+    if is_map(doc, n) {
         rule_members(alloc, doc, n)
     } else {
         Err(wrong(alloc, "routes.rules"))
@@ -245,7 +182,7 @@ fn rules_of(alloc: Global, doc: &Doc<'_>, found: Option<Node>) -> Result<RuleTex
 {
     match found {
         Some(n) => {
-            if is_list(kind_of(doc, n)) {
+            if is_list(doc, n) {
                 rules_of_list(alloc, doc, n)
             } else {
                 Err(wrong(alloc, "routes.rules"))
@@ -290,7 +227,7 @@ fn routes_of_value(alloc: Global, doc: &Doc<'_>, n: Node) -> Result<Routes, Fiel
     requires { IsNode doc.now n }
     ensures { (item values : Forest) → IsAt doc.now n values → IsRead result (routes_or_route (bytes_read doc.now) item (Some values)) }
 {
-    if is_map(kind_of(doc, n)) {
+    if is_map(doc, n) {
         routes_members(alloc, doc, n)
     } else {
         Err(wrong(alloc, "routes"))
@@ -342,7 +279,7 @@ fn draft_of(alloc: Global, doc: &Doc<'_>, n: Node) -> Result<Draft, FieldErr>
     requires { IsNode doc.now n }
     ensures { (item : Forest) → IsAt doc.now n item → IsRead result (draft_of (bytes_read doc.now) item) }
 {
-    if is_map(kind_of(doc, n)) {
+    if is_map(doc, n) {
         draft_members(alloc, doc, n)
     } else {
         Err(wrong(alloc, "list"))

@@ -11,7 +11,7 @@ ghost use Rattle.topic_spec.specs.Loading.{Loads, IsAdded, IsLoad, IsStep};
 
 use crate::documents::document_at;
 use crate::draft::Draft;
-use crate::listed::{is_list, item_at, kind_of};
+use crate::listed::{is_list, item_at};
 use crate::reading::sub_of;
 use crate::sub::{Sub, Subs};
 use crate::sub_err::SubErr;
@@ -135,7 +135,7 @@ fn subs_of(alloc: Global, doc: &Doc<'_>, n: Node) -> Result<Subs, SubErr>
     requires { IsNode doc.now n }
     ensures { (values : Forest) → IsAt doc.now n values → IsLoad (ListLoads (bytes_read doc.now) values) result }
 {
-    if is_list(kind_of(doc, n)) {
+    if is_list(doc, n) {
         subs_of_list(alloc, doc, n)
     } else {
         Err(SubErr::Wrong {

@@ -1,7 +1,7 @@
 use Rattle.std.proofs.Common.{rules, arith, ◌∙◌, ◌++◌, ◌∷◌, [], take, ap, sym, refl, ◌==◌, codes}
 use Rattle.std.proofs.lemmas.List.{take_more}
 use Rattle.state_api.specs.Response.{row_text}
-use Rattle.state_api.proofs.Joined.{appended_next}
+use Rattle.json_text.proofs.Joined.{appended_next}
 use Rattle.state_api.proofs.responding.bulk_response.Goals as goal
 
 pub loop-i-preserved : goal.loop-i-preserved

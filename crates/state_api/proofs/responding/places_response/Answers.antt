@@ -1,6 +1,6 @@
 use Rattle.std.proofs.Common.{rules, arith, ◌∙◌, ◌++◌, ◌∷◌, [], take, ap, sym, refl, ◌==◌, codes, decimal}
 use Rattle.std.proofs.lemmas.List.{take_more}
-use Rattle.state_api.proofs.Joined.{appended_next}
+use Rattle.json_text.proofs.Joined.{appended_next}
 use Rattle.state_api.proofs.responding.places_response.Goals as goal
 
 pub loop-i-preserved : goal.loop-i-preserved

@@ -1,7 +1,5 @@
-use Rattle.std.proofs.Common.{ap, ◌∙◌}
-use Rattle.state_api.specs.Values.{is_text}
 use Rattle.state_api.proofs.Nodes.{at_node}
 use Rattle.state_api.proofs.values.is_text.Goals as goal
 
 pub returns : goal.returns
-returns c value at = c.is_text_kind.ensures ∙ ap is_text (at_node c.args.doc.now c.args.n _ c.kind.ensures value at)
+returns c value at = at_node c.args.doc.now c.args.n _ c.is_text.ensures value at

@@ -8,6 +8,6 @@ use Rattle.topic_spec.proofs.listed.as_text.Goals as goal
 pub returns-in-Ok : goal.returns-in-Ok
 returns-in-Ok c values at =
     let doc = c.args.doc.now in
-    let text : is_text (kind_of values) ≡ true = sym (c.is_text.ensures ∙ ap is_text (c.kind_of.ensures values at)) ∙ c.if-not-is_text.false in
+    let text : is_text (kind_of values) ≡ true = sym (c.is_text.ensures values at) ∙ c.if-not-is_text.false in
     ap (λ test. provided test c.args.field.now (Ok (shown (bytes_read doc) values))) text
     ∙ ap Ok (ap (shown (bytes_read doc)) at.are ∙ sym (at_node doc c.args.n _ c.in-Ok.ensures values at))

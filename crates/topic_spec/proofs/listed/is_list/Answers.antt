@@ -1,0 +1,7 @@
+use Rattle.std.proofs.Common.{ap, sym, ◌∙◌}
+use Rattle.topic_spec.specs.Listed.{is_list, kind_of}
+use Rattle.topic_spec.proofs.Members.{at_node}
+use Rattle.topic_spec.proofs.listed.is_list.Goals as goal
+
+pub returns : goal.returns
+returns c values at = at_node c.args.doc.now c.args.n _ c.is_list.ensures values at ∙ ap (λ v. is_list (kind_of v)) (sym at.are)
