@@ -1,7 +1,7 @@
 -- The names of the codes.
 use Rattle.std.specs.Prelude.{ℕ, List, codes}
 use Rattle.api_error.specs.declared.code.Code.{Code}
-use Rattle.api_error.specs.declared.code.Code.TheVariants.{BadRequest, NotFound, MethodNotAllowed, MalformedRequest, NotYet, StateStoreNotFound, StateGet, StateBulkGet, StateSave, StateDelete, StateTransaction, DirectInvoke, InvokeOutputBinding, PubsubNotFound, PubsubForbidden, PubsubCloudEventsSer, PubsubPublishMessage, MetadataFull, Spent, NoMemory}
+use Rattle.api_error.specs.declared.code.Code.TheVariants.{BadRequest, NotFound, MethodNotAllowed, MalformedRequest, NotYet, StateStoreNotFound, StateGet, StateBulkGet, StateSave, StateDelete, StateTransaction, DirectInvoke, InvokeOutputBinding, PubsubNotFound, PubsubForbidden, PubsubCloudEventsSer, PubsubPublishMessage, ActorInvokeMethod, ActorState, MetadataFull, Spent, NoMemory}
 
 abbrev pub code_name : Code → List ℕ
 code_name BadRequest = codes "ERR_BAD_REQUEST"
@@ -21,6 +21,8 @@ code_name PubsubNotFound = codes "ERR_PUBSUB_NOT_FOUND"
 code_name PubsubForbidden = codes "ERR_PUBSUB_FORBIDDEN"
 code_name PubsubCloudEventsSer = codes "ERR_PUBSUB_CLOUD_EVENTS_SER"
 code_name PubsubPublishMessage = codes "ERR_PUBSUB_PUBLISH_MESSAGE"
+code_name ActorInvokeMethod = codes "ERR_ACTOR_INVOKE_METHOD"
+code_name ActorState = codes "ERR_ACTOR_STATE"
 code_name MetadataFull = codes "ERR_METADATA_FULL"
 code_name Spent = codes "ERR_SPENT"
 code_name NoMemory = codes "ERR_NO_MEMORY"

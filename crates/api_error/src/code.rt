@@ -38,6 +38,10 @@ pub enum Code {
     PubsubCloudEventsSer,
     /// The event was not taken.
     PubsubPublishMessage,
+    /// A call of an actor was refused or failed.
+    ActorInvokeMethod,
+    /// No store keeps the state of actors.
+    ActorState,
     /// There is no room for a metadata entry.
     MetadataFull,
     /// An object has counted all calls that it can count.
@@ -69,6 +73,8 @@ impl Code {
             Code::PubsubForbidden => "ERR_PUBSUB_FORBIDDEN",
             Code::PubsubCloudEventsSer => "ERR_PUBSUB_CLOUD_EVENTS_SER",
             Code::PubsubPublishMessage => "ERR_PUBSUB_PUBLISH_MESSAGE",
+            Code::ActorInvokeMethod => "ERR_ACTOR_INVOKE_METHOD",
+            Code::ActorState => "ERR_ACTOR_STATE",
             Code::MetadataFull => "ERR_METADATA_FULL",
             Code::Spent => "ERR_SPENT",
             Code::NoMemory => "ERR_NO_MEMORY",

@@ -32,6 +32,13 @@ two-of (first ∷ []) size = absurd (omega (arith, size))
 two-of (first ∷ last ∷ []) size = (first, last, refl)
 two-of (first ∷ last ∷ other ∷ parameters) size = absurd (omega (arith, size))
 
+pub three-of : (parameters : List Parameter) → length parameters ≡ 3 → (first next last : Parameter) × (parameters ≡ first ∷ next ∷ last ∷ [])
+three-of [] size = absurd (omega (arith, size))
+three-of (first ∷ []) size = absurd (omega (arith, size))
+three-of (first ∷ next ∷ []) size = absurd (omega (arith, size))
+three-of (first ∷ next ∷ last ∷ []) size = (first, next, last, refl)
+three-of (first ∷ next ∷ last ∷ other ∷ parameters) size = absurd (omega (arith, size))
+
 drop-none : (nth : ℕ) (parameters others : List Parameter) (parameter : Parameter) → parameters ≡ [] → drop nth parameters ≡ parameter ∷ others → ⊥
 drop-none nth parameters others parameter none is = omega (arith, ap length none, ap length is, length-drop nth parameters)
 

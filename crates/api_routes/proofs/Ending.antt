@@ -90,7 +90,10 @@ only-at m path values row (inr (inr (inr (inr (inr (inr (inr (inr (inl e))))))))
 only-at m path values row (inr (inr (inr (inr (inr (inr (inr (inr (inr (inl e)))))))))) = subst (EndsOnly m path values) (sym e) (λ says allowed spells. absurd (cc))
 only-at m path values row (inr (inr (inr (inr (inr (inr (inr (inr (inr (inr (inl e))))))))))) = subst (EndsOnly m path values) (sym e) (λ says allowed spells. absurd (cc))
 only-at m path values row (inr (inr (inr (inr (inr (inr (inr (inr (inr (inr (inr (inl e)))))))))))) = subst (EndsOnly m path values) (sym e) (λ says allowed spells. (post-only m allowed, spells.path_is))
-only-at m path values row (inr (inr (inr (inr (inr (inr (inr (inr (inr (inr (inr (inr h)))))))))))) = absurd h
+only-at m path values row (inr (inr (inr (inr (inr (inr (inr (inr (inr (inr (inr (inr (inl e))))))))))))) = subst (EndsOnly m path values) (sym e) (λ says allowed spells. absurd (cc))
+only-at m path values row (inr (inr (inr (inr (inr (inr (inr (inr (inr (inr (inr (inr (inr (inl e)))))))))))))) = subst (EndsOnly m path values) (sym e) (λ says allowed spells. absurd (cc))
+only-at m path values row (inr (inr (inr (inr (inr (inr (inr (inr (inr (inr (inr (inr (inr (inr (inl e))))))))))))))) = subst (EndsOnly m path values) (sym e) (λ says allowed spells. absurd (cc))
+only-at m path values row (inr (inr (inr (inr (inr (inr (inr (inr (inr (inr (inr (inr (inr (inr (inr h))))))))))))))) = absurd h
 
 pub only-ends : (m : Method) (target : List ℕ) → Means m target route.Shutdown → (m ≡ Post) × (path_of target ≡ ending)
 only-ends m target means =

@@ -49,7 +49,7 @@ each-of-kind (first ∷ rows) row each (inr h) = each-of-kind rows row each.1 h
 
 of-kind : (row : RouteRow) → IsAmong row table → IsOfKind row
 unfolding table
-of-kind row among = each-of-kind table row (refl, (refl, (refl, (refl, (refl, (refl, (refl, (refl, (refl, (refl, (refl, (refl, tt)))))))))))) among
+of-kind row among = each-of-kind table row (refl, (refl, (refl, (refl, (refl, (refl, (refl, (refl, (refl, (refl, (refl, (refl, (refl, (refl, (refl, tt))))))))))))))) among
 
 -- the route of a row that fits has its parameters where its kind says
 pub stands : (method : Method) (path : List ℕ) (row : RouteRow) (values : List (List ℕ)) → Fits method path row values → Stands row.kind path (parameters_from 0 row.parts values)

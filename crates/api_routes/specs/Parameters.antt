@@ -5,7 +5,7 @@ use Rattle.api_routes.specs.declared.route.Route.{Route}
 use Rattle.api_routes.specs.declared.route.RouteErr.{RouteErr}
 use Rattle.api_routes.specs.declared.route.RouteErr.TheVariants.{NotFound, MethodNotAllowed, BadEscape, NoMemory}
 use Rattle.api_routes.specs.declared.table.Kind.{Kind}
-use Rattle.api_routes.specs.declared.table.Kind.TheVariants.{Save, Get, Delete, Bulk, Transact, Invoke, Publish, Binding, Health, Metadata, SetMetadata, Shutdown}
+use Rattle.api_routes.specs.declared.table.Kind.TheVariants.{Save, Get, Delete, Bulk, Transact, Invoke, Publish, Binding, ActorCall, ActorGet, ActorChange, Health, Metadata, SetMetadata, Shutdown}
 use Rattle.api_routes.specs.declared.table.Part.{Part as Shape}
 use Rattle.api_routes.specs.declared.table.Part.TheVariants as sort
 use Rattle.api_routes.specs.Path.{Parameter, StartsSegment, slash}
@@ -59,6 +59,9 @@ parts_of Transact = sort.Literal ∷ sort.Literal ∷ sort.Segment ∷ sort.Lite
 parts_of Invoke = sort.Literal ∷ sort.Literal ∷ sort.Segment ∷ sort.Literal ∷ sort.Tail ∷ []
 parts_of Publish = sort.Literal ∷ sort.Literal ∷ sort.Segment ∷ sort.Tail ∷ []
 parts_of Binding = sort.Literal ∷ sort.Literal ∷ sort.Segment ∷ []
+parts_of ActorCall = sort.Literal ∷ sort.Literal ∷ sort.Segment ∷ sort.Segment ∷ sort.Literal ∷ sort.Tail ∷ []
+parts_of ActorGet = sort.Literal ∷ sort.Literal ∷ sort.Segment ∷ sort.Segment ∷ sort.Literal ∷ sort.Segment ∷ []
+parts_of ActorChange = sort.Literal ∷ sort.Literal ∷ sort.Segment ∷ sort.Segment ∷ sort.Literal ∷ []
 parts_of Health = sort.Literal ∷ sort.Literal ∷ []
 parts_of Metadata = sort.Literal ∷ sort.Literal ∷ []
 parts_of SetMetadata = sort.Literal ∷ sort.Literal ∷ sort.Segment ∷ []
@@ -85,6 +88,12 @@ abbrev pub DecodesTwo : Parameter → Parameter → Result (List ℕ × List ℕ
 DecodesTwo first last (Ok texts) =
     (texts.0 ≡ text_of first) × IsText first × (texts.1 ≡ text_of last) × IsText last
 DecodesTwo first last (Err why) = Broken (first ∷ last ∷ []) why
+
+-- the values of three
+abbrev pub DecodesThree : Parameter → Parameter → Parameter → Result (List ℕ × List ℕ × List ℕ) RouteErr → Type 0
+DecodesThree first next last (Ok texts) =
+    (texts.0 ≡ text_of first) × IsText first × (texts.1 ≡ text_of next) × IsText next × (texts.2 ≡ text_of last) × IsText last
+DecodesThree first next last (Err why) = Broken (first ∷ next ∷ last ∷ []) why
 
 -- the values of a parameter and of one that stays as it is in the target
 abbrev pub DecodesInvoked : List ℕ → Parameter → Parameter → Result (List ℕ × List ℕ) RouteErr → Type 0

@@ -9,7 +9,7 @@ use Rattle.api_routes.specs.declared.table.Kind.TheVariants as kind
 use Rattle.api_routes.specs.declared.route.RouteErr.{RouteErr}
 use Rattle.api_routes.specs.declared.route.RouteErr.TheVariants.{NotFound, MethodNotAllowed, BadEscape, NoMemory}
 use Rattle.api_routes.specs.declared.route.Route.{Route}
-use Rattle.api_routes.specs.declared.route.Route.TheVariants.{Save, Get, Delete, Bulk, Transact, Invoke, Publish, Binding, Health, Metadata, SetMetadata, Shutdown}
+use Rattle.api_routes.specs.declared.route.Route.TheVariants.{Save, Get, Delete, Bulk, Transact, Invoke, Publish, Binding, ActorCall, ActorGet, ActorChange, Health, Metadata, SetMetadata, Shutdown}
 use Rattle.api_routes.specs.Methods.{has}
 use Rattle.api_routes.specs.Path.{Spells, Beats, Parameter, parameters_from, path_of, IsClean, IsFirstBad}
 use Rattle.api_routes.specs.Table.{RouteRow, table}
@@ -38,9 +38,10 @@ HasRoute path method = (row : RouteRow) × (values : List (List ℕ)) × IsRowOf
 abbrev pub HasNoRoute : List ℕ → Type 0
 HasNoRoute path = (method : Method) → HasRoute path method → ⊥
 
--- of the parameters of a route, those that are decoded: all but the rest of an invocation
+-- of the parameters of a route, those that are decoded: all but the rest of an invocation and that of a call of an actor
 abbrev pub decoded : Kind → List Parameter → List Parameter
 decoded kind.Invoke parameters = take 1 parameters
+decoded kind.ActorCall parameters = take 2 parameters
 decoded _ parameters = parameters
 
 abbrev pub text_of : Parameter → List ℕ
@@ -56,7 +57,7 @@ IsFirstBroken [] at = ⊥
 IsFirstBroken (parameter ∷ parameters) at =
     ((¬ IsText parameter) × (at ≡ parameter.at)) ⊎ (IsText parameter × IsFirstBroken parameters at)
 
--- the route says the parameters, decoded; the rest of an invocation is as it stands in the target, with the query
+-- the route says the parameters, decoded; the rest of an invocation is as it stands in the target, with the query. That of a call of an actor is not said
 abbrev pub Says : List ℕ → Kind → List Parameter → Route → Type 0
 Says target row_kind ps (Save store) = (row_kind ≡ kind.Save) × (p : Parameter) × (ps ≡ p ∷ []) × (store ≡ text_of p)
 Says target row_kind ps (Get store key) = (row_kind ≡ kind.Get) × (p q : Parameter) × (ps ≡ p ∷ q ∷ []) × (store ≡ text_of p) × (key ≡ text_of q)
@@ -66,6 +67,9 @@ Says target row_kind ps (Transact store) = (row_kind ≡ kind.Transact) × (p : 
 Says target row_kind ps (Invoke app rest) = (row_kind ≡ kind.Invoke) × (p q : Parameter) × (ps ≡ p ∷ q ∷ []) × (app ≡ text_of p) × (rest ≡ drop q.at target)
 Says target row_kind ps (Publish pubsub topic) = (row_kind ≡ kind.Publish) × (p q : Parameter) × (ps ≡ p ∷ q ∷ []) × (pubsub ≡ text_of p) × (topic ≡ text_of q)
 Says target row_kind ps (Binding name) = (row_kind ≡ kind.Binding) × (p : Parameter) × (ps ≡ p ∷ []) × (name ≡ text_of p)
+Says target row_kind ps (ActorCall actor id) = (row_kind ≡ kind.ActorCall) × (p q r : Parameter) × (ps ≡ p ∷ q ∷ r ∷ []) × (actor ≡ text_of p) × (id ≡ text_of q)
+Says target row_kind ps (ActorGet actor id key) = (row_kind ≡ kind.ActorGet) × (p q r : Parameter) × (ps ≡ p ∷ q ∷ r ∷ []) × (actor ≡ text_of p) × (id ≡ text_of q) × (key ≡ text_of r)
+Says target row_kind ps (ActorChange actor id) = (row_kind ≡ kind.ActorChange) × (p q : Parameter) × (ps ≡ p ∷ q ∷ []) × (actor ≡ text_of p) × (id ≡ text_of q)
 Says target row_kind ps Health = row_kind ≡ kind.Health
 Says target row_kind ps Metadata = row_kind ≡ kind.Metadata
 Says target row_kind ps (SetMetadata name) = (row_kind ≡ kind.SetMetadata) × (p : Parameter) × (ps ≡ p ∷ []) × (name ≡ text_of p)

@@ -2,7 +2,7 @@
 use Rattle.std.specs.Prelude.{ℕ, List, [], ◌∷◌, codes, true, false}
 use Rattle.api_routes.specs.declared.methods.Methods.{Methods}
 use Rattle.api_routes.specs.declared.table.Kind.{Kind}
-use Rattle.api_routes.specs.declared.table.Kind.TheVariants.{Save, Get, Delete, Bulk, Transact, Invoke, Publish, Binding, Health, Metadata, SetMetadata, Shutdown}
+use Rattle.api_routes.specs.declared.table.Kind.TheVariants.{Save, Get, Delete, Bulk, Transact, Invoke, Publish, Binding, ActorCall, ActorGet, ActorChange, Health, Metadata, SetMetadata, Shutdown}
 
 -- a part of a path: what stands after a slash
 pub data Part : Type 0 where
@@ -33,6 +33,9 @@ put_alone = record { delete = false; get = false; head = false; options = false;
 abbrev pub post_and_put : Methods
 post_and_put = record { delete = false; get = false; head = false; options = false; patch = false; post = true; put = true }
 
+abbrev pub delete_get_post_and_put : Methods
+delete_get_post_and_put = record { delete = true; get = true; head = false; options = false; patch = false; post = true; put = true }
+
 abbrev pub all_seven : Methods
 all_seven = record { delete = true; get = true; head = true; options = true; patch = true; post = true; put = true }
 
@@ -54,4 +57,7 @@ table =
     ∷ under_version get_alone (Literal (codes "metadata") ∷ []) Metadata
     ∷ under_version put_alone (Literal (codes "metadata") ∷ Segment ∷ []) SetMetadata
     ∷ under_version post_alone (Literal (codes "shutdown") ∷ []) Shutdown
+    ∷ under_version delete_get_post_and_put (Literal (codes "actors") ∷ Segment ∷ Segment ∷ Literal (codes "method") ∷ Tail ∷ []) ActorCall
+    ∷ under_version get_alone (Literal (codes "actors") ∷ Segment ∷ Segment ∷ Literal (codes "state") ∷ Segment ∷ []) ActorGet
+    ∷ under_version post_and_put (Literal (codes "actors") ∷ Segment ∷ Segment ∷ Literal (codes "state") ∷ []) ActorChange
     ∷ []

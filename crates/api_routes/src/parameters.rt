@@ -1,6 +1,6 @@
 ghost use Rattle.std.specs.Prelude.{◌≡◌, ◌≤◌, ◌<◌, ◌+◌, ◌^◌, ◌==◌, not, ℕ, List, [], ◌∷◌, length, drop};
 ghost use Rattle.std.specs.List.{prefix_len};
-ghost use Rattle.api_routes.specs.Parameters.{Begins, Cuts, Decodes, DecodesInvoked, DecodesRoute, DecodesTwo, HasNth, Stands, parts_of};
+ghost use Rattle.api_routes.specs.Parameters.{Begins, Cuts, Decodes, DecodesInvoked, DecodesRoute, DecodesThree, DecodesTwo, HasNth, Stands, parts_of};
 ghost use Rattle.api_routes.specs.Path.{Parameter as Defined};
 
 use crate::table::{Kind, Part, parts_of};
@@ -92,17 +92,33 @@ fn one_text(alloc: Global, kind: Kind, path: &[u8]) -> Result<Text, RouteErr>
     text_of(alloc, parameter_of(kind, path, 0))
 }
 
-/// The texts of the two parameters of a route.
+/// The texts of the first two parameters of a route.
 fn two_texts(alloc: Global, kind: Kind, path: &[u8]) -> Result<(Text, Text), RouteErr>
     requires first { HasNth 0 (parts_of kind) path.now 0 }
     requires last { HasNth 0 (parts_of kind) path.now 1 }
-    ensures { (first last : Defined) → Stands kind path.now (first ∷ last ∷ []) → DecodesTwo first last result }
+    ensures { (first last : Defined) (others : List Defined) → Stands kind path.now (first ∷ last ∷ others) → DecodesTwo first last result }
 {
     let first = parameter_of(kind, path, 0);
     let last = parameter_of(kind, path, 1);
     match text_of(alloc, first) {
         Ok(first_text) => match text_of(alloc, last) {
             Ok(last_text) => Ok((first_text, last_text)),
+            Err(why) => Err(why),
+        },
+        Err(why) => Err(why),
+    }
+}
+
+/// The texts of the three parameters of a route.
+fn three_texts(alloc: Global, kind: Kind, path: &[u8]) -> Result<(Text, Text, Text), RouteErr>
+    requires first { HasNth 0 (parts_of kind) path.now 0 }
+    requires next { HasNth 0 (parts_of kind) path.now 1 }
+    requires last { HasNth 0 (parts_of kind) path.now 2 }
+    ensures { (first next last : Defined) → Stands kind path.now (first ∷ next ∷ last ∷ []) → DecodesThree first next last result }
+{
+    match two_texts(alloc, kind, path) {
+        Ok((first, next)) => match text_of(alloc, parameter_of(kind, path, 2)) {
+            Ok(last) => Ok((first, next, last)),
             Err(why) => Err(why),
         },
         Err(why) => Err(why),
@@ -172,6 +188,22 @@ pub(crate) fn route_of(
         Kind::Binding => Ok(Route::Binding {
             name: one_text(alloc, kind, path)?,
         }),
+        Kind::ActorCall => {
+            let (actor, id) = two_texts(alloc, kind, path)?;
+            Ok(Route::ActorCall { kind: actor, id })
+        }
+        Kind::ActorGet => {
+            let (actor, id, key) = three_texts(alloc, kind, path)?;
+            Ok(Route::ActorGet {
+                kind: actor,
+                id,
+                key,
+            })
+        }
+        Kind::ActorChange => {
+            let (actor, id) = two_texts(alloc, kind, path)?;
+            Ok(Route::ActorChange { kind: actor, id })
+        }
         Kind::Health => Ok(Route::Health),
         Kind::Metadata => Ok(Route::Metadata),
         Kind::SetMetadata => Ok(Route::SetMetadata {

@@ -22,6 +22,12 @@ pub enum Route {
     Publish { pubsub: Text, topic: Text },
     /// Invoke an output binding.
     Binding { name: Text },
+    /// Call a method of an actor. The method stands in the target.
+    ActorCall { kind: Text, id: Text },
+    /// Read a key of an actor's state.
+    ActorGet { kind: Text, id: Text, key: Text },
+    /// Do the operations of the body on an actor's state, all or none.
+    ActorChange { kind: Text, id: Text },
     /// Ask whether the sidecar answers.
     Health,
     /// Read the metadata.

@@ -16,6 +16,9 @@ pub(crate) enum Kind {
     Invoke,
     Publish,
     Binding,
+    ActorCall,
+    ActorGet,
+    ActorChange,
     Health,
     Metadata,
     SetMetadata,
@@ -69,6 +72,14 @@ const POST_AND_PUT: Methods = Methods {
     ..Methods::NONE
 };
 
+const DELETE_GET_POST_AND_PUT: Methods = Methods {
+    delete: true,
+    get: true,
+    post: true,
+    put: true,
+    ..Methods::NONE
+};
+
 const ALL: Methods = Methods {
     delete: true,
     get: true,
@@ -83,7 +94,7 @@ const ALL: Methods = Methods {
 pub(crate) const SHUTDOWN_PATH: &str = "/v1.0/shutdown";
 
 /// The routes of the interface.
-pub(crate) const ROUTES: [Row; 12] = [
+pub(crate) const ROUTES: [Row; 15] = [
     Row {
         methods: POST_AND_PUT,
         path: "/v1.0/state/{store}",
@@ -144,6 +155,21 @@ pub(crate) const ROUTES: [Row; 12] = [
         path: SHUTDOWN_PATH,
         kind: Kind::Shutdown,
     },
+    Row {
+        methods: DELETE_GET_POST_AND_PUT,
+        path: "/v1.0/actors/{kind}/{id}/method/{*rest}",
+        kind: Kind::ActorCall,
+    },
+    Row {
+        methods: GET,
+        path: "/v1.0/actors/{kind}/{id}/state/{key}",
+        kind: Kind::ActorGet,
+    },
+    Row {
+        methods: POST_AND_PUT,
+        path: "/v1.0/actors/{kind}/{id}/state",
+        kind: Kind::ActorChange,
+    },
 ];
 
 /// The routes of the interface, as a slice.
@@ -175,6 +201,29 @@ pub(crate) fn parts_of(kind: Kind) -> &'static [Part]
             Part::Tail,
         ],
         Kind::Publish => &[Part::Literal, Part::Literal, Part::Segment, Part::Tail],
+        Kind::ActorCall => &[
+            Part::Literal,
+            Part::Literal,
+            Part::Segment,
+            Part::Segment,
+            Part::Literal,
+            Part::Tail,
+        ],
+        Kind::ActorGet => &[
+            Part::Literal,
+            Part::Literal,
+            Part::Segment,
+            Part::Segment,
+            Part::Literal,
+            Part::Segment,
+        ],
+        Kind::ActorChange => &[
+            Part::Literal,
+            Part::Literal,
+            Part::Segment,
+            Part::Segment,
+            Part::Literal,
+        ],
         Kind::Health | Kind::Metadata | Kind::Shutdown => &[Part::Literal, Part::Literal],
     }
 }

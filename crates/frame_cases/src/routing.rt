@@ -36,6 +36,14 @@ fn push_route(text: &mut Blob, route: &Route) -> Result<(), NoMemory> {
             push_parts(text, "Publish", pubsub.bytes(), topic.bytes())
         }
         Route::Binding { name } => push_parts(text, "Binding", name.bytes(), b""),
+        Route::ActorCall { kind, id } => { push_parts(text, "ActorCall", kind.bytes(), id.bytes()) }
+        Route::ActorGet { kind, id, key } => {
+            push_parts(text, "ActorGet", kind.bytes(), id.bytes())?;
+            push_part(text, key.bytes())
+        }
+        Route::ActorChange { kind, id } => {
+            push_parts(text, "ActorChange", kind.bytes(), id.bytes())
+        }
         Route::Health => push_parts(text, "Health", b"", b""),
         Route::Metadata => push_parts(text, "Metadata", b"", b""),
         Route::SetMetadata { name } => push_parts(text, "SetMetadata", name.bytes(), b""),

@@ -12,6 +12,7 @@ pub mod Walks
 pub mod FirstFaults
 pub mod Members
 pub mod Readable
+pub mod Whole
 pub mod WrittenTexts
 pub mod Visits
 pub mod Structure
@@ -27,3 +28,4 @@ pub mod LastNames
 pub mod Moves
 pub mod Composing
 pub mod Clear
+pub mod Joined

@@ -1,5 +1,5 @@
 -- What a text that has been read shows.
-use Rattle.std.specs.Prelude.{◌≡◌, ℕ, ◌+◌, ◌<◌, List, [], ◌∷◌, ◌++◌, length, drop, slice_index_or, ⊤, ◌⊎◌, Option, MatchOption}
+use Rattle.std.specs.Prelude.{◌≡◌, ℕ, ◌+◌, ◌<◌, List, [], ◌∷◌, ◌++◌, length, drop, slice_index_or, ⊤, ◌⊎◌, if◌then◌else◌, Option, Some, None, MatchOption}
 use Rattle.json_text.specs.Unescape.{HasName}
 use Rattle.json_text.specs.declared.spot.Spot.{Spot}
 use Rattle.json_text.specs.declared.spot.Entry.{Entry}
@@ -9,6 +9,7 @@ use Rattle.json_text.specs.Forest.{Forest, empty, grows, count}
 use Rattle.json_text.specs.Grammar.{IsText}
 use Rattle.json_text.specs.Faults.{IsClean}
 use Rattle.json_text.specs.Reading.{entries}
+use Rattle.json_text.specs.Shape.{is_null}
 
 -- the bytes that were read
 abbrev pub bytes_read : Doc → List ℕ
@@ -74,6 +75,24 @@ pub record IsLastMember (doc : Doc) (name : List ℕ) (values : Forest) (node : 
 abbrev pub IsLastNamed : Doc → List ℕ → Forest → Option Node → Type 0
 IsLastNamed doc name values found = MatchOption found (NoneNamed (bytes_read doc) name values) (IsLastMember doc name values)
 
+-- a fact of the first of some values, if there is one: of itself, of what it holds, and of the values after it
+abbrev pub ForFirst : Forest → (Spot → Forest → Forest → Type 0) → Type 0
+ForFirst empty fact = ⊤
+ForFirst (grows spot children later) fact = fact spot children later
+
+-- of a node
+abbrev pub OfNode : Doc → Node → (Spot → Forest → Forest → Type 0) → Type 0
+OfNode doc node fact = (values : Forest) → StandsAt doc node values → ForFirst values fact
+
+-- the value that was found, unless it is null
+abbrev pub IsUnlessNull : Doc → Option Node → Option Node → Type 0
+IsUnlessNull doc None there = there ≡ None
+IsUnlessNull doc (Some node) there = OfNode doc node (λ spot children later. there ≡ (if is_null spot.kind then None else Some node))
+
+-- the last of these values that is a member of the name, unless it is null
+abbrev pub IsLastThere : Doc → List ℕ → Forest → Option Node → Type 0
+IsLastThere doc name values there = (found : Option Node) × IsLastNamed doc name values found × IsUnlessNull doc found there
+
 -- the document shows all values of the text, which are those of one reading alone, and nothing was wrong with it
 pub record Shows (doc : Doc) (bytes : List ℕ) : Type 0 where
   pub values : Forest
@@ -83,12 +102,3 @@ pub record Shows (doc : Doc) (bytes : List ℕ) : Type 0 where
   pub from_root : (node : Node) → IsRoot node → StandsAt doc node values
   pub same : bytes_read doc ≡ bytes
   pub all : length (values_kept doc) ≡ count values
-
--- a fact of the first of some values, if there is one: of itself, of what it holds, and of the values after it
-abbrev pub ForFirst : Forest → (Spot → Forest → Forest → Type 0) → Type 0
-ForFirst empty fact = ⊤
-ForFirst (grows spot children later) fact = fact spot children later
-
--- of a node
-abbrev pub OfNode : Doc → Node → (Spot → Forest → Forest → Type 0) → Type 0
-OfNode doc node fact = (values : Forest) → StandsAt doc node values → ForFirst values fact

@@ -13,6 +13,7 @@ pub mod Reading
 pub mod Between
 pub mod Reader
 pub mod Unescape
+pub mod Told
 pub mod Readable
 pub mod Packed
 pub mod Doc
@@ -26,3 +27,4 @@ pub mod Levels
 pub mod LastMembers
 pub mod Moved
 pub mod MapTexts
+pub mod Joined

@@ -10,6 +10,18 @@ abbrev pub is_map : Kind → Bool
 is_map kinds.Map = true
 is_map other = false
 
+abbrev pub is_list : Kind → Bool
+is_list kinds.List = true
+is_list other = false
+
+abbrev pub is_text : Kind → Bool
+is_text kinds.Text = true
+is_text other = false
+
+abbrev pub is_null : Kind → Bool
+is_null kinds.Null = true
+is_null other = false
+
 -- lists and maps hold other values
 abbrev pub is_holder : Kind → Bool
 is_holder kinds.List = true

@@ -4,11 +4,13 @@ ghost use Rattle.json_text.specs.Unescape.{HasText, HasName, text_shown, name_sh
 ghost use Rattle.json_text.specs.Readable.{TextsAreReadable, ValuesAreWithin};
 ghost use Rattle.json_text.specs.Reading.{Holds};
 ghost use Rattle.json_text.specs.Shape.{value_bytes};
+ghost use Rattle.json_text.specs.Told.{TextsAreWhole};
 ghost use Rattle.std.specs.Str.{IsUtf8};
 
 use crate::packed::Packed;
-use crate::shown::{has_name, has_text, push_name_of, push_text_of, text_byte_of};
+use crate::shown::{has_name, has_text, push_name_of, push_text_of, text_byte_of, text_inside};
 use crate::spot::Entry;
+use crate::told::Told;
 use json_lexemes::Kind;
 use side_base::{Blob, NoMemory, Text};
 use std::alloc::Global;
@@ -19,13 +21,15 @@ pub struct Node {
     pub(crate) number: usize,
 }
 
-/// A JSON text that has been read: its bytes, and its values as spans of them.
+/// A JSON text that has been read: its bytes, its values as spans of them, and the texts that escapes spell.
 #[derive(Drop)]
 pub struct Doc<'a> {
     pub(crate) bytes: &'a [u8],
     pub(crate) nodes: Vec<Packed>,
+    pub(crate) told: Told,
     ghost some: { 0 < length nodes.items },
     ghost readable: { TextsAreReadable bytes.now nodes.items },
+    ghost whole: { TextsAreWhole bytes.now nodes.items told },
     ghost within: { ValuesAreWithin bytes.now nodes.items },
     ghost read: { ∥ Holds bytes.now nodes.items ∥₁ },
 }
@@ -182,6 +186,16 @@ impl<'a> Doc<'a> {
         ensures { OfNode self.now n (λ spot children later. IsTrue result ↔ HasName (bytes_read self.now) spot name.now) }
     {
         has_name(self.bytes, self.entry(n).spot, name)
+    }
+
+    /// The text that the value is, in one piece; no bytes for another value. Takes no memory, and no time that grows with the
+    /// text.
+    pub fn text(&self, n: Node) -> &[u8]
+        requires { IsNode self.now n }
+        ensures { OfNode self.now n (λ spot children later. result.now ≡ text_shown (bytes_read self.now) spot) }
+    {
+        self.told
+            .text(n.number, text_inside(self.bytes, self.entry(n).spot))
     }
 
     /// The byte of number `i`, from 0, of the text that the value is; `None` exactly where it has no such byte.

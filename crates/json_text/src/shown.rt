@@ -1,6 +1,7 @@
 // The texts of a value and of its name.
 ghost use Rattle.std.specs.Prelude.{◌≡◌, ◌↔◌, ◌++◌, IsTrue, OnOk, OnErr, slice_get};
 ghost use Rattle.json_text.specs.Unescape.{HasText, HasName, unescaped, content, text_shown, name_shown};
+ghost use Rattle.json_text.specs.Told.{inside_of};
 
 use crate::spot::{Span, Spot};
 use json_lexemes::{Kind, byte_of, push_unescaped, spells};
@@ -42,7 +43,8 @@ pub(crate) fn has_name(bytes: &[u8], spot: Spot, name: &[u8]) -> bool
 /// What spells the text that the value is; nothing for another value.
 #[tactic(auto, unfolding(json_lexemes::specs::Unescape::unescaped_from))]
 pub(crate) fn text_inside(bytes: &[u8], spot: Spot) -> &[u8]
-    ensures { unescaped result.now ≡ text_shown bytes.now spot }
+    ensures spells { unescaped result.now ≡ text_shown bytes.now spot }
+    ensures inside { result.now ≡ inside_of bytes.now spot }
 {
     match spot.kind {
         Kind::Text => content_of(bytes, spot.span),

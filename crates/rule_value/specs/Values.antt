@@ -191,6 +191,11 @@ holds StartsWith all part = starts_with nat_eq all part
 holds EndsWith all part = ends_with all part
 holds Contains all part = is_inside all part
 
+-- the text that a value is, if it is one
+abbrev pub text_in : Value → Option (List ℕ)
+text_in (text held) = Some held
+text_in a = None
+
 -- the calls take two texts
 abbrev pub called : Call → Value → Value → Option Bool
 called call (text all) (text part) = Some (holds call all part)

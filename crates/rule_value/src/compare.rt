@@ -1,7 +1,7 @@
 // Comparisons and calls.
-ghost use Rattle.std.specs.Prelude.{◌≡◌, List, ℕ};
+ghost use Rattle.std.specs.Prelude.{◌≡◌, List, ℕ, option_map};
 ghost use Rattle.json_text.specs.declared.doc.Doc.{Doc as JsonDoc};
-ghost use Rattle.rule_value.specs.Values.{Value as Meant, text, number, flag, null, unless_error, equal, below, compared, called, as_number, number_or_error};
+ghost use Rattle.rule_value.specs.Values.{Value as Meant, text, number, flag, null, unless_error, equal, below, compared, called, text_in, as_number, number_or_error};
 ghost use Rattle.rule_value.specs.Standing.{Is, IsReadable};
 
 use crate::operand::{Bytes, comes_before, holds, is_same, whole_of};
@@ -144,13 +144,14 @@ pub(crate) fn compared(
     }
 }
 
-fn text_holds(doc: &Doc<'_>, call: Call, all: Bytes<'_>, part: Value<'_>) -> Option<bool>
-    requires { IsReadable doc.now part }
-    ensures { (meant : Meant) → Is doc.now part.entry meant → result ≡ called call (text all.entry) meant }
+/// The text that a value is, if it is one.
+fn text_in<'r>(doc: &'r Doc<'_>, value: Value<'r>) -> Option<&'r [u8]>
+    requires { IsReadable doc.now value }
+    ensures { (meant : Meant) → Is doc.now value.entry meant → option_map (λ text. text.now) result ≡ text_in meant }
 {
-    match part {
-        Value::Own { text } => Some(holds(call, all, Bytes::own(text))),
-        Value::Told { node } => Some(holds(call, all, Bytes::told(doc.text_bytes(node)))),
+    match value {
+        Value::Own { text } => Some(text),
+        Value::Told { node } => Some(doc.text(node)),
         Value::Number { whole: _ } => None,
         Value::Flag { on: _ } => None,
         Value::Null => None,
@@ -164,14 +165,12 @@ pub(crate) fn called(doc: &Doc<'_>, call: Call, all: Value<'_>, part: Value<'_>)
     requires { IsReadable doc.now all × IsReadable doc.now part }
     ensures { (a b : Meant) → Is doc.now all.entry a → Is doc.now part.entry b → result ≡ called call a b }
 {
-    match all {
-        Value::Own { text } => text_holds(doc, call, Bytes::own(text), part),
-        Value::Told { node } => text_holds(doc, call, Bytes::told(doc.text_bytes(node)), part),
-        Value::Number { whole: _ } => None,
-        Value::Flag { on: _ } => None,
-        Value::Null => None,
-        Value::Other => None,
-        Value::Error => None,
+    match text_in(doc, all) {
+        Some(all) => match text_in(doc, part) {
+            Some(part) => Some(holds(call, all, part)),
+            None => None,
+        },
+        None => None,
     }
 }
 

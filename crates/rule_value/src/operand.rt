@@ -188,8 +188,19 @@ fn ends_with(all: Bytes<'_>, end: Bytes<'_>) -> bool
     }
 }
 
-/// Whether the other stands somewhere in the text.
-fn is_inside(all: Bytes<'_>, inner: Bytes<'_>) -> bool
+/// Whether the other stands somewhere in the text, in time that grows with both as their lengths do.
+#[tactic(auto, using(crate::proofs::Inside::inside_text))]
+fn is_inside(all: &[u8], inner: &[u8]) -> bool
+    ensures { result ≡ is_inside all.now inner.now }
+{
+    match (str::from_utf8(all), str::from_utf8(inner)) {
+        (Ok(all), Ok(inner)) => all.contains(inner),
+        _ => is_inside_by_bytes(Bytes::own(all), Bytes::own(inner)),
+    }
+}
+
+// The same of texts that are no UTF-8, of which a rule and an event that were read have none: at each place it is tried anew.
+fn is_inside_by_bytes(all: Bytes<'_>, inner: Bytes<'_>) -> bool
     ensures { result ≡ is_inside all.entry inner.entry }
 {
     let mut all = all;
@@ -204,12 +215,12 @@ fn is_inside(all: Bytes<'_>, inner: Bytes<'_>) -> bool
 }
 
 /// What a call answers of two texts.
-pub(crate) fn holds(call: Call, all: Bytes<'_>, part: Bytes<'_>) -> bool
-    ensures { result ≡ holds call all.entry part.entry }
+pub(crate) fn holds(call: Call, all: &[u8], part: &[u8]) -> bool
+    ensures { result ≡ holds call all.now part.now }
 {
     match call {
-        Call::StartsWith => begins_with(all, part),
-        Call::EndsWith => ends_with(all, part),
+        Call::StartsWith => begins_with(Bytes::own(all), Bytes::own(part)),
+        Call::EndsWith => ends_with(Bytes::own(all), Bytes::own(part)),
         Call::Contains => is_inside(all, part),
     }
 }

@@ -15,7 +15,7 @@ use Rattle.sidecar_core.specs.declared.doing.Doing.{Doing}
 use Rattle.sidecar_core.specs.Binding.{Binds}
 use Rattle.sidecar_core.specs.Exchange.{AtNotes, AtStore, Gives, Lacks, ListReplies, SetsNote}
 use Rattle.sidecar_core.specs.Invoking.{Apps, Invokes}
-use Rattle.sidecar_core.specs.Responses.{bad_escape, no_route, not_allowed}
+use Rattle.sidecar_core.specs.Responses.{bad_escape, no_route, not_allowed, not_yet}
 use Rattle.session_laws.specs.Publishing.{PublishAnswers}
 
 -- what a sidecar serves with: its configuration, whose subscriptions are those that are kept, and where apps are reached
@@ -33,6 +33,9 @@ AnsweredBy setup request (Ok (route.Transact store)) events reply = AtStore setu
 AnsweredBy setup request (Ok (route.Invoke app rest)) events reply = Invokes setup.config setup.apps request app rest events reply
 AnsweredBy setup request (Ok (route.Publish pubsub topic)) events reply = PublishAnswers setup.config request pubsub topic events reply
 AnsweredBy setup request (Ok (route.Binding name)) events reply = Binds setup.config request name events reply
+AnsweredBy setup request (Ok (route.ActorCall actor id)) events reply = Gives not_yet events reply
+AnsweredBy setup request (Ok (route.ActorGet actor id key)) events reply = Gives not_yet events reply
+AnsweredBy setup request (Ok (route.ActorChange actor id)) events reply = Gives not_yet events reply
 AnsweredBy setup request (Ok route.Health) events reply = Gives done events reply
 AnsweredBy setup request (Ok route.Metadata) events reply = AtNotes ask.List (ListReplies setup.config) events reply
 AnsweredBy setup request (Ok (route.SetMetadata name)) events reply = SetsNote name request.body events reply

@@ -57,6 +57,9 @@ store_in (route.Transact store) = Some store
 store_in (route.Invoke app rest) = None
 store_in (route.Publish pubsub topic) = None
 store_in (route.Binding name) = None
+store_in (route.ActorCall actor id) = None
+store_in (route.ActorGet actor id key) = None
+store_in (route.ActorChange actor id) = None
 store_in route.Health = None
 store_in route.Metadata = None
 store_in (route.SetMetadata name) = None
@@ -129,7 +132,7 @@ pub data SetsNote (name value : List ℕ) (events : List Doing) (reply : Result 
 
 -- ---- all routes
 
--- What a route's request is answered. Calls of apps, messages and requests to output bindings are not served yet; what the first and the last of them will do stands in Invoking.antt and Binding.antt
+-- What a route's request is answered. Calls of apps, messages, requests to output bindings and requests for actors are not served yet; what calls of apps and requests to bindings will do stands in Invoking.antt and Binding.antt
 abbrev pub Answered : Config → Request → Result Route RouteErr → List Doing → Result Response ApiErr → Type 0
 Answered config request (Ok (route.Save store)) events reply = AtStore config request (route.Save store) store events reply
 Answered config request (Ok (route.Get store key)) events reply = AtStore config request (route.Get store key) store events reply
@@ -139,6 +142,9 @@ Answered config request (Ok (route.Transact store)) events reply = AtStore confi
 Answered config request (Ok (route.Invoke app rest)) events reply = Gives not_yet events reply
 Answered config request (Ok (route.Publish pubsub topic)) events reply = Gives not_yet events reply
 Answered config request (Ok (route.Binding name)) events reply = Gives not_yet events reply
+Answered config request (Ok (route.ActorCall actor id)) events reply = Gives not_yet events reply
+Answered config request (Ok (route.ActorGet actor id key)) events reply = Gives not_yet events reply
+Answered config request (Ok (route.ActorChange actor id)) events reply = Gives not_yet events reply
 Answered config request (Ok route.Health) events reply = Gives done events reply
 Answered config request (Ok route.Metadata) events reply = AtNotes ask.List (ListReplies config) events reply
 Answered config request (Ok (route.SetMetadata name)) events reply = SetsNote name request.body events reply

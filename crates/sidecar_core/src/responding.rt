@@ -83,6 +83,9 @@ fn store_in(route: &Route) -> Option<&Text>
         Route::Invoke { .. }
         | Route::Publish { .. }
         | Route::Binding { .. }
+        | Route::ActorCall { .. }
+        | Route::ActorGet { .. }
+        | Route::ActorChange { .. }
         | Route::Health
         | Route::Metadata
         | Route::SetMetadata { .. }
@@ -111,6 +114,9 @@ fn answer_plainly<K: Keeper, W: Wait>(
         Route::Invoke { .. } => given(not_yet(shared.alloc)),
         Route::Publish { .. } => given(not_yet(shared.alloc)),
         Route::Binding { .. } => given(not_yet(shared.alloc)),
+        Route::ActorCall { .. } => given(not_yet(shared.alloc)),
+        Route::ActorGet { .. } => given(not_yet(shared.alloc)),
+        Route::ActorChange { .. } => given(not_yet(shared.alloc)),
         Route::Save { .. }
         | Route::Get { .. }
         | Route::Delete { .. }

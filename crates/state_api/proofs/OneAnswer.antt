@@ -92,6 +92,9 @@ module _ (tree : (bytes : List ℕ) (values others : Forest) → IsText bytes va
   one_answer prefix request (route.Invoke app rest) one other h g = absurd h
   one_answer prefix request (route.Publish pubsub topic) one other h g = absurd h
   one_answer prefix request (route.Binding name) one other h g = absurd h
+  one_answer prefix request (route.ActorCall actor id) one other h g = absurd h
+  one_answer prefix request (route.ActorGet actor id key) one other h g = absurd h
+  one_answer prefix request (route.ActorChange actor id) one other h g = absurd h
   one_answer prefix request route.Health one other h g = absurd h
   one_answer prefix request route.Metadata one other h g = absurd h
   one_answer prefix request (route.SetMetadata name) one other h g = absurd h

@@ -44,6 +44,9 @@ pub fn command(
         Route::Invoke { .. }
         | Route::Publish { .. }
         | Route::Binding { .. }
+        | Route::ActorCall { .. }
+        | Route::ActorGet { .. }
+        | Route::ActorChange { .. }
         | Route::Health
         | Route::Metadata
         | Route::SetMetadata { .. }

@@ -7,7 +7,7 @@ use case_text::first_word;
 use side_base::Text;
 use std::alloc::Global;
 
-const CODES: [Code; 20] = [
+const CODES: [Code; 22] = [
     Code::BadRequest,
     Code::NotFound,
     Code::MethodNotAllowed,
@@ -25,6 +25,8 @@ const CODES: [Code; 20] = [
     Code::PubsubForbidden,
     Code::PubsubCloudEventsSer,
     Code::PubsubPublishMessage,
+    Code::ActorInvokeMethod,
+    Code::ActorState,
     Code::MetadataFull,
     Code::Spent,
     Code::NoMemory,

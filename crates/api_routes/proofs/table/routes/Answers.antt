@@ -125,7 +125,40 @@ returns c = (
                           };
                           kind = refl;
                         },
-                        tt,
+                        (
+                          record {
+                            methods = refl;
+                            path = record {
+                              scan = record { pattern = codes "/v1.0/actors/" ++ 256 ∷ [] ++ codes "/" ++ 256 ∷ [] ++ codes "/method/" ++ 257 ∷ []; text = codes "/v1.0/actors/{kind}/{id}/method/{*rest}"; names = (14, 18) ∷ (21, 23) ∷ (34, 38) ∷ []; name_start = 34; catch_all = true; mode = 0 };
+                              read = refl;
+                              pattern_is = refl;
+                            };
+                            kind = refl;
+                          },
+                          (
+                            record {
+                              methods = refl;
+                              path = record {
+                                scan = record { pattern = codes "/v1.0/actors/" ++ 256 ∷ [] ++ codes "/" ++ 256 ∷ [] ++ codes "/state/" ++ 256 ∷ []; text = codes "/v1.0/actors/{kind}/{id}/state/{key}"; names = (14, 18) ∷ (21, 23) ∷ (32, 35) ∷ []; name_start = 32; catch_all = false; mode = 0 };
+                                read = refl;
+                                pattern_is = refl;
+                              };
+                              kind = refl;
+                            },
+                            (
+                              record {
+                                methods = refl;
+                                path = record {
+                                  scan = record { pattern = codes "/v1.0/actors/" ++ 256 ∷ [] ++ codes "/" ++ 256 ∷ [] ++ codes "/state"; text = codes "/v1.0/actors/{kind}/{id}/state"; names = (14, 18) ∷ (21, 23) ∷ []; name_start = 21; catch_all = false; mode = 0 };
+                                  read = refl;
+                                  pattern_is = refl;
+                                };
+                                kind = refl;
+                              },
+                              tt,
+                            ),
+                          ),
+                        ),
                       ),
                     ),
                   ),

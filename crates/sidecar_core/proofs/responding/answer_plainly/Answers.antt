@@ -39,3 +39,21 @@ returns-in-Binding-clause-does g c = λ clock calls words. does_nothing _ _ _ _ 
 
 pub returns-in-Binding-clause-shows : goal.returns-in-Binding-clause-shows
 returns-in-Binding-clause-shows g c = λ count is. not_exhausted _ c.given-in-Binding.result count (c.given-in-Binding.ensures _ c.not_yet-in-Binding.ensures) is
+
+pub returns-in-ActorCall-clause-does : goal.returns-in-ActorCall-clause-does
+returns-in-ActorCall-clause-does g c = λ clock calls words. does_nothing _ _ _ _ (rw c.in-ActorCall.is (refl, c.given-in-ActorCall.ensures _ c.not_yet-in-ActorCall.ensures))
+
+pub returns-in-ActorCall-clause-shows : goal.returns-in-ActorCall-clause-shows
+returns-in-ActorCall-clause-shows g c = λ count is. not_exhausted _ c.given-in-ActorCall.result count (c.given-in-ActorCall.ensures _ c.not_yet-in-ActorCall.ensures) is
+
+pub returns-in-ActorGet-clause-does : goal.returns-in-ActorGet-clause-does
+returns-in-ActorGet-clause-does g c = λ clock calls words. does_nothing _ _ _ _ (rw c.in-ActorGet.is (refl, c.given-in-ActorGet.ensures _ c.not_yet-in-ActorGet.ensures))
+
+pub returns-in-ActorGet-clause-shows : goal.returns-in-ActorGet-clause-shows
+returns-in-ActorGet-clause-shows g c = λ count is. not_exhausted _ c.given-in-ActorGet.result count (c.given-in-ActorGet.ensures _ c.not_yet-in-ActorGet.ensures) is
+
+pub returns-in-ActorChange-clause-does : goal.returns-in-ActorChange-clause-does
+returns-in-ActorChange-clause-does g c = λ clock calls words. does_nothing _ _ _ _ (rw c.in-ActorChange.is (refl, c.given-in-ActorChange.ensures _ c.not_yet-in-ActorChange.ensures))
+
+pub returns-in-ActorChange-clause-shows : goal.returns-in-ActorChange-clause-shows
+returns-in-ActorChange-clause-shows g c = λ count is. not_exhausted _ c.given-in-ActorChange.result count (c.given-in-ActorChange.ensures _ c.not_yet-in-ActorChange.ensures) is

@@ -5,4 +5,4 @@ use Rattle.json_text.proofs.Walks.{own_spot, for_first}
 use Rattle.json_text.proofs.doc.Doc.text_len.Goals as goal
 
 pub returns : goal.returns
-returns c values h = for_first values _ _ (own_spot c.args.self.now c.args.n.number c.entry.result values c.entry.ensures h) (λ s children later e. c.unescaped_len.ensures ∙ ap length (c.text_inside.ensures ∙ ap (text_shown (bytes_read c.args.self.now)) e))
+returns c values h = for_first values _ _ (own_spot c.args.self.now c.args.n.number c.entry.result values c.entry.ensures h) (λ s children later e. c.unescaped_len.ensures ∙ ap length (c.text_inside.ensures.spells ∙ ap (text_shown (bytes_read c.args.self.now)) e))
