@@ -4,3 +4,4 @@ pub mod Event
 pub mod Effects
 pub mod Turn
 pub mod Attempts
+pub mod RefusalText

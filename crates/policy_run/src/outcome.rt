@@ -1,3 +1,10 @@
+ghost use Rattle.std.specs.Prelude.{◌≡◌, ◌++◌, IfOk};
+ghost use Rattle.policy_run.specs.RefusalText.{refusal_text};
+
+use itoa::{Buffer, Integer};
+use side_base::{NoMemory, Text};
+use std::alloc::Global;
+
 /// Why a circuit breaker did not let a call through.
 #[derive(Clone, Copy, Debug, PartialEq, Eq)]
 pub enum Refusal {
@@ -5,6 +12,29 @@ pub enum Refusal {
     Opened { until: u64 },
     /// The breaker is half-open, and has let `out` calls through, the most that it may.
     TooMany { out: u32 },
+}
+
+impl Refusal {
+    /// What is told of it: `breaker open until <until>` or `breaker half-open with <out>`.
+    pub fn text(self, alloc: Global) -> Result<Text, NoMemory>
+        ensures { IfOk result (λ text. text ≡ refusal_text self) }
+    {
+        match self {
+            Refusal::Opened { until } => numbered(alloc, "breaker open until ", until),
+            Refusal::TooMany { out } => numbered(alloc, "breaker half-open with ", out),
+        }
+    }
+}
+
+/// A text that ends with a number.
+fn numbered<I: Integer>(alloc: Global, text: &str, number: I) -> Result<Text, NoMemory>
+    ensures { IfOk result (λ told. told ≡ text.now ++ I.text number) }
+{
+    let mut told = Text::new(alloc);
+    told.push(text)?;
+    let mut digits = Buffer::new();
+    told.push(digits.format(number))?;
+    Ok(told)
 }
 
 /// How a call under a policy ended.

@@ -1,0 +1,35 @@
+-- What a call of a link came to, by attempts under what is bound to its target, and what is answered by it.
+use Rattle.std.specs.Prelude.{◌≡◌, ◌⊎◌, List, [], Result, Ok, Err}
+use Rattle.side_base.specs.declared.message.LinkRequest.{LinkRequest}
+use Rattle.side_base.specs.declared.message.Response.{Response}
+use Rattle.side_world.specs.declared.link.LinkCall.{LinkCall}
+use Rattle.turn_cell.specs.declared.error.ApiErr.{ApiErr}
+use Rattle.turn_cell.specs.declared.error.ApiErr.TheVariants as error
+use Rattle.retry_core.specs.declared.policy.Bound.{Bound}
+use Rattle.policy_run.specs.declared.outcome.Outcome.{Outcome}
+use Rattle.policy_run.specs.Event.{Event}
+use Rattle.policy_run.specs.Attempts.{Attempts}
+use Rattle.policy_run.specs.Effects.{Times}
+use Rattle.link_call.specs.declared.miss.Miss.{Miss}
+use Rattle.link_call.specs.Linked.{Tries}
+use Rattle.link_call.specs.LinkAt.{LinkAt}
+use Rattle.link_call.specs.Cause.{HasCause}
+
+-- these attempts were made of a request, and came to this, whose cause the link counted, or is in the reply or the clock
+pub record Came (bound : Bound) (link link' : LinkAt) (clock : Times) (asked : LinkRequest) (events : List (Event LinkCall)) (outcome : Outcome Response Miss) : Type 0 where
+  pub attempts : Attempts bound (Tries asked) outcome events
+  pub cause : HasCause bound outcome link link' clock.before clock.after
+
+-- ---- what is answered
+
+-- this response, or there is no memory for it
+abbrev pub IsOr : Response → Result Response ApiErr → Type 0
+IsOr response reply = (reply ≡ Ok response) ⊎ (reply ≡ Err error.NoMemory)
+
+-- nothing is done, and there is no memory
+abbrev pub Lacks : {E : Type 0} → List E → Result Response ApiErr → Type 0
+Lacks events reply = (events ≡ []) × (reply ≡ Err error.NoMemory)
+
+-- nothing is done, and this is answered
+abbrev pub Gives : {E : Type 0} → Response → List E → Result Response ApiErr → Type 0
+Gives response events reply = (events ≡ []) × IsOr response reply

@@ -1,0 +1,16 @@
+ghost use Rattle.std.specs.Prelude.{◌≡◌, IfOk};
+ghost use Rattle.side_base.specs.declared.message.Response.{Response as ResponseRecord};
+ghost use Rattle.link_call.specs.Came.{IsOr};
+
+use side_base::{NoMemory, Response};
+use turn_cell::ApiErr;
+
+/// A response, or the want of memory for it, as what a request is answered.
+pub fn given(made: Result<Response, NoMemory>) -> Result<Response, ApiErr>
+    ensures { (response : ResponseRecord) → IfOk made (λ r. r ≡ response) → IsOr response result }
+{
+    match made {
+        Ok(response) => Ok(response),
+        Err(NoMemory) => Err(ApiErr::NoMemory),
+    }
+}
