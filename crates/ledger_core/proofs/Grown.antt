@@ -1,13 +1,14 @@
 -- The counters of the books stay bounded, and the trees in order.
-use Rattle.std.proofs.Common.{◌≡◌, ◌+◌, ◌-◌, ◌*◌, ◌^◌, ◌<◌, ◌≤◌, ℕ, List, ap, sym, subst, arith}
+use Rattle.std.proofs.Common.{◌≡◌, ◌+◌, ◌-◌, ◌*◌, ◌^◌, ◌<◌, ◌≤◌, ℕ, List, length, ap, sym, subst, arith}
 use Rattle.std.specs.FinMap.{is_sorted, put}
 use Rattle.ledger_core.specs.declared.place.Place.{Place}
 use Rattle.ledger_core.specs.declared.books.Books.{Books}
 use Rattle.ledger_core.specs.Place.{place_order}
 use Rattle.ledger_core.specs.Row.{Row, Entry}
 use Rattle.ledger_core.specs.Tree.{without}
-use Rattle.ledger_core.specs.Books.{AreSorted, IsBounded, put_all}
+use Rattle.ledger_core.specs.Books.{AreSorted, HasRoom, IsBounded, put_all}
 use Rattle.ledger_core.specs.After.{Grows}
+use Rattle.ledger_core.proofs.Sizes.{put_size, put_all_size, without_fewer}
 use Rattle.ledger_core.proofs.Sorted.{sorted_put, sorted_put_all, sorted_without}
 
 sorted_as : (es fs : List Entry) → es ≡ fs → is_sorted place_order fs ≡ Rattle.std.proofs.Common.true → is_sorted place_order es ≡ Rattle.std.proofs.Common.true
@@ -17,6 +18,12 @@ sorted_as es fs e sorted = subst (λ xs. is_sorted place_order xs ≡ Rattle.std
 pub wait_grows : (before after : Books) (place : Place) (row : Row) → AreSorted before → after ≡ record before { waiting = put place_order place row before.waiting } → Grows before after
 wait_grows before after place row sorted is = record {
   bounded = λ used bounded. record {
+    rows =
+        let w = ap (λ (b : Books). length b.waiting) is in
+        let h = ap (λ (b : Books). length b.held) is in
+        let more = (put_size before.waiting place row sorted.waiting).most in
+        let g = bounded.rows in
+        omega (arith, w, h, more, g);
     made = let e = ap (λ (b : Books). b.made) is in let g = bounded.made in omega (arith, e, g);
     claims = let e = ap (λ (b : Books). b.claims) is in let g = bounded.claims in omega (arith, e, g);
     done = let e = ap (λ (b : Books). b.done) is in let g = bounded.done in omega (arith, e, g);
@@ -32,10 +39,16 @@ wait_grows before after place row sorted is = record {
 }
 
 -- a message is added, and a dead letter counted
-pub add_grows : (before after : Books) (entries : List Entry) (owed bytes drops letters : ℕ) → AreSorted before → owed ≤ 65536 → bytes ≤ 268435456 → drops < 2 ^ 64 → letters ≤ 1
+pub add_grows : (before after : Books) (entries : List Entry) (owed bytes drops letters : ℕ) → AreSorted before → owed ≤ 65536 → bytes ≤ 268435456 → drops < 2 ^ 64 → length entries < 2 ^ 64 → letters ≤ 1
     → after ≡ record before { waiting = put_all entries before.waiting; made = before.made + 1; owed = owed; bytes = bytes; dropped = before.dropped + drops; dead = before.dead + letters } → Grows before after
-add_grows before after entries owed bytes drops letters sorted few_rows few_bytes few one is = record {
+add_grows before after entries owed bytes drops letters sorted few_rows few_bytes few short one is = record {
   bounded = λ used bounded. record {
+    rows =
+        let w = ap (λ (b : Books). length b.waiting) is in
+        let h = ap (λ (b : Books). length b.held) is in
+        let more = put_all_size entries before.waiting sorted.waiting in
+        let g = bounded.rows in
+        omega (arith, w, h, more, short, g);
     made = let e = ap (λ (b : Books). b.made) is in let g = bounded.made in omega (arith, e, g);
     claims = let e = ap (λ (b : Books). b.claims) is in let g = bounded.claims in omega (arith, e, g);
     done = let e = ap (λ (b : Books). b.done) is in let g = bounded.done in omega (arith, e, g);
@@ -53,6 +66,7 @@ add_grows before after entries owed bytes drops letters sorted few_rows few_byte
 -- a row that was held is taken out: nothing else changes
 pub out_bounded : (before mid : Books) (place : Place) → mid ≡ record before { held = without place before.held } → (used : ℕ) → IsBounded used before → IsBounded used mid
 out_bounded before mid place is used bounded = subst (IsBounded used) (sym is) (record {
+  rows = let fewer = without_fewer before.held place in let g = bounded.rows in omega (arith, fewer, g);
   made = bounded.made;
   claims = bounded.claims;
   done = bounded.done;
@@ -74,6 +88,7 @@ out_grows before mid after place is grows = record { bounded = λ used bounded. 
 pub stay_grows : (before : Books) → AreSorted before → Grows before before
 stay_grows before sorted = record {
   bounded = λ used bounded. record {
+    rows = let g = bounded.rows in omega (arith, g);
     made = let g = bounded.made in omega (arith, g);
     claims = let g = bounded.claims in omega (arith, g);
     done = let g = bounded.done in omega (arith, g);
@@ -90,6 +105,7 @@ pub close_grows : (before after : Books) (bytes done dropped : ℕ) → AreSorte
     → after ≡ record before { owed = before.owed - 1; bytes = bytes; done = done; dropped = dropped } → Grows before after
 close_grows before after bytes done dropped sorted one other few is = record {
   bounded = λ used bounded. record {
+    rows = let w = ap (λ (b : Books). length b.waiting) is in let h = ap (λ (b : Books). length b.held) is in let g = bounded.rows in omega (arith, w, h, g);
     made = let e = ap (λ (b : Books). b.made) is in let g = bounded.made in omega (arith, e, g);
     claims = let e = ap (λ (b : Books). b.claims) is in let g = bounded.claims in omega (arith, e, g);
     done = let e = ap (λ (b : Books). b.done) is in let g = bounded.done in omega (arith, e, g, one);
@@ -103,3 +119,16 @@ close_grows before after bytes done dropped sorted one other few is = record {
     held = sorted_as _ _ (ap (λ (b : Books). b.held) is) sorted.held;
   };
 }
+
+-- a row was held and is in hand: there is room to put it back
+pub out_room : (before mid : Books) (place : Place) → mid ≡ record before { held = without place before.held } → HasRoom before → HasRoom mid
+out_room before mid place is room = subst HasRoom (sym is) (record {
+  rows = let fewer = without_fewer before.held place in let g = room.rows in omega (arith, fewer, g);
+  made = room.made;
+  claims = room.claims;
+  done = room.done;
+  dead = room.dead;
+  dropped = room.dropped;
+  owed = room.owed;
+  bytes = room.bytes;
+})

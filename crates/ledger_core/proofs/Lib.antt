@@ -16,6 +16,7 @@ pub mod Once
 pub mod Placed
 pub mod SettleReplies
 pub mod SettleSteps
+pub mod Sizes
 pub mod Sorted
 pub mod Stays
 pub mod Steps

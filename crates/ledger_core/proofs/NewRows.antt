@@ -1,8 +1,8 @@
 -- The rows of a new message, aim by aim.
-use Rattle.std.proofs.Common.{◌≡◌, ◌+◌, ◌<◌, ℕ, Bool, true, false, cond, List, [], ◌∷◌, ◌++◌, map, length, take, get_or, Option, Some, None, refl, sym, ap, ◌∙◌, arith}
+use Rattle.std.proofs.Common.{◌≡◌, ◌+◌, ◌<◌, ◌^◌, ℕ, Bool, true, false, cond, List, [], ◌∷◌, ◌++◌, map, length, take, get_or, Option, Some, None, refl, sym, ap, ◌∙◌, arith}
 use Rattle.std.specs.Prelude.{◌&&◌, is_none, Box, if◌then◌else◌}
 use Rattle.std.specs.declared.alloc.Global.{Global}
-use Rattle.std.proofs.lemmas.List.{take_more, map-append}
+use Rattle.std.proofs.lemmas.List.{take_more, map-append, length-map}
 use Rattle.std.proofs.lemmas.List.Concat.{flat_map-append}
 use Rattle.std.proofs.lemmas.List.Sums.{sum_by_push}
 use Rattle.ledger_core.specs.declared.plan.Aim.{Aim}
@@ -10,6 +10,7 @@ use Rattle.ledger_core.specs.declared.plan.Plan.{Plan}
 use Rattle.ledger_core.specs.declared.tree.Node.{Node}
 use Rattle.ledger_core.specs.Row.{Entry}
 use Rattle.ledger_core.specs.Rows.{entries_in, nodes_of}
+use Rattle.ledger_core.specs.Tree.{entry_of}
 use Rattle.ledger_core.specs.Size.{new_drops}
 use Rattle.ledger_core.specs.Standing.{Standing, status_in}
 use Rattle.ledger_core.specs.Course.{is_owed}
@@ -67,3 +68,6 @@ without_row plans n event hops due aims i aim nodes drops lt is rows drops_are o
       let z : new_drops (take i aims) + cond (is_none aim.path) 1 0 ≡ new_drops (take i aims) + 1 = ap (λ b. new_drops (take i aims) + cond b 1 0) (pathless plans (fresh_one n event hops due aim) due aim.path (sym one)) in
       omega (arith, m, z, drops_are);
 }
+
+pub short_entries : (nodes : List (Box Node Global)) → length nodes < 2 ^ 64 → length (entries_in nodes) < 2 ^ 64
+short_entries nodes short = let same = length-map nodes (λ (node : Box Node Global). entry_of node.value) in omega (arith, same, short)

@@ -91,7 +91,7 @@ under_each k x (y ∷ xs) e a = (total.trans k x y.0 e a.0, under_each k x xs e 
 pub tied_each : (o : Ordering) (k x : Key) (xs : List Entry) → place_order k x ≡ Equal → Compares o x xs → Compares o k xs
 tied_each o k x xs e a = subst (λ key. Compares o key xs) (sym (antisymmetric k x e)) a
 
-holds : (b : Bool) → b ≡ true → T b
+pub holds : (b : Bool) → b ≡ true → T b
 holds b e = subst T (sym e) tt
 
 shown : (b : Bool) → T b → b ≡ true

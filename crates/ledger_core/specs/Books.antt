@@ -76,8 +76,9 @@ put_all (entry ∷ more) entries = put_all more (put place_order entry.0 entry.1
 abbrev pub moved_to : ℕ → Place → Place
 moved_to at place = record { at = at; no = place.no; sub = place.sub }
 
--- the counters are far from the ends of their types
+-- the counters are far from the ends of their types, and the rows from what a tree may have
 pub record HasRoom (books : Books) : Type 0 where
+  pub rows : length books.waiting + length books.held + 2 ^ 64 ≤ 2 ^ 126
   pub made : books.made < 2 ^ 63
   pub claims : books.claims < 2 ^ 63
   pub done : books.done < 2 ^ 127
@@ -86,8 +87,9 @@ pub record HasRoom (books : Books) : Type 0 where
   pub owed : books.owed ≤ 65536
   pub bytes : books.bytes ≤ 268435456
 
--- the counters after so many commands
+-- the counters and the rows after so many commands
 pub record IsBounded (used : ℕ) (books : Books) : Type 0 where
+  pub rows : length books.waiting + length books.held ≤ used * 2 ^ 64
   pub made : books.made ≤ used
   pub claims : books.claims ≤ used
   pub done : books.done ≤ used

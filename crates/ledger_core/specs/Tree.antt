@@ -1,5 +1,5 @@
 -- What a tree of rows holds.
-use Rattle.std.specs.Prelude.{not, List, [], ◌∷◌, ◌++◌, Option, Some, None, Box}
+use Rattle.std.specs.Prelude.{◌≡◌, ◌≤◌, ◌+◌, ◌*◌, ◌^◌, ℕ, not, List, [], ◌∷◌, ◌++◌, length, Option, Some, None, Box}
 use Rattle.std.specs.List.{filter}
 use Rattle.std.specs.Ordering.{eq_by_cmp}
 use Rattle.std.specs.Arc.{arc_value}
@@ -24,6 +24,26 @@ listed node = node.left ++ entry_of node ∷ node.right
 abbrev pub listed_in : Option (Box Node Global) → List Entry
 listed_in None = []
 listed_in (Some box) = listed box.value
+
+-- each side has at most three times as many places for a further row as the other
+pub record AreAlike (left right : ℕ) : Type 0 where
+  pub left_most : left + 1 ≤ 3 * (right + 1)
+  pub right_most : right + 1 ≤ 3 * (left + 1)
+
+-- the same, but that one row came to a side or left one
+pub record AreNearlyAlike (left right : ℕ) : Type 0 where
+  pub left_most : left + 1 ≤ 3 * (right + 1) + 3
+  pub right_most : right + 1 ≤ 3 * (left + 1) + 3
+
+abbrev pub IsEven : Option (Box Node Global) → Type 0
+IsEven None = Unit {0}
+IsEven (Some box) = AreAlike (length box.value.left) (length box.value.right)
+
+-- what is so of a tree with this root and so many rows
+pub record IsBalanced (root : Option (Box Node Global)) (len : ℕ) : Type 0 where
+  pub even : IsEven root
+  pub len_is : len ≡ length (listed_in root)
+  pub most : len ≤ 2 ^ 126
 
 -- the entries of the other places
 abbrev pub without : Place → List Entry → List Entry

@@ -60,6 +60,7 @@ fn first_rows(
     ensures rows { IfOk result (λ rows. entries_in rows.nodes ≡ entries_for plans.now (fresh no event.now 0 due aims.now)) }
     ensures drops { IfOk result (λ rows. rows.drops ≡ new_drops aims.now) }
     ensures few { IfOk result (λ rows. rows.drops < 2 ^ 64) }
+    ensures short { IfOk result (λ rows. length rows.nodes < 2 ^ 64) }
 {
     let event = Arc::new(alloc, event.copy()?)?;
     let origin = Origin {

@@ -1,4 +1,4 @@
-ghost use Rattle.std.specs.Prelude.{◌≡◌, ◌+◌, ◌-◌, ◌<◌, ◌∷◌, ◌^◌, List, length, option_map, IfSome, IsTrue};
+ghost use Rattle.std.specs.Prelude.{◌≡◌, ◌+◌, ◌-◌, ◌<◌, ◌≤◌, ◌∷◌, ◌^◌, List, length, option_map, IfSome, IsTrue};
 ghost use Rattle.std.specs.FinMap.{find, put, is_sorted};
 ghost use Rattle.std.specs.Arc.{arc_value};
 ghost use Rattle.ledger_core.specs.Place.{place_order};
@@ -77,7 +77,8 @@ impl Books {
 
     /// Lets a row wait until a moment.
     pub(crate) fn wait(&mut self, mut node: Box<Node>, due: u64)
-        requires { AreSorted self.old }
+        requires sorted { AreSorted self.old }
+        requires room { length self.old.waiting < 2 ^ 126 }
         ensures { self.new ≡ record self.old { waiting = put place_order (moved_to due node.value.place) (row_of node.value.row) self.old.waiting } }
     {
         node.place.at = due;
@@ -88,7 +89,8 @@ impl Books {
     /// Holds the first of the rows that wait, under the next claim.
     pub(crate) fn hold_first(&mut self)
         requires sorted { AreSorted self.old }
-        requires room { self.old.claims < 2 ^ 63 }
+        requires room { length self.old.held < 2 ^ 126 }
+        requires claims { self.old.claims < 2 ^ 63 }
         ensures { (x : Entry) (rest : List Entry) → self.old.waiting ≡ x ∷ rest
             → self.new ≡ record self.old { waiting = rest; held = put place_order (moved_to (self.old.claims + 1) x.0) x.1 self.old.held; claims = self.old.claims + 1 } }
     {
@@ -103,7 +105,8 @@ impl Books {
 
     /// Holds a row under the last claim.
     fn hold(&mut self, mut node: Box<Node>)
-        requires { IsTrue (is_sorted place_order self.old.held) }
+        requires sorted { IsTrue (is_sorted place_order self.old.held) }
+        requires room { length self.old.held < 2 ^ 126 }
         ensures { self.new ≡ record self.old { held = put place_order (moved_to self.old.claims node.value.place) (row_of node.value.row) self.old.held } }
     {
         node.place.at = self.claims;
@@ -136,6 +139,7 @@ impl Books {
     /// Adds the rows of a new message, with which the rows take this size.
     pub(crate) fn add(&mut self, rows: NewRows, size: Size)
         requires sorted { AreSorted self.old }
+        requires room { length self.old.waiting + length rows.nodes ≤ 2 ^ 126 }
         requires made { self.old.made < 2 ^ 63 }
         requires dropped { self.old.dropped < 2 ^ 127 }
         requires few { rows.drops < 2 ^ 64 }
@@ -152,7 +156,8 @@ impl Books {
 
 /// The tree with these rows.
 fn put_all(mut tree: Tree, mut nodes: Sequence<Box<Node>>) -> Tree
-    requires { IsTrue (is_sorted place_order tree) }
+    requires sorted { IsTrue (is_sorted place_order tree) }
+    requires room { length tree + length nodes ≤ 2 ^ 126 }
     ensures { result ≡ put_all (entries_in nodes) tree }
 {
     while let Some(node) = nodes.take_first() {

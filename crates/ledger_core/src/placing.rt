@@ -1,7 +1,7 @@
-ghost use Rattle.std.specs.Prelude.{◌≡◌, [], ◌∷◌, ◌++◌, IsTrue, IfSome, MatchOption, option_map, slice_get};
+ghost use Rattle.std.specs.Prelude.{◌≡◌, ◌<◌, ◌≤◌, ◌+◌, ◌^◌, [], ◌∷◌, ◌++◌, length, IsTrue, IfSome, MatchOption, option_map, slice_get};
 ghost use Rattle.std.specs.FinMap.{put, find, is_sorted};
 ghost use Rattle.ledger_core.specs.Place.{place_order};
-ghost use Rattle.ledger_core.specs.Tree.{entry_of, row_of, listed, without};
+ghost use Rattle.ledger_core.specs.Tree.{entry_of, row_of, listed, without, AreAlike};
 
 use crate::balance::{balanced, with_left, with_right};
 use crate::place::Place;
@@ -11,7 +11,8 @@ use std::mem;
 
 /// Gives the node's place the node's row, whatever it had.
 pub(crate) fn put(tree: Tree, mut node: Box<Node>) -> Tree
-    requires { IsTrue (is_sorted place_order tree) }
+    requires sorted { IsTrue (is_sorted place_order tree) }
+    requires room { length tree < 2 ^ 126 }
     ensures { result ≡ put place_order node.value.place (row_of node.value.row) tree }
 {
     let Some(mut at) = tree.root else {
@@ -97,8 +98,10 @@ fn alone(mut node: Box<Node>) -> Tree
     Tree::of(node)
 }
 
-/// The rows of two trees that differ in height by at most one, those of the first before those of the second.
+/// The rows of two trees, those of the first before those of the second.
 fn joined(left: Tree, right: Tree) -> Tree
+    requires alike { AreAlike (length left) (length right) }
+    requires room { length left + length right ≤ 2 ^ 126 }
     ensures { result ≡ left ++ right }
 {
     match right.root {
@@ -114,6 +117,8 @@ fn joined(left: Tree, right: Tree) -> Tree
 
 /// The node of the lowest place, and the other rows.
 fn first_and_rest(mut node: Box<Node>) -> (Box<Node>, Tree)
+    requires alike { AreAlike (length node.value.left) (length node.value.right) }
+    requires room { length node.value.left + length node.value.right + 1 ≤ 2 ^ 126 }
     ensures { entry_of result.0.value ∷ result.1 ≡ listed node.value }
 {
     let left = node.take_left();

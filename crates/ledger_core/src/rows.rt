@@ -47,6 +47,7 @@ pub(crate) fn new_rows(
     ensures rows { IfOk result (λ rows. entries_in rows.nodes ≡ entries_for plans.now (fresh origin.now.no (arc_value origin.now.event) origin.now.hops origin.now.due aims.now)) }
     ensures drops { IfOk result (λ rows. rows.drops ≡ new_drops aims.now) }
     ensures few { IfOk result (λ rows. rows.drops < 2 ^ 64) }
+    ensures short { IfOk result (λ rows. length rows.nodes < 2 ^ 64) }
 {
     let mut nodes = Sequence::new(alloc);
     let mut drops = 0;

@@ -89,7 +89,8 @@ pub(crate) fn settle(
 
 /// Lets a row be due again at a moment.
 fn again(books: &mut Books, node: Box<Node>, at: u64) -> LedgerReply
-    requires { AreSorted books.old }
+    requires sorted { AreSorted books.old }
+    requires room { length books.old.waiting < 2 ^ 126 }
     ensures reply { result ≡ LedgerReply.Again at }
     ensures books { books.new ≡ record books.old { waiting = put place_order (moved_to at node.value.place) (row_of node.value.row) books.old.waiting } }
 {
@@ -212,6 +213,7 @@ fn letter_rows(
     ensures rows { IfOk result (λ rows. entries_in rows.nodes ≡ entries_for plans.now (fresh no (arc_value row.now.event) (row.now.hops + 1) failure.now.moment failure.now.dead_aims.now)) }
     ensures drops { IfOk result (λ rows. rows.drops ≡ new_drops failure.now.dead_aims.now) }
     ensures few { IfOk result (λ rows. rows.drops < 2 ^ 64) }
+    ensures short { IfOk result (λ rows. length rows.nodes < 2 ^ 64) }
 {
     let origin = Origin {
         no,

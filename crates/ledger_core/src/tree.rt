@@ -1,5 +1,5 @@
-ghost use Rattle.std.specs.Prelude.{◌≡◌, []};
-ghost use Rattle.ledger_core.specs.Tree.{listed};
+ghost use Rattle.std.specs.Prelude.{◌≡◌, ◌+◌, ◌≤◌, ◌^◌, [], length};
+ghost use Rattle.ledger_core.specs.Tree.{listed, AreAlike};
 
 use crate::place::Place;
 use retry_core::RetryRun;
@@ -36,15 +36,16 @@ pub(crate) struct Node {
     pub(crate) row: StoredRow,
 }
 
-/// Rows by their places: a search tree, whose subtrees differ in height by at most one. Contracts see it as its entries in order.
+/// Rows by their places: a search tree, in which neither side of a node has more than three times as many places for a further row
+/// as the other, so that no way down is long. Contracts see it as its entries in order.
 ///
 /// Its nodes are made with their rows; a node that moves from one tree to another takes no memory.
 #[cycle(tree)]
 #[derive(Drop)]
 pub(crate) struct Tree {
     pub(crate) root: Option<Box<Node>>,
-    /// How many nodes the longest way down has.
-    pub(crate) height: u8,
+    /// How many rows it has.
+    pub(crate) len: u128,
 }
 
 impl Model for Tree {
@@ -56,6 +57,10 @@ impl Model for Tree {
     ghost use Rattle.ledger_core.specs.Tree.{listed_in};
 
     ghost view = { λ a. listed_in a.root };
+
+    ghost use Rattle.ledger_core.specs.Tree.{IsBalanced};
+
+    ghost invariant = { λ a. IsBalanced a.root a.len };
 
     ghost size = { length };
 
@@ -87,28 +92,27 @@ impl Tree {
     pub(crate) fn new() -> Tree
         ensures { result ≡ [] }
     {
-        Tree {
-            root: None,
-            height: 0,
-        }
+        Tree { root: None, len: 0 }
     }
 
     /// A tree whose root is this node.
     pub(crate) fn of(node: Box<Node>) -> Tree
+        requires alike { AreAlike (length node.value.left) (length node.value.right) }
+        requires room { length node.value.left + length node.value.right + 1 ≤ 2 ^ 126 }
         ensures { result ≡ listed node.value }
     {
-        let height = node
-            .left
-            .height()
-            .max(node.right.height())
-            .saturating_add(1);
+        let len = node.left.len() + node.right.len() + 1;
         Tree {
             root: Some(node),
-            height,
+            len,
         }
     }
 
-    pub(crate) fn height(&self) -> u8 {
-        self.height
+    /// How many rows it has.
+    pub(crate) fn len(&self) -> u128
+        ensures len { result ≡ length self.now }
+        ensures most { result ≤ 2 ^ 126 }
+    {
+        self.len
     }
 }

@@ -9,6 +9,8 @@ use Rattle.ledger_core.specs.Books.{put_all}
 use Rattle.ledger_core.proofs.Once.{are_once}
 use Rattle.ledger_core.proofs.AcceptSteps.{accept_full, accept_wanting, accept_added, within_limits}
 use Rattle.ledger_core.proofs.Sorted.{sorted_put_all}
+use Rattle.ledger_core.proofs.Sizes.{put_all_size}
+use Rattle.ledger_core.proofs.NewRows.{short_entries}
 use Rattle.ledger_core.proofs.accepting.accept.Goals as goal
 
 pub returns-then-is_over-clause-step : goal.returns-then-is_over-clause-step
@@ -49,6 +51,13 @@ returns-in-Ok-clause-grown c =
     let few = c.in-Ok.ensures.few in
     record {
       bounded = λ used bounded. record {
+        rows =
+            let w = ap (λ (b : Books). length b.waiting) c.add.ensures in
+            let h = ap (λ (b : Books). length b.held) c.add.ensures in
+            let more = put_all_size (entries_in c.in-Ok.rows.nodes) c.args.books.now.waiting c.requires.sorted.waiting in
+            let short = short_entries c.in-Ok.rows.nodes c.in-Ok.ensures.short in
+            let g = bounded.rows in
+            omega (arith, w, h, more, short, g);
         made = let e = ap (λ (b : Books). b.made) c.add.ensures in let g = bounded.made in omega (arith, e, g);
         claims = let e = ap (λ (b : Books). b.claims) c.add.ensures in let g = bounded.claims in omega (arith, e, g);
         done = let e = ap (λ (b : Books). b.done) c.add.ensures in let g = bounded.done in omega (arith, e, g);

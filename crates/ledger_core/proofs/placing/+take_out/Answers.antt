@@ -1,10 +1,11 @@
-use Rattle.std.proofs.Common.{◌≡◌, sym, ap, ◌∙◌, arith, Some}
+use Rattle.std.proofs.Common.{◌≡◌, ◌+◌, length, sym, ap, subst, ◌∙◌, arith, Some}
 use Rattle.std.specs.FinMap.{find}
 use Rattle.std.specs.declared.cmp.Ordering.TheVariants.{Less, Equal, Greater}
 use Rattle.ledger_core.specs.Place.{place_order}
-use Rattle.ledger_core.specs.Tree.{entry_of, row_of, listed, listed_in}
+use Rattle.ledger_core.specs.Tree.{entry_of, row_of, listed, listed_in, IsEven}
 use Rattle.ledger_core.proofs.Found.{left_sorted, right_sorted, left_shorter, right_shorter, found_left, found_right, found_here}
 use Rattle.ledger_core.proofs.Placed.{without_left, without_right, without_here}
+use Rattle.ledger_core.proofs.Sizes.{without_size, left_less, right_less, sides_size}
 use Rattle.ledger_core.proofs.placing.+take_out.Goals as goal
 
 pub take_out-found-requires : goal.take_out-found-requires
@@ -69,3 +70,39 @@ returns-in-Equal-clause-rest t c =
     let left : c.take_left-left-in-Equal.result ≡ c.in-Some.at.value.left = c.take_left-left-in-Equal.ensures.taken ∙ ap (λ node. node.left) value in
     let right : c.take_right-right-in-Equal.result ≡ c.in-Some.at.value.right = c.take_right-right-in-Equal.ensures.taken ∙ ap (λ node. node.right) c.deref_mut-in-Equal-2.ensures.value ∙ ap (λ node. node.right) c.take_left-left-in-Equal.ensures.rest ∙ ap (λ node. node.right) value in
     rw (c.joined.ensures, left, right) (sym (without_here _ _ _ _ c.args.place.now is c.requires order))
+
+pub with_left-requires-clause-nearly : goal.with_left-requires-clause-nearly
+with_left-requires-clause-nearly t c =
+    let is : c.args.tree ≡ listed c.in-Some.at.value = sym c.tree.view_is ∙ ap listed_in c.in-Some.is in
+    let left : c.take_left-left.result ≡ c.in-Some.at.value.left = c.take_left-left.ensures.taken ∙ ap (λ node. node.left) (c.deref_mut.ensures.value ∙ ap (λ at. at.value) c.in-Some.at-is) in
+    let right : c.take_left-left.new.self.right ≡ c.in-Some.at.value.right = ap (λ node. node.right) c.take_left-left.ensures.rest ∙ ap (λ node. node.right) (c.deref_mut.ensures.value ∙ ap (λ at. at.value) c.in-Some.at-is) in
+    rw (c.take_out-found.ensures.rest, left, right) (left_less _ _ _ (subst IsEven c.in-Some.is c.tree.invariant.even) (without_size _ c.args.place.now (left_sorted _ _ _ _ is c.requires)))
+
+pub with_left-requires-clause-room : goal.with_left-requires-clause-room
+with_left-requires-clause-room t c =
+    let is : c.args.tree ≡ listed c.in-Some.at.value = sym c.tree.view_is ∙ ap listed_in c.in-Some.is in
+    let left : c.take_left-left.result ≡ c.in-Some.at.value.left = c.take_left-left.ensures.taken ∙ ap (λ node. node.left) (c.deref_mut.ensures.value ∙ ap (λ at. at.value) c.in-Some.at-is) in
+    let right : c.take_left-left.new.self.right ≡ c.in-Some.at.value.right = ap (λ node. node.right) c.take_left-left.ensures.rest ∙ ap (λ node. node.right) (c.deref_mut.ensures.value ∙ ap (λ at. at.value) c.in-Some.at-is) in
+    let less = (without_size c.in-Some.at.value.left c.args.place.now (left_sorted _ _ _ _ is c.requires)).least in
+    let sides = sides_size c.args.tree c.in-Some.at.value.left (entry_of c.in-Some.at.value) c.in-Some.at.value.right is in
+    let len = c.tree.invariant.len_is ∙ ap length c.tree.view_is in
+    let most = c.tree.invariant.most in
+    rw (c.take_out-found.ensures.rest, left, right) (omega (arith, less, sides, len, most))
+
+pub with_right-requires-clause-nearly : goal.with_right-requires-clause-nearly
+with_right-requires-clause-nearly t c =
+    let is : c.args.tree ≡ listed c.in-Some.at.value = sym c.tree.view_is ∙ ap listed_in c.in-Some.is in
+    let right : c.take_right-right.result ≡ c.in-Some.at.value.right = c.take_right-right.ensures.taken ∙ ap (λ node. node.right) (c.deref_mut-in-Greater.ensures.value ∙ ap (λ at. at.value) c.in-Some.at-is) in
+    let left : c.take_right-right.new.self.left ≡ c.in-Some.at.value.left = ap (λ node. node.left) c.take_right-right.ensures.rest ∙ ap (λ node. node.left) (c.deref_mut-in-Greater.ensures.value ∙ ap (λ at. at.value) c.in-Some.at-is) in
+    rw (c.take_out-found-in-Greater.ensures.rest, left, right) (right_less _ _ _ (subst IsEven c.in-Some.is c.tree.invariant.even) (without_size _ c.args.place.now (right_sorted _ _ _ _ is c.requires)))
+
+pub with_right-requires-clause-room : goal.with_right-requires-clause-room
+with_right-requires-clause-room t c =
+    let is : c.args.tree ≡ listed c.in-Some.at.value = sym c.tree.view_is ∙ ap listed_in c.in-Some.is in
+    let right : c.take_right-right.result ≡ c.in-Some.at.value.right = c.take_right-right.ensures.taken ∙ ap (λ node. node.right) (c.deref_mut-in-Greater.ensures.value ∙ ap (λ at. at.value) c.in-Some.at-is) in
+    let left : c.take_right-right.new.self.left ≡ c.in-Some.at.value.left = ap (λ node. node.left) c.take_right-right.ensures.rest ∙ ap (λ node. node.left) (c.deref_mut-in-Greater.ensures.value ∙ ap (λ at. at.value) c.in-Some.at-is) in
+    let less = (without_size c.in-Some.at.value.right c.args.place.now (right_sorted _ _ _ _ is c.requires)).least in
+    let sides = sides_size c.args.tree c.in-Some.at.value.left (entry_of c.in-Some.at.value) c.in-Some.at.value.right is in
+    let len = c.tree.invariant.len_is ∙ ap length c.tree.view_is in
+    let most = c.tree.invariant.most in
+    rw (c.take_out-found-in-Greater.ensures.rest, left, right) (omega (arith, less, sides, len, most))

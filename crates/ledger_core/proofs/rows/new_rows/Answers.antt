@@ -1,4 +1,4 @@
-use Rattle.std.proofs.Common.{◌<◌, length, ap, sym, ◌∙◌, arith}
+use Rattle.std.proofs.Common.{◌<◌, ◌∷◌, [], length, length-append, ap, sym, ◌∙◌, arith}
 use Rattle.std.specs.Arc.{arc_value}
 use Rattle.ledger_core.specs.Rows.{entries_in, nodes_of}
 use Rattle.ledger_core.proofs.NewRows.{with_row, without_row}
@@ -17,6 +17,7 @@ loop-i-preserved c =
             rows = ap entries_in (w.nodes-is ∙ w.in_ok-push-in-Some.ensures.ok) ∙ far.rows;
             drops = w.drops-is ∙ far.drops_are;
             few = let e = w.drops-is in let g = c.loop-i.invariant.few in omega arith;
+            short = let e = ap length (w.nodes-is ∙ w.in_ok-push-in-Some.ensures.ok) in let l = length-append c.loop-i.nodes (w.in-Some.node ∷ []) in let g = c.loop-i.invariant.short in omega (arith, e, l, g);
           }
       | in-None w ↦
           let far =
@@ -26,5 +27,6 @@ loop-i-preserved c =
             rows = ap entries_in w.nodes-is ∙ far.rows;
             drops = w.drops-is ∙ far.drops_are;
             few = let e = w.drops-is in let g = c.loop-i.invariant.few in omega arith;
+            short = let e = ap length w.nodes-is in let g = c.loop-i.invariant.short in omega (arith, e, g);
           }
     ]

@@ -14,6 +14,7 @@ use Rattle.ledger_core.proofs.Once.{are_once}
 use Rattle.ledger_core.proofs.AcceptSteps.{within_limits}
 use Rattle.ledger_core.proofs.SettleReplies.{drop_shows, full_shows, wanting_shows, dead_shows}
 use Rattle.ledger_core.proofs.Grown.{wait_grows, add_grows}
+use Rattle.ledger_core.proofs.NewRows.{short_entries}
 use Rattle.ledger_core.proofs.settling.bury.Goals as goal
 
 pub returns-then-deref-ge-MOST_HOPS-clause-shows : goal.returns-then-deref-ge-MOST_HOPS-clause-shows
@@ -40,7 +41,7 @@ returns-in-Err-clause-shows c = λ course s is_book hand.
 pub returns-in-Ok-clause-grown : goal.returns-in-Ok-clause-grown
 returns-in-Ok-clause-grown c =
     let within = within_limits c.with-size.result.rows c.with-size.result.bytes (sym c.is_over.ensures ∙ c.if-is_over.false) in
-    add_grows c.args.books.now _ (entries_in c.in-Ok.rows.nodes) c.with-size.result.rows c.with-size.result.bytes c.in-Ok.rows.drops 1 c.requires.sorted within.0 within.1 c.in-Ok.ensures.few (omega arith)
+    add_grows c.args.books.now _ (entries_in c.in-Ok.rows.nodes) c.with-size.result.rows c.with-size.result.bytes c.in-Ok.rows.drops 1 c.requires.sorted within.0 within.1 c.in-Ok.ensures.few (short_entries c.in-Ok.rows.nodes c.in-Ok.ensures.short) (omega arith)
     (ap (λ (b : Books). record b { dead = b.dead + 1 }) c.add.ensures)
 
 pub returns-in-Ok-clause-shows : goal.returns-in-Ok-clause-shows

@@ -12,7 +12,7 @@ use Rattle.ledger_core.specs.Place.{place_order}
 use Rattle.ledger_core.specs.Tree.{row_of}
 use Rattle.ledger_core.specs.Books.{Shows, moved_to}
 use Rattle.ledger_core.specs.After.{course_after, IsStepOf, InHand}
-use Rattle.ledger_core.proofs.Grown.{stay_grows, out_grows, out_sorted, wait_grows, close_grows}
+use Rattle.ledger_core.proofs.Grown.{stay_grows, out_grows, out_sorted, out_room, wait_grows, close_grows}
 use Rattle.ledger_core.proofs.InHands.{in_hand, settled_step, not_taken}
 use Rattle.ledger_core.proofs.SettleReplies.{done_shows, drop_shows, later_shows}
 use Rattle.ledger_core.proofs.settling.settle.Goals as goal
@@ -23,8 +23,14 @@ returns-in_default-clause-grown c = out_grows c.args.books.now c.take_held.new.s
 pub returns-in_default-clause-step : goal.returns-in_default-clause-step
 returns-in_default-clause-step c = λ course is_book shows. not_taken c.args.plans.now course c.args.books.now c.take_held.new.self c.args.place.now c.args.finish c.args.failure.now.moment c.args.failure.now.word c.args.failure.now.dead_aims.now shows c.in_default.ensures.found c.take_held.ensures.rest
 
-pub again-requires : goal.again-requires
-again-requires c = out_sorted c.args.books.now c.take_held.new.self c.args.place.now c.take_held.ensures.rest c.requires.sorted
+pub again-requires-clause-sorted : goal.again-requires-clause-sorted
+again-requires-clause-sorted c = out_sorted c.args.books.now c.take_held.new.self c.args.place.now c.take_held.ensures.rest c.requires.sorted
+
+pub again-requires-clause-room : goal.again-requires-clause-room
+again-requires-clause-room c = let room = (out_room c.args.books.now c.take_held.new.self c.args.place.now c.take_held.ensures.rest c.requires.room).rows in omega (arith, room)
+
+pub retry-requires-clause-room : goal.retry-requires-clause-room
+retry-requires-clause-room c = out_room c.args.books.now c.take_held.new.self c.args.place.now c.take_held.ensures.rest c.requires.room
 
 pub retry-requires-clause-sorted : goal.retry-requires-clause-sorted
 retry-requires-clause-sorted c = out_sorted c.args.books.now c.take_held.new.self c.args.place.now c.take_held.ensures.rest c.requires.sorted

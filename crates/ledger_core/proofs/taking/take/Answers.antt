@@ -1,4 +1,4 @@
-use Rattle.std.proofs.Common.{◌+◌, refl, ap, sym, subst, arith}
+use Rattle.std.proofs.Common.{◌+◌, length, refl, ap, sym, subst, arith}
 use Rattle.std.specs.Prelude.{IsTrue}
 use Rattle.std.specs.FinMap.{is_sorted}
 use Rattle.ledger_core.specs.declared.books.Books.{Books}
@@ -7,6 +7,7 @@ use Rattle.ledger_core.specs.Tree.{entry_of}
 use Rattle.ledger_core.specs.Books.{moved_to}
 use Rattle.ledger_core.proofs.TakeSteps.{take_none, take_later, take_wanting, take_first, at_front, no_front, rest_sorted}
 use Rattle.ledger_core.proofs.Sorted.{sorted_put}
+use Rattle.ledger_core.proofs.Sizes.{put_size}
 use Rattle.ledger_core.proofs.taking.take.Goals as goal
 
 pub returns-in_default-clause-step : goal.returns-in_default-clause-step
@@ -36,6 +37,13 @@ returns-in-Ok-clause-grown c =
     let after = c.hold_first.ensures (entry_of c.in-Some.node.now) front.0 front.1 in
     record {
       bounded = λ used bounded. record {
+        rows =
+            let w = ap (λ (b : Books). length b.waiting) after in
+            let h = ap (λ (b : Books). length b.held) after in
+            let one = ap length front.1 in
+            let more = (put_size c.args.books.now.held (moved_to (c.args.books.now.claims + 1) (entry_of c.in-Some.node.now).0) (entry_of c.in-Some.node.now).1 c.requires.sorted.held).most in
+            let g = bounded.rows in
+            omega (arith, w, h, one, more, g);
         made = let e = ap (λ (b : Books). b.made) after in let g = bounded.made in omega (arith, e, g);
         claims = let e = ap (λ (b : Books). b.claims) after in let g = bounded.claims in omega (arith, e, g);
         done = let e = ap (λ (b : Books). b.done) after in let g = bounded.done in omega (arith, e, g);
