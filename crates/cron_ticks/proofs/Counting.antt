@@ -42,8 +42,8 @@ quotient all period count least few many =
     let some : 0 < period = omega (arith, least) in
     let at_least : count ≤ all / period = (le-div_iff_mul-le some).1 few in
     elim (cases_lt count (all / period)) [
-      inl more ↦ let far : suc count * period ≤ all = (le-div_iff_mul-le some).0 more in absurd (omega (arith, far, suc-mul count period, many))
-    | inr most ↦ omega (arith, at_least, most)
+      | inl more ↦ let far : suc count * period ≤ all = (le-div_iff_mul-le some).0 more in absurd (omega (arith, far, suc-mul count period, many))
+      | inr most ↦ omega (arith, at_least, most)
     ]
 
 eq_true : (at place : ℕ) → at ≡ place → (at == place) ≡ true
@@ -67,7 +67,7 @@ module _ (s : Schedule) (each : All IsPeriod s.periods) (place : ℕ) (there : p
     numbers = numbers_more place history entry ∙ ap (λ n. numbers_at place history ++ n) none ∙ append-nil (numbers_at place history) ∙ held.numbers;
     ripe = omega (arith, held.ripe, moment_grows s.start history entry);
     took = λ number took. elim (took_more history entry place number took) [
-        inl earlier ↦ held.took number earlier
+      | inl earlier ↦ held.took number earlier
       | inr gives ↦ absurd (never number gives)
     ];
     has = λ number least most. took_before history entry place number (held.has number least most);
@@ -83,13 +83,13 @@ module _ (s : Schedule) (each : All IsPeriod s.periods) (place : ℕ) (there : p
   -- a tick of this place that is given is the one after those that were given
   next_number : (number due : ℕ) → IsLeast s history now place number due → number ≡ held.count + 1
   next_number number due least = elim (cases_order number (held.count + 1)) [
-      inl same ↦ same
+    | inl same ↦ same
     | inr (inl less) ↦ absurd (least.free (held.has number least.tick.counted (omega (arith, less))))
     | inr (inr more) ↦
         let far = grows (period_at s place) (held.count + 1) number more in
         let early : s.start + (held.count + 1) * period_at s place ≤ now = omega (arith, far, least.tick.due_is, least.ripe) in
         let up = due_up_to due place (s.start + (held.count + 1) * period_at s place) place
-            (least.least place (held.count + 1) (s.start + (held.count + 1) * period_at s place) next_tick next_free early) in
+        (least.least place (held.count + 1) (s.start + (held.count + 1) * period_at s place) next_tick next_free early) in
         absurd (omega (arith, far, up, least.tick.due_is, period.least))
   ]
 
@@ -101,18 +101,18 @@ module _ (s : Schedule) (each : All IsPeriod s.periods) (place : ℕ) (there : p
         numbers = numbers_more place history entry ∙ ap (λ n. numbers_at place history ++ n) (one ∙ ap (λ n. n ∷ []) next) ∙ ap (λ n. n ++ (held.count + 1) ∷ []) held.numbers ∙ one_up held.count;
         ripe = subst (λ n. s.start + n * period_at s place ≤ now) next (omega (arith, least.ripe, least.tick.due_is));
         took = λ n took. elim (took_more history entry place n took) [
-            inl earlier ↦ let e = held.took n earlier in (e.0, omega (arith, e.1))
+          | inl earlier ↦ let e = held.took n earlier in (e.0, omega (arith, e.1))
           | inr gives ↦ let g = subst (λ r. Gives r place n) is gives in (omega (arith, g.1, next), omega (arith, g.1, next))
         ];
         has = λ n at_least at_most. elim (cases_lt held.count n) [
-            inl last ↦ took_now history entry place n (subst (λ r. Gives r place n) (sym is) (refl, omega (arith, next, last, at_most)))
+          | inl last ↦ took_now history entry place n (subst (λ r. Gives r place n) (sym is) (refl, omega (arith, next, last, at_most)))
           | inr earlier ↦ took_before history entry place n (held.has n at_least earlier)
         ];
       }
 
   by_place : (at number due : ℕ) → entry.reply ≡ Tick at number due → IsLeast s history now at number due → Held s place (history ++ entry ∷ [])
   by_place at number due is least = elim (cases_order at place) [
-      inl same ↦
+    | inl same ↦
         this_held number due (is ∙ ap (λ p. Tick p number due) same) (ap (λ r. number_in place r) is ∙ rw (eq_true at place same) refl) (subst (λ p. IsLeast s history now p number due) same least)
     | inr (inl less) ↦
         other_held (ap (λ r. number_in place r) is ∙ rw (eq_false at place (inl less)) refl) (λ n gives. absurd (omega (arith, less, (subst (λ r. Gives r place n) is gives).0)))

@@ -21,7 +21,7 @@ not_both due place other_due other_place (inr same) (inr late) = absurd (omega (
 
 pub up_to : (due place other_due other_place : ℕ) → due ≤ other_due → (due ≡ other_due → place ≤ other_place) → IsUpTo due place other_due other_place
 up_to due place other_due other_place early low = elim (cases_order due other_due) [
-    inl same ↦ inr (same, low same)
+  | inl same ↦ inr (same, low same)
   | inr (inl less) ↦ inl less
   | inr (inr more) ↦ absurd (omega (arith, early, more))
 ]
@@ -64,7 +64,7 @@ module _ (schedule : Schedule) (due place at : ℕ) (turn : Turn) (there : at < 
   -- the tick is of this binding or of one before
   at_or_below : (P : ℕ → Type 0) (other_place : ℕ) → other_place < at + 1 → P at → (other_place < at → P other_place) → P other_place
   at_or_below P other_place low here below = elim (cases_lt other_place at) [
-      inl less ↦ below less
+    | inl less ↦ below less
     | inr more ↦ let same : at ≡ other_place = omega (arith, low, more) in subst P same here
   ]
 
@@ -72,9 +72,9 @@ module _ (schedule : Schedule) (due place at : ℕ) (turn : Turn) (there : at < 
   one_more None next none earlier =
       subst (λ n. IsFoundBelow schedule due place (at + 1) n) (sym earlier)
       (other_is (λ other_place number other_due low tick behind.
-          let same : other_place ≡ at = omega (arith, low, none) in
-          let moved = subst (λ p. IsTick schedule p number other_due) same tick in
-          up_to turn.due at other_due other_place (least_there number other_due moved (subst (λ p. IsBefore due place other_due p) same behind)) (λ e. omega (arith, same))))
+      let same : other_place ≡ at = omega (arith, low, none) in
+      let moved = subst (λ p. IsTick schedule p number other_due) same tick in
+      up_to turn.due at other_due other_place (least_there number other_due moved (subst (λ p. IsBefore due place other_due p) same behind)) (λ e. omega (arith, same))))
   one_more (Some tick) next found (inl kept) =
       subst (λ n. IsFoundBelow schedule due place (at + 1) n) (sym kept.1)
       (record {
@@ -90,9 +90,9 @@ module _ (schedule : Schedule) (due place at : ℕ) (turn : Turn) (there : at < 
   one_more (Some tick) next found (inr taken) =
       subst (λ n. IsFoundBelow schedule due place (at + 1) n) (sym taken.1)
       (other_is (λ other_place number other_due low other_tick behind. at_or_below
-          (λ p. IsTick schedule p number other_due → IsBefore due place other_due p → IsUpTo turn.due at other_due p) other_place low
-          (λ t b. up_to turn.due at other_due at (least_there number other_due t b) (λ e. omega arith))
-          (λ less t b. let up = due_up_to tick.due tick.place other_due other_place (found.first other_place number other_due less t b) in inl (omega (arith, taken.0, up))) other_tick behind))
+      (λ p. IsTick schedule p number other_due → IsBefore due place other_due p → IsUpTo turn.due at other_due p) other_place low
+      (λ t b. up_to turn.due at other_due at (least_there number other_due t b) (λ e. omega arith))
+      (λ less t b. let up = due_up_to tick.due tick.place other_due other_place (found.first other_place number other_due less t b) in inl (omega (arith, taken.0, up))) other_tick behind))
 
 -- ---- the start
 

@@ -31,7 +31,10 @@ first_kept periods start None each few moment follows = (
 )
 first_kept periods start (Some next) each few moment follows = (
   record {
-    each = each; few = few; begun = omega arith; moment = moment;
+    each = each;
+    few = few;
+    begun = omega arith;
+    moment = moment;
     soon = λ x e. subst (IsSoon periods start start) (some_is next x e) (record { is = follows.is; near = follows.near });
     none = λ e. absurd (let bad : ⊥ = cc in bad);
   },
@@ -43,14 +46,20 @@ follows_kept : (periods : List ℕ) (start latest now due place : ℕ) (next : O
 follows_kept periods start latest now due place None each few begun moment ripe follows =
     record { each = each; few = few; begun = begun; moment = moment; soon = λ x e. absurd (let bad : ⊥ = cc in bad); none = λ e. follows }
 follows_kept periods start latest now due place (Some next) each few begun moment ripe follows = record {
-  each = each; few = few; begun = begun; moment = moment;
+  each = each;
+  few = few;
+  begun = begun;
+  moment = moment;
   soon = λ x e. subst (IsSoon periods start now) (some_is next x e) (record { is = follows.is; near = omega (arith, follows.near, ripe) });
   none = λ e. absurd (let bad : ⊥ = cc in bad);
 }
 
 later_kept : (periods : List ℕ) (start latest now : ℕ) (next : Option Pending) → IsBounded periods start latest next → latest ≤ now → now < 253402300800000 → IsBounded periods start now next
 later_kept periods start latest now next old later moment = record {
-  each = old.each; few = old.few; begun = omega (arith, old.begun, later); moment = moment;
+  each = old.each;
+  few = old.few;
+  begun = omega (arith, old.begun, later);
+  moment = moment;
   soon = λ x e. let soon = old.soon x e in record { is = soon.is; near = omega (arith, soon.near, later) };
   none = old.none;
 }
@@ -71,7 +80,7 @@ took_more [] entry place number (inl gives) = inr gives
 took_more [] entry place number (inr took) = absurd took
 took_more (first ∷ history) entry place number (inl gives) = inl (inl gives)
 took_more (first ∷ history) entry place number (inr took) = elim (took_more history entry place number took) [
-    inl before ↦ inl (inr before)
+  | inl before ↦ inl (inr before)
   | inr gives ↦ inr gives
 ]
 
@@ -96,9 +105,9 @@ pub one_number : (schedule : Schedule) (place one other due : ℕ) → All IsPer
 one_number schedule place one other due each is also =
     let period = All-get_or IsPeriod schedule.periods place 0 is.there each in
     elim (cases_order one other) [
-      inl same ↦ same
-    | inr (inl less) ↦ absurd (omega (arith, grows (period_at schedule place) one other less, is.due_is, also.due_is, period.least))
-    | inr (inr more) ↦ absurd (omega (arith, grows (period_at schedule place) other one more, is.due_is, also.due_is, period.least))
+      | inl same ↦ same
+      | inr (inl less) ↦ absurd (omega (arith, grows (period_at schedule place) one other less, is.due_is, also.due_is, period.least))
+      | inr (inr more) ↦ absurd (omega (arith, grows (period_at schedule place) other one more, is.due_is, also.due_is, period.least))
     ]
 
 -- ---- the order of ticks
@@ -117,21 +126,21 @@ data Order (a p b q : ℕ) : Type 0 where
 
 by_places : (a p b q : ℕ) → a ≡ b → Order a p b q
 by_places a p b q e = elim (cases_order p q) [
-    inl s ↦ stands_same e s
+  | inl s ↦ stands_same e s
   | inr (inl less) ↦ comes_before (inr (e, less))
   | inr (inr more) ↦ comes_behind (inr (sym e, more))
 ]
 
 order : (a p b q : ℕ) → Order a p b q
 order a p b q = elim (cases_order a b) [
-    inl e ↦ by_places a p b q e
+  | inl e ↦ by_places a p b q e
   | inr (inl less) ↦ comes_before (inl less)
   | inr (inr more) ↦ comes_behind (inl more)
 ]
 
 not_before : (a p b q : ℕ) → (IsBefore a p b q → ⊥) → IsUpTo b q a p
 not_before a p b q never = elim (order a p b q) [
-    comes_before is ↦ absurd (never is)
+  | comes_before is ↦ absurd (never is)
   | stands_same e s ↦ inr (sym e, omega (arith, s))
   | comes_behind (inl less) ↦ inl less
   | comes_behind (inr low) ↦ inr (low.0, omega (arith, low.1))
@@ -151,7 +160,7 @@ module _ (s : Schedule) (each : All IsPeriod s.periods) (history : List Step) (n
   idle_takes : (next : Option Pending) (due : Option ℕ) → entry.reply ≡ Idle due → Taken history next → Taken (history ++ entry ∷ []) next
   idle_takes next due idle taken = λ place number d tick. (
     (λ took. elim (took_more history entry place number took) [
-        inl before ↦ (taken place number d tick).0 before
+      | inl before ↦ (taken place number d tick).0 before
       | inr gives ↦ absurd (subst (λ r. Gives r place number) idle gives)
     ]),
     (λ is. took_before history entry place number ((taken place number d tick).1 is)),
@@ -175,7 +184,10 @@ module _ (s : Schedule) (each : All IsPeriod s.periods) (history : List Step) (n
       record {
         none = λ place number due other free. omega (arith, early, due_up_to tick.due tick.place due place (others place number due other free));
         next_is = record {
-          place = tick.place; number = tick.number; tick = is; free = this_is_free;
+          place = tick.place;
+          number = tick.number;
+          tick = is;
+          free = this_is_free;
           least = λ place number due other free. due_up_to tick.due tick.place due place (others place number due other free);
         };
       },
@@ -191,13 +203,13 @@ module _ (s : Schedule) (each : All IsPeriod s.periods) (history : List Step) (n
     gives_taken : (next : Pending) → IsFollowing s tick.due tick.place (Some next) → entry.reply ≡ reply → Taken (history ++ entry ∷ []) (Some next)
     gives_taken next follows given = λ place number due other. (
       (λ took. elim (took_more history entry place number took) [
-          inl before ↦ before_trans due place tick.due tick.place next.due next.place ((taken place number due other).0 before) follows.behind
+        | inl before ↦ before_trans due place tick.due tick.place next.due next.place ((taken place number due other).0 before) follows.behind
         | inr gives ↦
             let g = subst (λ r. Gives r place number) given gives in
             subst (λ d. IsBefore d place next.due next.place) (sym (same_due place number due other g.0 g.1)) (subst (λ p. IsBefore tick.due p next.due next.place) g.0 follows.behind)
       ]),
       (λ is_before. elim (order due place tick.due tick.place) [
-          comes_before b ↦ took_before history entry place number ((taken place number due other).1 b)
+        | comes_before b ↦ took_before history entry place number ((taken place number due other).1 b)
         | stands_same e p ↦
             let here = subst (λ d. IsTick s place number d) e other in
             let there = subst (λ q. IsTick s q tick.number tick.due) (sym p) is in
@@ -237,8 +249,7 @@ stepped first history seat old new cmd now reply after answered stands small is 
     let soon = λ (tick : Pending) (e : old.next ≡ Some tick). subst (λ s. IsTick s tick.place tick.number tick.due) same (old.bounded.soon tick e).is in
     let none = λ (e : old.next ≡ None). subst (λ (s : Schedule). length s.periods ≡ 0) same (old.bounded.none e) in
     let done = made (schedule_of first) each history now entry old.next after reply refl soon none stands.taken (subst (λ s. IsAnswered s old.next now (reply, after)) same answered) in
-    let latest : now ≡ moment_in first.start (history ++ entry ∷ []) = is ∙ ap (λ n. max n (moment_of cmd)) stands.latest ∙ sym (moment_more first.start history entry) in
-    (
+    let latest : now ≡ moment_in first.start (history ++ entry ∷ []) = is ∙ ap (λ n. max n (moment_of cmd)) stands.latest ∙ sym (moment_more first.start history entry) in (
       record { moment = small; reply = subst (λ n. Answers (schedule_of first) history n reply) latest done.0; mark = refl },
       record {
         periods = new_periods ∙ stands.periods;

@@ -9,7 +9,12 @@ use crate::following::{Pending, following};
 use crate::{Periods, TicksReply};
 
 /// What is answered at a moment, and which tick is to be taken next behind it.
-pub(crate) fn answered(periods: &Periods, start: u64, next: Option<Pending>, now: u64) -> (TicksReply, Option<Pending>)
+pub(crate) fn answered(
+    periods: &Periods,
+    start: u64,
+    next: Option<Pending>,
+    now: u64,
+) -> (TicksReply, Option<Pending>)
     requires periods { All IsPeriod periods.now }
     requires few { length periods.now < 2 ^ 32 }
     requires begun { ForSome next (λ (tick : Pending). start ≤ tick.due) }
@@ -21,7 +26,12 @@ pub(crate) fn answered(periods: &Periods, start: u64, next: Option<Pending>, now
             if tick.due <= now {
                 (given(tick), following(periods, start, tick.due, tick.place))
             } else {
-                (TicksReply::Idle { next: Some(tick.due) }, next)
+                (
+                    TicksReply::Idle {
+                        next: Some(tick.due),
+                    },
+                    next,
+                )
             }
         }
         None => (TicksReply::Idle { next: None }, None),

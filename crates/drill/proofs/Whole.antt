@@ -76,7 +76,7 @@ seven_len a b c d e f g = omega (arith, length-append (a ++ b ++ c ++ d ++ e ++ 
 head_len : (method target : List ℕ) → length method ≤ 6 → length target ≤ 26 → length (printed_head method target None) ≤ 16384
 head_len method target few short =
     let all : length (printed_head method target None) ≡ length method + 1 + length target + 9 + 2 + 9 + 2 =
-        seven_len method (codes " ") target (codes " HTTP/1.1") line_end (flat_map field_line (printed_fields None)) line_end in
+    seven_len method (codes " ") target (codes " HTTP/1.1") line_end (flat_map field_line (printed_fields None)) line_end in
     omega (arith, all, few, short)
 
 post_len : (content : List ℕ) → length content ≤ 200 → length (printed_head (codes "POST") store (Some content)) ≤ 16384
@@ -104,7 +104,7 @@ save_len word options small few =
     let len : length value ≤ 20 = length-decimal-le 20 (word / 64) (omega arith) (omega (arith, small)) (omega (arith, small)) in
     let key = key_is word in
     let all : length (save_text word options) ≡ 9 + length (key_text word) + 10 + length value + length options + 2 =
-        six_len (codes "[{\"key\":\"") (key_text word) (codes "\",\"value\":") value options (codes "}]") in
+    six_len (codes "[{\"key\":\"") (key_text word) (codes "\",\"value\":") value options (codes "}]") in
     omega (arith, all, len, few, key.short)
 
 save_is : (word : ℕ) (options : List ℕ) → word < 2 ^ 64 → length options ≤ 50 → MayBePrinted (codes "POST") store (Some (save_text word options))
@@ -166,7 +166,7 @@ pub all_whole : PrintsWhole → MakesStream → (words : List ℕ) → Small wor
 all_whole prints stream [] small = stream.none
 all_whole prints stream (word ∷ words) small =
     stream.more (request_text word) (flat_map request_text words) (request_of word) (map request_of words)
-        (word_whole prints word (All-head (λ w. w < 2 ^ 64) word words small)) (all_whole prints stream words (All-tail (λ w. w < 2 ^ 64) word words small))
+    (word_whole prints word (All-head (λ w. w < 2 ^ 64) word words small)) (all_whole prints stream words (All-tail (λ w. w < 2 ^ 64) word words small))
 
 pub seeded_whole : PrintsWhole → MakesStream → (n : ℕ) (out first : List ℕ) (stream seeded : Stream) → out ≡ first ++ flat_map request_text (words_of n stream) → first ≡ []
     → Small (words_of n stream) → stream ≡ seeded → AreWhole out (map request_of (words_of n seeded))

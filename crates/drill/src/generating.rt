@@ -31,7 +31,12 @@ fn generator(start: u64) -> Pcg64
 }
 
 /// Appends as many requests, one for each next word.
-fn push_requests<R: Rng>(alloc: Global, out: &mut Blob, words: &mut R, n: u32) -> Result<(), NoMemory>
+fn push_requests<R: Rng>(
+    alloc: Global,
+    out: &mut Blob,
+    words: &mut R,
+    n: u32,
+) -> Result<(), NoMemory>
     ensures bytes { OnOk result (out.new ≡ out.old ++ flat_map request_text (words_of n (R.stream words.old))) }
     ensures words { OnOk result (All (λ word. word < 2 ^ 64) (words_of n (R.stream words.old))) }
 {

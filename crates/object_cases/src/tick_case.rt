@@ -15,6 +15,7 @@ use turn_cell::{Object, Seat, TurnCell};
 
 /// The least and the greatest period of a binding.
 const LEAST_MS: u64 = 1_000;
+
 const MOST_MS: u64 = 31_536_000_000;
 
 /// The most bindings of a case.
@@ -31,7 +32,10 @@ fn periods_of(alloc: Global, words: &str) -> Option<Periods>
         if word.is_empty() {
             return Some(periods);
         }
-        if periods.push(number(word).max(LEAST_MS).min(MOST_MS)).is_err() {
+        if periods
+            .push(number(word).max(LEAST_MS).min(MOST_MS))
+            .is_err()
+        {
             return None;
         }
         rest = behind;
@@ -94,13 +98,7 @@ fn steps<W: Wait>(
     seat
 }
 
-fn play<W: Wait>(
-    rt: &W,
-    alloc: Global,
-    ticks: Ticks,
-    sections: &[Section<'_>],
-    lines: &mut Lines,
-)
+fn play<W: Wait>(rt: &W, alloc: Global, ticks: Ticks, sections: &[Section<'_>], lines: &mut Lines)
     requires { ⟦<Ticks as Object>⟧.used ticks ≡ 0 }
 {
     match TurnCell::start(alloc, ticks) {
@@ -123,7 +121,13 @@ pub(crate) fn play_ticks<W: Wait>(
 ) {
     let (start, words) = first_word(name_in(sections, "ticks").unwrap_or(""));
     match periods_of(alloc, words) {
-        Some(periods) => play(rt, alloc, Ticks::new(periods, moment(start)), sections, lines),
+        Some(periods) => play(
+            rt,
+            alloc,
+            Ticks::new(periods, moment(start)),
+            sections,
+            lines,
+        ),
         None => lines.add("no memory\n"),
     }
 }

@@ -20,4 +20,4 @@ pub returns-clause-step : goal.returns-clause-step
 returns-clause-step c = λ first history seat stands takes.
     let old = c.args.self.now in
     stepped first history seat old _ c.args.cmd.now c.max-now.result c.answered-reply.result.0 c.answered-reply.result.1 c.answered-reply.ensures stands
-        (omega (arith, c.moment_of.ensures.moment, c.moment_of.ensures.limit)) (c.max-now.ensures ∙ ap (λ n. max old.latest n) c.moment_of.ensures.moment) refl refl refl refl refl
+    (omega (arith, c.moment_of.ensures.moment, c.moment_of.ensures.limit)) (c.max-now.ensures ∙ ap (λ n. max old.latest n) c.moment_of.ensures.moment) refl refl refl refl refl
