@@ -1,0 +1,4 @@
+use Rattle.call_cases.proofs.calls.bind.Goals as goal
+
+pub returns-clause-guard : goal.returns-clause-guard
+returns-clause-guard g c = g.met.G.Guard.stays _ _ _ c.requires.guard c.invoke.ensures.binds.2.guards

@@ -1,0 +1,19 @@
+//! Plays the cases of the files that its words name: calls of apps and of output bindings over a link and a clock in memory, with what is asked and what is
+//! answered. Prints each case that differs, and at the end how many there were.
+#![tactic(auto)]
+
+mod bound;
+mod calls;
+mod given;
+mod playing;
+mod same_word;
+mod script;
+mod told;
+
+use crate::playing::Cases;
+use case_text::play_cases;
+use std::io;
+
+fn main(rt: HostRuntime) -> io::Result<()> {
+    play_cases(&rt, &Cases { rt: &rt })
+}

@@ -1,0 +1,100 @@
+// A case, played and compared.
+ghost use Rattle.turn_cell.specs.Sitting.{IsSeatOf};
+
+use crate::bound::breaker_in;
+use crate::calls::{World, calls, common_to};
+use crate::given::number_named;
+use crate::same_word::SameWord;
+use crate::script::{clock_of, link_of};
+use crate::told::{add_asked, add_clock};
+use breaker_core::Breaker;
+use case_text::{Lines, Piece, Player, Section, joined_text, sections};
+use policy_run::{BreakerAt, NoBreaker};
+use std::alloc::Global;
+use std::sync::Wait;
+use turn_cell::{Seat, TurnCell};
+
+fn world_of(alloc: Global, sections: &[Section<'_>]) -> World {
+    World {
+        link: link_of(alloc, sections),
+        clock: clock_of(alloc, sections),
+        word: SameWord {
+            word: number_named(sections, "word"),
+        },
+    }
+}
+
+// The calls without a breaker.
+fn unguarded<W: Wait>(
+    rt: &W,
+    alloc: Global,
+    sections: &[Section<'_>],
+    world: &mut World,
+    lines: &mut Lines,
+) {
+    let common = common_to(alloc, sections, None);
+    calls(rt, alloc, &common, sections, &mut NoBreaker, world, lines);
+}
+
+// The calls by a breaker's seat.
+fn guarded<W: Wait>(
+    rt: &W,
+    alloc: Global,
+    sections: &[Section<'_>],
+    cell: &TurnCell<Breaker>,
+    seat: &mut Seat<Breaker>,
+    world: &mut World,
+    lines: &mut Lines,
+)
+    requires { IsSeatOf cell.now seat.old }
+{
+    let common = common_to(alloc, sections, Some(0));
+    let mut guard = BreakerAt { cell, seat };
+    calls(rt, alloc, &common, sections, &mut guard, world, lines);
+}
+
+fn play_calls<W: Wait>(
+    rt: &W,
+    alloc: Global,
+    sections: &[Section<'_>],
+    world: &mut World,
+    lines: &mut Lines,
+) {
+    match breaker_in(sections) {
+        Some(policy) => match TurnCell::start(alloc, Breaker::new(&policy)) {
+            Ok((cell, mut seat)) => guarded(rt, alloc, sections, &cell, &mut seat, world, lines),
+            Err(_) => lines.lack(),
+        },
+        None => unguarded(rt, alloc, sections, world, lines),
+    }
+}
+
+// All that came of a case.
+fn came<W: Wait>(rt: &W, alloc: Global, sections: &[Section<'_>], lines: &mut Lines) {
+    let mut world = world_of(alloc, sections);
+    play_calls(rt, alloc, sections, &mut world, lines);
+    add_asked(lines, &world.link);
+    add_clock(lines, &mut world.clock);
+}
+
+fn judge<W: Wait>(rt: &W, alloc: Global, sections: &[Section<'_>], lines: &mut Lines) {
+    let mut got = Lines::new(alloc);
+    came(rt, alloc, sections, &mut got);
+    let wanted = joined_text(alloc, sections, "comes");
+    lines.compare("comes", wanted.bytes(), got.as_str().as_bytes());
+}
+
+/// The cases of calls; a breaker's cell is called for some, which may wait.
+#[derive(Drop)]
+pub(crate) struct Cases<'a, W> {
+    pub(crate) rt: &'a W,
+}
+
+impl<W: Wait> Player for Cases<'_, W> {
+    fn play(&self, alloc: Global, case: &Piece<'_>, lines: &mut Lines) {
+        match sections(alloc, case) {
+            Ok(sections) => judge(self.rt, alloc, &sections, lines),
+            Err(_) => lines.lack(),
+        }
+    }
+}
