@@ -1,4 +1,4 @@
-//! Plays the cases of the files that its words name: histories of stores, keepers, breakers, ledgers and ticks, runs of retries, and trips, each with
+//! Plays the cases of the files that its words name: histories of stores, keepers, breakers and ledgers, runs of retries, and trips, each with
 //! what must come of it. Prints each case that differs, and at the end how many there were.
 #![tactic(auto)]
 
@@ -14,7 +14,6 @@ mod store_case;
 mod store_text;
 mod store_words;
 mod taken;
-mod tick_case;
 mod trip_case;
 mod words;
 

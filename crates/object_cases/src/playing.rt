@@ -5,7 +5,6 @@ use crate::keeper_case::play_keeper;
 use crate::ledger_case::play_ledger;
 use crate::retry_case::play_retry;
 use crate::store_case::play_store;
-use crate::tick_case::play_ticks;
 use crate::trip_case::play_trip;
 use case_text::{Lines, Piece, Player, Section, sections};
 use std::alloc::Global;
@@ -26,7 +25,6 @@ fn judge<W: Wait>(rt: &W, alloc: Global, sections: &[Section<'_>], lines: &mut L
         "breaker" => play_breaker(rt, alloc, sections, lines),
         "retry" => play_retry(alloc, sections, lines),
         "ledger" => play_ledger(alloc, sections, lines),
-        "ticks" => play_ticks(rt, alloc, sections, lines),
         "trip" => play_trip(alloc, sections, lines),
         _ => lines.add("no such case\n"),
     }
@@ -35,7 +33,7 @@ fn judge<W: Wait>(rt: &W, alloc: Global, sections: &[Section<'_>], lines: &mut L
     }
 }
 
-/// The cases of stores, keepers, breakers, ledgers, ticks, retries and trips, whose calls may wait.
+/// The cases of stores, keepers, breakers, ledgers, retries and trips, whose calls may wait.
 #[derive(Drop)]
 pub(crate) struct Cases<'a, W> {
     pub(crate) rt: &'a W,
