@@ -98,7 +98,10 @@ versioned row (inr (inr (inr (inr (inr (inr (inr (inr (inl e))))))))) = (_, ap (
 versioned row (inr (inr (inr (inr (inr (inr (inr (inr (inr (inl e)))))))))) = (_, ap (λ (r : RouteRow). r.parts) e)
 versioned row (inr (inr (inr (inr (inr (inr (inr (inr (inr (inr (inl e))))))))))) = (_, ap (λ (r : RouteRow). r.parts) e)
 versioned row (inr (inr (inr (inr (inr (inr (inr (inr (inr (inr (inr (inl e)))))))))))) = (_, ap (λ (r : RouteRow). r.parts) e)
-versioned row (inr (inr (inr (inr (inr (inr (inr (inr (inr (inr (inr (inr never)))))))))))) = absurd never
+versioned row (inr (inr (inr (inr (inr (inr (inr (inr (inr (inr (inr (inr (inl e))))))))))))) = (_, ap (λ (r : RouteRow). r.parts) e)
+versioned row (inr (inr (inr (inr (inr (inr (inr (inr (inr (inr (inr (inr (inr (inl e)))))))))))))) = (_, ap (λ (r : RouteRow). r.parts) e)
+versioned row (inr (inr (inr (inr (inr (inr (inr (inr (inr (inr (inr (inr (inr (inr (inl e))))))))))))))) = (_, ap (λ (r : RouteRow). r.parts) e)
+versioned row (inr (inr (inr (inr (inr (inr (inr (inr (inr (inr (inr (inr (inr (inr (inr never))))))))))))))) = absurd never
 
 nowhere : HasNoRoute (path_of (codes "/nope"))
 nowhere method found =
