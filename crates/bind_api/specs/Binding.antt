@@ -16,7 +16,12 @@ use Rattle.policy_run.specs.declared.outcome.Outcome.TheVariants.{Good, Bad, Ref
 use Rattle.policy_run.specs.RefusalText.{refusal_text}
 use Rattle.link_call.specs.declared.miss.Miss.{Miss}
 use Rattle.link_call.specs.declared.miss.Miss.TheVariants.{Failed, Expired, Replied}
-use Rattle.link_call.specs.Came.{Gives, IsOr, Lacks}
+use Rattle.link_call.specs.Came.{Came, Gives, IsOr, Lacks}
+use Rattle.link_call.specs.LinkAt.{Links}
+use Rattle.policy_run.specs.Effects.{Times}
+use Rattle.policy_run.specs.Event.{Event}
+use Rattle.retry_core.specs.declared.policy.Bound.{Bound}
+use Rattle.side_world.specs.declared.link.LinkCall.{LinkCall}
 use Rattle.bind_api.specs.declared.asking.Ask.{Ask}
 use Rattle.bind_api.specs.declared.malformed.Wrong.{Wrong}
 use Rattle.bind_api.specs.declared.malformed.AskErr.{AskErr}
@@ -103,3 +108,7 @@ pub data Binds {E : Type 0} (ran : LinkRequest → List E → Outcome Response M
   lacks : Lacks events reply → Binds ran component request events reply
   refused : (what : Wrong) → BodyAsks ask_in request.body (Err what) → Gives (malformed what) events reply → Binds ran component request events reply
   called : (address : Address) (ask : Ask) → IsAddress component address → BodyAsks ask_in request.body (Ok ask) → Called ran (request_to address ask) events reply → Binds ran component request events reply
+
+-- the same by calls of a link, under what is bound to the component
+abbrev pub BindsBy : Bound → Loaded → Request → Result Response ApiErr → Links → Times → List (Event LinkCall) → Type 0
+BindsBy bound component request reply link clock events = Binds (Came bound link.before link.after clock) component request events reply

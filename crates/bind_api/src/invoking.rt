@@ -2,10 +2,10 @@ ghost use Rattle.std.specs.Prelude.{◌≡◌, ◌≤◌, ℕ, Err, is_some, IfO
 ghost use Rattle.turn_cell.specs.declared.error.ApiErr.TheVariants as error;
 ghost use Rattle.resource_spec.specs.declared.component.ComponentKind.TheVariants as kinds;
 ghost use Rattle.retry_core.specs.Bound.{IsWithinLimit};
-ghost use Rattle.policy_run.specs.Effects.{Draws, Made, Runs, times};
-ghost use Rattle.link_call.specs.Came.{Came};
-ghost use Rattle.link_call.specs.LinkAt.{Asks, link_at};
-ghost use Rattle.bind_api.specs.Binding.{AsksOf, Binds, UnaskedReplies};
+ghost use Rattle.policy_run.specs.Effects.{Draws, Runs, times};
+ghost use Rattle.link_call.specs.Came.{Calls};
+ghost use Rattle.link_call.specs.LinkAt.{links};
+ghost use Rattle.bind_api.specs.Binding.{AsksOf, BindsBy, UnaskedReplies};
 
 use crate::asking::ask_of;
 use crate::malformed::{AskErr, malformed_response};
@@ -41,7 +41,7 @@ pub fn invoke<L: Link, G: Guard, C: Clock, R: Rng, W: Wait>(
     requires limits { IsWithinLimit bound.now }
     requires breaker { G.there guard.old ≡ is_some bound.now.breaker }
     requires guard { G.ready guard.old }
-    ensures binds { Made (λ events. Binds (Came bound.now (link_at L.Link link.old) (link_at L.Link link.new) (times C.Clock clock.old clock.new)) component.now request.now events result) (Runs Asks (link_at L.Link link.old) (link_at L.Link link.new)) (Runs G.held guard.old guard.new) (times C.Clock clock.old clock.new) (Draws R.stream rng.old rng.new) }
+    ensures binds { Calls (BindsBy bound.now component.now request.now result) (links L.Link link.old link.new) (Runs G.held guard.old guard.new) (times C.Clock clock.old clock.new) (Draws R.stream rng.old rng.new) }
     ensures there { G.there guard.new ≡ G.there guard.old }
     ensures shows { (count : ℕ) → result ≡ Err (error.Exhausted count) → G.shows guard.new count }
     ensures status { IfOk result (λ response. (200 ≤ response.status) × (response.status ≤ 599)) }

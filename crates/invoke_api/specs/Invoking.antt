@@ -14,7 +14,12 @@ use Rattle.policy_run.specs.RefusalText.{refusal_text}
 use Rattle.link_call.specs.declared.miss.Miss.{Miss}
 use Rattle.link_call.specs.declared.miss.Miss.TheVariants.{Failed, Expired, Replied}
 use Rattle.link_call.specs.Passed.{passed_on}
-use Rattle.link_call.specs.Came.{Gives, IsOr, Lacks}
+use Rattle.link_call.specs.Came.{Came, Gives, IsOr, Lacks}
+use Rattle.link_call.specs.LinkAt.{Links}
+use Rattle.policy_run.specs.Effects.{Times}
+use Rattle.policy_run.specs.Event.{Event}
+use Rattle.retry_core.specs.declared.policy.Bound.{Bound}
+use Rattle.side_world.specs.declared.link.LinkCall.{LinkCall}
 use Rattle.invoke_api.specs.declared.placing.Place.{Place}
 use Rattle.invoke_api.specs.declared.placing.Unplaced.{Unplaced}
 use Rattle.invoke_api.specs.declared.placing.Unplaced.TheVariants as unplaced
@@ -56,3 +61,7 @@ pub data Invokes {E : Type 0} (ran : LinkRequest → List E → Outcome Response
   no_port : id ≡ apps.own → apps.port ≡ None → Gives (not_invoked (codes "no app port")) events reply → Invokes ran apps request id rest events reply
   unknown : id ≢ apps.own → peer_of apps.peers id ≡ None → Gives (not_invoked (codes "unknown app " ++ id)) events reply → Invokes ran apps request id rest events reply
   called : (place : Place) → IsPlace apps id rest place → Invoked ran (request_at place request) events reply → Invokes ran apps request id rest events reply
+
+-- the same by calls of a link, under what is bound to the app
+abbrev pub InvokesBy : Bound → Apps → Request → List ℕ → List ℕ → Result Response ApiErr → Links → Times → List (Event LinkCall) → Type 0
+InvokesBy bound apps request id rest reply link clock events = Invokes (Came bound link.before link.after clock) apps request id rest events reply

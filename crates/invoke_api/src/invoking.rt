@@ -1,10 +1,10 @@
 ghost use Rattle.std.specs.Prelude.{◌≡◌, ◌≤◌, ℕ, Err, is_some, IfOk};
 ghost use Rattle.turn_cell.specs.declared.error.ApiErr.TheVariants as error;
 ghost use Rattle.retry_core.specs.Bound.{IsWithinLimit};
-ghost use Rattle.policy_run.specs.Effects.{Draws, Made, Runs, times};
-ghost use Rattle.link_call.specs.Came.{Came};
-ghost use Rattle.link_call.specs.LinkAt.{Asks, link_at};
-ghost use Rattle.invoke_api.specs.Invoking.{Invokes};
+ghost use Rattle.policy_run.specs.Effects.{Draws, Runs, times};
+ghost use Rattle.link_call.specs.Came.{Calls};
+ghost use Rattle.link_call.specs.LinkAt.{links};
+ghost use Rattle.invoke_api.specs.Invoking.{InvokesBy};
 ghost use Rattle.invoke_api.specs.Places.{apps_of};
 
 use crate::Peers;
@@ -41,7 +41,7 @@ pub fn invoke<L: Link, G: Guard, C: Clock, R: Rng, W: Wait>(
     requires limits { IsWithinLimit bound.now }
     requires breaker { G.there guard.old ≡ is_some bound.now.breaker }
     requires guard { G.ready guard.old }
-    ensures invokes { Made (λ events. Invokes (Came bound.now (link_at L.Link link.old) (link_at L.Link link.new) (times C.Clock clock.old clock.new)) (apps_of peers.entry) request.now app.now rest.now events result) (Runs Asks (link_at L.Link link.old) (link_at L.Link link.new)) (Runs G.held guard.old guard.new) (times C.Clock clock.old clock.new) (Draws R.stream rng.old rng.new) }
+    ensures invokes { Calls (InvokesBy bound.now (apps_of peers.entry) request.now app.now rest.now result) (links L.Link link.old link.new) (Runs G.held guard.old guard.new) (times C.Clock clock.old clock.new) (Draws R.stream rng.old rng.new) }
     ensures there { G.there guard.new ≡ G.there guard.old }
     ensures shows { (count : ℕ) → result ≡ Err (error.Exhausted count) → G.shows guard.new count }
     ensures status { IfOk result (λ response. (200 ≤ response.status) × (response.status ≤ 599)) }

@@ -19,6 +19,14 @@ pub record LinkAt : Type 0 where
 abbrev pub link_at : {L : Type 0} → Ghosts L → L → LinkAt
 link_at link l = record { calls = link.calls l; faults = link.faults l; expiries = link.expiries l }
 
+-- what a link shows before and after
+pub record Links : Type 0 where
+  pub before : LinkAt
+  pub after : LinkAt
+
+abbrev pub links : {L : Type 0} → Ghosts L → L → L → Links
+links link l l' = record { before = link_at link l; after = link_at link l' }
+
 -- one call after the other changes a count so, by what it answers, and none lowers it
 abbrev pub Counted : (Result Response LinkErr → ℕ → ℕ → Type 0) → List LinkCall → ℕ → ℕ → Type 0
 Counted counts [] before after = after ≡ before

@@ -1,9 +1,9 @@
 ghost use Rattle.std.specs.Prelude.{◌≡◌, ℕ, is_some};
 ghost use Rattle.retry_core.specs.Bound.{IsWithinLimit};
-ghost use Rattle.policy_run.specs.Effects.{Draws, Made, Runs, clocked, times};
-ghost use Rattle.link_call.specs.Came.{Came};
+ghost use Rattle.policy_run.specs.Effects.{Draws, Runs, clocked, times};
+ghost use Rattle.link_call.specs.Came.{Calls, CameTo};
 ghost use Rattle.link_call.specs.Cause.{HasCause};
-ghost use Rattle.link_call.specs.LinkAt.{Asks, link_at};
+ghost use Rattle.link_call.specs.LinkAt.{link_at, links};
 
 use crate::{Asking, Miss};
 use policy_run::{Guard, Outcome, run_call};
@@ -31,7 +31,7 @@ pub fn call_link<L: Link, G: Guard, C: Clock, R: Rng, W: Wait>(
     requires limits { IsWithinLimit bound.now }
     requires breaker { G.there guard.old ≡ is_some bound.now.breaker }
     requires guard { G.ready guard.old }
-    ensures came { Made (λ events. Came bound.now (link_at L.Link link.old) (link_at L.Link link.new) (times C.Clock clock.old clock.new) request.now events result) (Runs Asks (link_at L.Link link.old) (link_at L.Link link.new)) (Runs G.held guard.old guard.new) (times C.Clock clock.old clock.new) (Draws R.stream rng.old rng.new) }
+    ensures came { Calls (CameTo bound.now request.now result) (links L.Link link.old link.new) (Runs G.held guard.old guard.new) (times C.Clock clock.old clock.new) (Draws R.stream rng.old rng.new) }
     ensures cause { HasCause bound.now result (link_at L.Link link.old) (link_at L.Link link.new) (clocked C.Clock clock.old) (clocked C.Clock clock.new) }
     ensures there { G.there guard.new ≡ G.there guard.old }
     ensures shows { (count : ℕ) → result ≡ Outcome.Exhausted count → G.shows guard.new count }
