@@ -1,12 +1,14 @@
-use http_client::{ReplyErr, read_reply, request_bytes};
-use side_base::{Blob, Field, Fields, LinkRequest, Method, NoMemory, Response, Sequence, Text};
-use side_world::{BytesSource, Failed, Source};
+use http_client::{AskErr, Reply, ReplyErr, ask, prepare, read_reply};
+use side_base::{Blob, Field, Fields, LinkRequest, Method, NoMemory, Sequence, Text};
+use side_world::{BytesSource, Failed, Sink, Source};
 use std::alloc::Global;
 use std::test::Fail;
 
-/// A response as a text: its status, the names of its fields, and its content.
-fn spelled(alloc: Global, response: &Response) -> Result<Text, NoMemory> {
-    let mut text = Text::from_string(format!(in alloc; "{}", response.status)?);
+/// A reply as a text: its status, the names of its fields, and its content; `+` before it says that its connection may be used again.
+fn spelled(alloc: Global, reply: &Reply) -> Result<Text, NoMemory> {
+    let response = &reply.response;
+    let sign = if reply.persists { "+" } else { "" };
+    let mut text = Text::from_string(format!(in alloc; "{sign}{}", response.status)?);
     for i in 0..response.fields.len() {
         text.push(" ")?;
         text.push(response.fields.at(i).name.as_str())?;
@@ -71,9 +73,23 @@ fn replies_are_read(rt: HostRuntime) -> Result<(), Fail> {
             "HTTP/1.1 200 OK\r\nContent-Length: 2\r\n\r\nhi and more",
             "200: hi",
         ),
+        ("HTTP/1.1 200 OK\r\nContent-Length: 2\r\n\r\nhi", "+200: hi"),
+        (
+            "HTTP/1.0 200 OK\r\nConnection: keep-alive\r\nContent-Length: 2\r\n\r\nhi",
+            "200: hi",
+        ),
+        (
+            "HTTP/1.1 200 OK\r\nConnection: x\r\nConnection: y, CLOSE\r\nContent-Length: 2\r\n\r\nhi",
+            "200: hi",
+        ),
+        (
+            "HTTP/1.1 200 OK\r\nConnection: closed\r\nContent-Length: 2\r\n\r\nhi",
+            "+200: hi",
+        ),
+        ("HTTP/1.1 200 OK\r\n\r\nhi", "200: hi"),
         (
             "HTTP/1.1 201 Created\r\nETag: a\r\nTransfer-Encoding: Chunked\r\nDate: b\r\n\r\n2\r\nhi\r\nB;x=y\r\n, all there\r\n0\r\nA: b\r\n\r\n",
-            "201 ETag Date: hi, all there",
+            "+201 ETag Date: hi, all there",
         ),
         (
             "HTTP/1.0 404 Not Found\r\nServer: x\r\n\r\nto the end",
@@ -81,7 +97,7 @@ fn replies_are_read(rt: HostRuntime) -> Result<(), Fail> {
         ),
         (
             "HTTP/1.1 100 Continue\r\n\r\nHTTP/1.1 103 Early Hints\r\nLink: x\r\n\r\nHTTP/1.1 200 OK\r\nContent-Length: 1\r\n\r\nx",
-            "200: x",
+            "+200: x",
         ),
         (
             "HTTP/1.1 204 No Content\r\nContent-Length: 2\r\n\r\nhi",
@@ -89,7 +105,7 @@ fn replies_are_read(rt: HostRuntime) -> Result<(), Fail> {
         ),
         (
             "HTTP/1.1 304 Not Modified\r\nETag: a\r\nTransfer-Encoding: gzip\r\n\r\n",
-            "304 ETag: ",
+            "+304 ETag: ",
         ),
         (
             "HTTP/1.1 599 Own\r\nConnection: X-Hop, close\r\nKeep-Alive: a\r\nx-hop: b\r\nProxy-Connection: c\r\nTE: d\r\nTrailer: e\r\nUpgrade: f\r\nVia: g\r\nContent-Length: 0\r\n\r\n",
@@ -134,7 +150,7 @@ fn what_is_no_reply_is_refused(rt: HostRuntime) -> Result<(), Fail> {
 fn a_reply_to_head_has_no_content(rt: HostRuntime) -> Result<(), Fail> {
     let text = b"HTTP/1.1 200 OK\r\nContent-Length: 2\r\n\r\n";
     let reply = told(rt.alloc(), text, true)?;
-    assert_eq!(rt; reply.as_str(), "200: ");
+    assert_eq!(rt; reply.as_str(), "+200: ");
     Ok(())
 }
 
@@ -143,7 +159,7 @@ fn a_reply_may_come_byte_by_byte(rt: HostRuntime) -> Result<(), Fail> {
     let text =
         b"HTTP/1.1 100 Continue\n\nHTTP/1.1 200 OK\r\nA: b\nTransfer-Encoding: chunked\r\n\r\n2\r\nhi\r\n0\r\nC: d\r\n\r\n";
     let reply = told_one_by_one(rt.alloc(), text)?;
-    assert_eq!(rt; reply.as_str(), "200 A: hi");
+    assert_eq!(rt; reply.as_str(), "+200 A: hi");
     let text = b"HTTP/1.1 200 OK\r\nA b\r\n\r\n";
     let refused = told_one_by_one(rt.alloc(), text).err();
     assert_eq!(rt; refused, Some(ReplyErr::Bad));
@@ -156,7 +172,7 @@ fn read_to_the_end(alloc: Global, len: usize) -> Result<usize, ReplyErr> {
     let mut bytes = Blob::from_bytes(alloc, b"HTTP/1.1 200 OK\r\n\r\n")?;
     bytes.push(content.as_slice())?;
     let (reply, _) = read_reply(alloc, BytesSource::new(bytes), false);
-    Ok(reply?.body.len())
+    Ok(reply?.response.body.len())
 }
 
 #[test]
@@ -183,7 +199,7 @@ fn read_trailers(alloc: Global, count: usize) -> Result<Text, ReplyErr> {
 #[test]
 fn trailers_have_at_most_16_kib(rt: HostRuntime) -> Result<(), Fail> {
     let reply = read_trailers(rt.alloc(), 2730)?;
-    assert_eq!(rt; reply.as_str(), "200: hi");
+    assert_eq!(rt; reply.as_str(), "+200: hi");
     assert!(rt; read_trailers(rt.alloc(), 2731).is_err());
     Ok(())
 }
@@ -217,13 +233,69 @@ fn request_to(
     })
 }
 
-/// Whether this is sent for a request; an empty text is for nothing.
+/// A sink in memory that fails at a write of this number, counted from 0, and keeps how often it was written to.
+#[derive(Drop)]
+struct Counted {
+    bytes: Blob,
+    writes: usize,
+    fails_at: usize,
+    faults: u64,
+}
+
+impl Sink for Counted {
+    ghost use Rattle.std.specs.Prelude.{None};
+
+    ghost contents = { λ _. None };
+
+    ghost faults = { λ s. s.faults };
+
+    fn write(&mut self, piece: &[u8]) -> Result<usize, Failed> {
+        let fails = self.writes == self.fails_at;
+        self.writes = self.writes.saturating_add(1);
+        if fails || self.bytes.push(piece).is_err() {
+            self.faults = self.faults.saturating_add(1);
+            return Err(Failed);
+        }
+        Ok(piece.len())
+    }
+}
+
+/// A sink that fails at the write of this number.
+fn failing_at(alloc: Global, fails_at: usize) -> Counted {
+    Counted {
+        bytes: Blob::new(alloc),
+        writes: 0,
+        fails_at,
+        faults: 0,
+    }
+}
+
+/// What a request is answered where its peer sends these bytes, which are a text; none where it may not be sent.
+fn asked(
+    alloc: Global,
+    request: &LinkRequest,
+    sink: &mut Counted,
+    reply: &str,
+) -> Result<Option<Result<Reply, AskErr>>, NoMemory> {
+    let source = BytesSource::new(Blob::from_bytes(alloc, reply.as_bytes())?);
+    match prepare(alloc, request)? {
+        Some(ready) => {
+            let (answer, _) = ask(alloc, &ready, request, source, sink);
+            Ok(Some(answer))
+        }
+        None => Ok(None),
+    }
+}
+
+/// A reply.
+const HI: &str = "HTTP/1.1 200 OK\r\nContent-Length: 2\r\n\r\nhi";
+
+/// Whether this is sent for a request, and answered; an empty text is for nothing.
 fn sends(alloc: Global, method: Method, target: &str, wanted: &str) -> Result<bool, NoMemory> {
     let request = request_to(alloc, 80, method, target)?;
-    match request_bytes(alloc, &request)? {
-        Some(bytes) => Ok(bytes.bytes() == wanted.as_bytes()),
-        None => Ok(wanted.is_empty()),
-    }
+    let mut sink = failing_at(alloc, usize::MAX);
+    let is_answered = matches!(asked(alloc, &request, &mut sink, HI)?, Some(Ok(_)));
+    Ok(sink.bytes.bytes() == wanted.as_bytes() && is_answered != wanted.is_empty())
 }
 
 #[test]
@@ -232,12 +304,12 @@ fn requests_are_written(rt: HostRuntime) -> Result<(), Fail> {
         (
             Method::Get,
             "/do?x=1",
-            "GET /do?x=1 HTTP/1.1\r\nHost: 127.0.0.1:80\r\nAccept: */*\r\nConnection: close\r\n\r\n",
+            "GET /do?x=1 HTTP/1.1\r\nHost: 127.0.0.1:80\r\nAccept: */*\r\n\r\n",
         ),
         (
             Method::Put,
             "/",
-            "PUT / HTTP/1.1\r\nHost: 127.0.0.1:80\r\nAccept: */*\r\nContent-Length: 0\r\nConnection: close\r\n\r\n",
+            "PUT / HTTP/1.1\r\nHost: 127.0.0.1:80\r\nAccept: */*\r\nContent-Length: 0\r\n\r\n",
         ),
         (Method::Other, "/", ""),
         (Method::Get, "/ HTTP/1.1\r\n\r\nGET /", ""),
@@ -246,5 +318,41 @@ fn requests_are_written(rt: HostRuntime) -> Result<(), Fail> {
     for (method, target, wanted) in requests {
         assert!(rt; sends(rt.alloc(), method, target, wanted)?, "{target}");
     }
+    Ok(())
+}
+
+/// How many writes a request with content of so many bytes takes, and how many bytes they have, where that of this number fails; and what
+/// is answered then.
+fn written(
+    alloc: Global,
+    len: usize,
+    fails_at: usize,
+) -> Result<(usize, usize, Option<AskErr>), NoMemory> {
+    let content: Vec<u8> = vec![in alloc; b'x'; len]?;
+    let mut request = request_to(alloc, 80, Method::Post, "/")?;
+    request.body.push(content.as_slice())?;
+    let mut sink = failing_at(alloc, fails_at);
+    let answer = match asked(alloc, &request, &mut sink, HI)? {
+        Some(answer) => answer.err(),
+        None => None,
+    };
+    Ok((sink.writes, sink.bytes.len(), answer))
+}
+
+#[test]
+fn a_request_goes_out_by_one_write_or_two(rt: HostRuntime) -> Result<(), Fail> {
+    let alloc = rt.alloc();
+    // The head has 71 bytes, and one with a number of five digits 75.
+    assert_eq!(rt; written(alloc, 0, usize::MAX)?, (1, 71, None));
+    assert_eq!(rt; written(alloc, 16_309, usize::MAX)?, (1, 16_384, None));
+    assert_eq!(rt; written(alloc, 16_310, usize::MAX)?, (2, 16_385, None));
+    Ok(())
+}
+
+#[test]
+fn a_request_that_fails_is_not_sent_again(rt: HostRuntime) -> Result<(), Fail> {
+    let alloc = rt.alloc();
+    assert_eq!(rt; written(alloc, 0, 0)?, (1, 0, Some(AskErr::Unsent)));
+    assert_eq!(rt; written(alloc, 16_310, 1)?, (2, 75, Some(AskErr::Unsent)));
     Ok(())
 }

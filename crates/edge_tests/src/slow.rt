@@ -81,7 +81,7 @@ fn set_waiting(clients: &mut [TcpStream], waits: bool) -> io::Result<()> {
 }
 
 /// How many bytes one client more is answered within ten seconds.
-fn answered_in_time<R: Net<Listener = TcpListener, Stream = TcpStream>>(
+pub(crate) fn answered_in_time<R: Net<Listener = TcpListener, Stream = TcpStream>>(
     rt: &R,
     port: u16,
 ) -> io::Result<usize> {

@@ -19,11 +19,12 @@ fn short() -> DoorLimits {
         patience_ms: 60,
         pressed_ms: 20,
         held_ms: 200,
+        left_to_worker: 0,
     }
 }
 
 /// The same of one that is patient with those that say something.
-fn patient() -> DoorLimits {
+pub(crate) fn patient() -> DoorLimits {
     DoorLimits {
         patience_ms: 600_000,
         ..short()

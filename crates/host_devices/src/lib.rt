@@ -1,5 +1,5 @@
-//! The devices of the host: thin forms over std of what the other crates see of its files, its clock, its standard input and output,
-//! and of the programs that it reaches by HTTP. They tell no content.
+//! The devices of the host: thin forms over std of what the other crates see of its files, its clock, and its standard input and output.
+//! They tell no content.
 #![tactic(auto)]
 
 mod fault_count;
@@ -9,8 +9,6 @@ mod host_files;
 mod no_link;
 mod std_sink;
 mod std_source;
-mod tcp_link;
-mod timed_stream;
 
 pub use fault_count::FaultCount;
 pub use host_clock::HostClock;
@@ -19,4 +17,3 @@ pub use host_files::HostFiles;
 pub use no_link::NoLink;
 pub use std_sink::StdSink;
 pub use std_source::StdSource;
-pub use tcp_link::TcpLink;

@@ -2,3 +2,4 @@ mod AheadLemmas
 mod ChunksLemmas
 mod FramingLemmas
 mod ReplyLemmas
+mod WrittenLemmas

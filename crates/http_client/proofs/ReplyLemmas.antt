@@ -12,11 +12,11 @@ use Rattle.httparse.specs.declared.spans.ResponseSpans.{ResponseSpans}
 use Rattle.httparse.specs.Grammar as grammar
 use Rattle.httparse.specs.Spans.{IsResponseOf, header_bytes, name_and_value}
 use Rattle.side_base.specs.declared.message.Field.{Field}
-use Rattle.side_base.specs.declared.message.Response.{Response}
 use Rattle.http_client.specs.declared.framing.Framing.{Framing}
 use Rattle.http_client.specs.declared.framing.Framing.TheVariants as framing
 use Rattle.http_client.specs.declared.head.Head.{Head}
-use Rattle.http_client.specs.Replies.{field_of, IsInterim, IsFraming, IsContent, kept, IsReplyText}
+use Rattle.http_client.specs.declared.reply.Reply.{Reply}
+use Rattle.http_client.specs.Replies.{field_of, IsInterim, IsFraming, IsContent, kept, listed, may_persist, IsReplyText}
 use Rattle.http_client.specs.Taken.{is_interim, header_field, IsHead, IsFinal}
 use Rattle.http_client.proofs.AheadLemmas.{front_is}
 
@@ -57,12 +57,13 @@ final_head first then now text head so took is = (
   record { interims = so.interims; h = is.h; each = so.each; valid = is.valid; whole = refl; is = is.is },
 )
 
-pub whole_reply : (first between now left : Option (List ℕ)) (to_head : Bool) (head : Head) (kind : Framing) (text framed : List ℕ) (response : Response)
+pub whole_reply : (first between now left : Option (List ℕ)) (to_head : Bool) (head : Head) (kind : Framing) (text framed came : List ℕ) (reply : Reply)
     → Took first between text → IsFinal text head → IsFraming to_head head.status head.minor head.fields kind
-    → Took between now framed → IsContent kind framed response.body → (kind ≡ framing.ToEnd → IsDrained left)
-    → response.status ≡ head.status → response.fields ≡ kept head.fields
-    → (whole : List ℕ) × Took first now whole × IsReplyText to_head whole left response
-whole_reply first between now left to_head head kind text framed response took final is_framed then content all status fields = (
+    → Took between now framed → IsContent kind framed reply.response.body → (kind ≡ framing.ToEnd → IsDrained left)
+    → reply.response.status ≡ head.status → reply.response.fields ≡ kept head.fields
+    → reply.persists ≡ may_persist head.minor (listed head.fields) kind came
+    → (whole : List ℕ) × Took first now whole × IsReplyText to_head whole came left reply
+whole_reply first between now left to_head head kind text framed came reply took final is_framed then content all status fields again = (
   text ++ framed,
   took_on first between now text framed took then,
   record {
@@ -78,6 +79,7 @@ whole_reply first between now left to_head head kind text framed response took f
     status = status ∙ ap (λ (h : Head). h.status) final.is;
     fields = fields ∙ ap (λ (h : Head). kept h.fields) final.is;
     all = all;
+    again = again ∙ ap (λ (h : Head). may_persist h.minor (listed h.fields) kind came) final.is;
   },
 )
 

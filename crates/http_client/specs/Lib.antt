@@ -1,3 +1,4 @@
+pub mod Asked
 pub mod Replies
 pub mod Taken
 pub mod Written

@@ -1,6 +1,6 @@
--- What a reply to a request is (RFC 9112, sections 4, 6 and 6.3; RFC 9110, sections 7.6.1, 15.2 and 15.4.5). Heads are those of the
+-- What a reply to a request is (RFC 9112, sections 4, 6, 6.3 and 9.3; RFC 9110, sections 7.6.1, 15.2 and 15.4.5). Heads are those of the
 -- grammar of heads, and content in chunks is what `http_chunks` says.
-use Rattle.std.specs.Prelude.{◌≡◌, ◌≢◌, ℕ, ◌<◌, ◌≤◌, List, [], ◌∷◌, ◌++◌, length, Bool, ◌||◌, not, ◌==◌, if◌then◌else◌, codes, map, All, Option, Some, None, true, false}
+use Rattle.std.specs.Prelude.{◌≡◌, ◌≢◌, ℕ, ◌<◌, ◌≤◌, List, [], ◌∷◌, ◌++◌, length, Bool, ◌||◌, ◌&&◌, not, ◌==◌, if◌then◌else◌, codes, map, All, Option, Some, None, true, false}
 use Rattle.std.specs.List.{flat_map, filter}
 use Rattle.std.specs.Str.Parse.{AllDigits, digits_value}
 use Rattle.httparse.specs.Grammar as grammar
@@ -12,6 +12,7 @@ use Rattle.side_world.specs.Told.{Took, IsDrained}
 use Rattle.http_chunks.specs.Chunked.{ReadsChunks}
 use Rattle.http_client.specs.declared.framing.Framing.{Framing}
 use Rattle.http_client.specs.declared.framing.Framing.TheVariants as framing
+use Rattle.http_client.specs.declared.reply.Reply.{Reply}
 
 -- a field line of a head, as a field: its name, and its value without white space around
 abbrev pub field_of : grammar.Field → Field
@@ -46,9 +47,13 @@ is_of_framing name = is_same_word name (codes "te") || (is_same_word name (codes
 unfoldable pub is_of_hop : List ℕ → List ℕ → Bool
 is_of_hop names name = is_of_connection name || (is_of_framing name || has_item names name)
 
+-- the fields that don't speak of a connection that lists these names, in order
+abbrev pub own_fields : List ℕ → List Field → List Field
+own_fields names fields = filter (λ (field : Field). not (is_of_hop names field.name)) fields
+
 -- the other fields, in order
 unfoldable pub kept : List Field → List Field
-kept fields = filter (λ (field : Field). not (is_of_hop (listed fields) field.name)) fields
+kept fields = own_fields (listed fields) fields
 
 -- the value is 1 to 18 decimal digits, which write this number
 pub record IsLength (value : List ℕ) (n : ℕ) : Type 0 where
@@ -95,6 +100,19 @@ IsContent (framing.Length n) text body = (text ≡ body) × (length body ≡ n)
 IsContent framing.Chunks text body = ReadsChunks text body []
 IsContent framing.ToEnd text body = text ≡ body
 
+-- the content ends with the input
+abbrev pub is_to_end : Framing → Bool
+is_to_end framing.Nothing = false
+is_to_end (framing.Length n) = false
+is_to_end framing.Chunks = false
+is_to_end framing.ToEnd = true
+
+-- the connection may be used again: the reply is of HTTP/1.1, its `Connection` doesn't list `close`, its content ends before the input does,
+-- and nothing came behind it
+unfoldable pub may_persist : ℕ → List ℕ → Framing → List ℕ → Bool
+may_persist minor names kind came =
+    minor == 1 && (not (has_item names (codes "close")) && (not (is_to_end kind) && length came == 0))
+
 -- a head with a status from 100 to 199, behind which the reply follows; not of one that changes the protocol
 pub record IsInterim (head : ResponseHead) : Type 0 where
   pub valid : IsResponseHead head
@@ -102,8 +120,9 @@ pub record IsInterim (head : ResponseHead) : Type 0 where
   pub below : status_code head < 200
   pub stays : status_code head ≢ 101
 
--- the text is interim heads, the reply's head, and its content; nothing follows content that goes on to the end of the input
-pub record IsReplyText (to_head : Bool) (text : List ℕ) (behind : Option (List ℕ)) (response : Response) : Type 0 where
+-- the text is interim heads, the reply's head, and its content, and these bytes came behind it; nothing follows content that goes on to the end of
+-- the input. The reply says exactly whether its connection may be used again
+pub record IsReplyText (to_head : Bool) (text came : List ℕ) (behind : Option (List ℕ)) (reply : Reply) : Type 0 where
   pub interims : List ResponseHead
   pub head : ResponseHead
   pub kind : Framing
@@ -112,19 +131,20 @@ pub record IsReplyText (to_head : Bool) (text : List ℕ) (behind : Option (List
   pub valid : IsResponseHead head
   pub whole : text ≡ flat_map print_response interims ++ (print_response head ++ framed)
   pub is_framed : IsFraming to_head (status_code head) head.minor (fields_of head) kind
-  pub content : IsContent kind framed response.body
-  pub status : response.status ≡ status_code head
-  pub fields : response.fields ≡ kept (fields_of head)
+  pub content : IsContent kind framed reply.response.body
+  pub status : reply.response.status ≡ status_code head
+  pub fields : reply.response.fields ≡ kept (fields_of head)
   pub all : kind ≡ framing.ToEnd → IsDrained behind
+  pub again : reply.persists ≡ may_persist head.minor (listed (fields_of head)) kind came
 
 -- what follows a text of which some came: those bytes, and what is left
 abbrev pub ahead : List ℕ → Option (List ℕ) → Option (List ℕ)
 ahead pending None = None
 ahead pending (Some left) = Some (pending ++ left)
 
--- the reply stands at the front of what was left; what came behind it is let go
-pub record IsReplyOf (to_head : Bool) (before after : Option (List ℕ)) (response : Response) : Type 0 where
+-- the reply stands at the front of what was left; what came behind it is let go, and its connection with it
+pub record IsReplyOf (to_head : Bool) (before after : Option (List ℕ)) (reply : Reply) : Type 0 where
   pub text : List ℕ
   pub behind : List ℕ
   pub took : Took before after (text ++ behind)
-  pub is : IsReplyText to_head text (ahead behind after) response
+  pub is : IsReplyText to_head text behind (ahead behind after) reply

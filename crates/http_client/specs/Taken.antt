@@ -5,7 +5,6 @@ use Rattle.httparse.specs.Grammar.{ResponseHead, IsResponseHead, print_response,
 use Rattle.httparse.specs.declared.spans.HeaderSpan.{HeaderSpan}
 use Rattle.httparse.specs.Spans.{span_bytes}
 use Rattle.side_base.specs.declared.message.Field.{Field}
-use Rattle.side_base.specs.declared.message.Response.{Response}
 use Rattle.side_world.specs.Told.{Took}
 use Rattle.http_chunks.specs.Chunked.{LINE_LIMIT, BODY_LIMIT, ReadsChunks}
 use Rattle.http_chunks.specs.ContentSteps.{IsInChunks}
@@ -13,6 +12,7 @@ use Rattle.http_chunks.specs.LinePlaces.{IsLooked}
 use Rattle.http_chunks.specs.declared.content.Body.{Body}
 use Rattle.http_client.specs.Replies.{ahead, fields_of, IsInterim, IsReplyText}
 use Rattle.http_client.specs.declared.head.Head.{Head}
+use Rattle.http_client.specs.declared.reply.Reply.{Reply}
 
 -- the field whose name and value the spans cover
 abbrev pub header_field : List ℕ → HeaderSpan → Field
@@ -81,6 +81,6 @@ abbrev pub IsFound : Option (List ℕ) → List ℕ → List ℕ → Option (Lis
 IsFound first before pending left old body (Some len) = IsWhole first pending left body len
 IsFound first before pending left old body None = AreRead first pending left body × AreFewer before pending old body
 
--- a reply was taken off the front of what was left
-abbrev pub IsReplyTaken : Bool → Option (List ℕ) → Option (List ℕ) → Response → Type 0
-IsReplyTaken to_head first left response = (text : List ℕ) × Took first left text × IsReplyText to_head text left response
+-- a reply was taken off the front of what was left, and these bytes came behind it
+abbrev pub IsReplyTaken : Bool → Option (List ℕ) → List ℕ → Option (List ℕ) → Reply → Type 0
+IsReplyTaken to_head first came left reply = (text : List ℕ) × Took first left text × IsReplyText to_head text came left reply

@@ -1,5 +1,5 @@
--- How a request to another program is written (RFC 9112, sections 3, 5 and 9.6; RFC 9110, sections 7.2 and 8.6).
-use Rattle.std.specs.Prelude.{ℕ, List, [], ◌∷◌, ◌++◌, length, Bool, ◌&&◌, ◌||◌, nat_lt, if◌then◌else◌, codes, decimal, Option, Some, None, option_map, true, false}
+-- How a request to another program is written (RFC 9112, sections 3, 5 and 9.3; RFC 9110, sections 7.2 and 8.6).
+use Rattle.std.specs.Prelude.{◌≡◌, ℕ, ◌-◌, List, [], ◌∷◌, ◌++◌, length, Bool, ◌&&◌, ◌||◌, nat_lt, nat_le, if◌then◌else◌, codes, decimal, Option, Some, None, option_map, true, false}
 use Rattle.std.specs.List.{flat_map, list_all}
 use Rattle.httparse.specs.Grammar.{is_uri_byte, is_value_byte, is_token}
 use Rattle.side_base.specs.declared.message.Field.{Field}
@@ -7,6 +7,8 @@ use Rattle.side_base.specs.declared.message.LinkRequest.{LinkRequest}
 use Rattle.side_base.specs.declared.method.Method.{Method}
 use Rattle.side_base.specs.declared.method.Method.TheVariants.{Get, Head, Post, Put, Patch, Delete, Options, Other}
 use Rattle.side_base.specs.Field.{is_same_word}
+use Rattle.side_world.specs.Told.{Told, SentSome}
+use Rattle.http_client.specs.declared.written.Prepared.{Prepared}
 
 -- a line end: CR LF
 abbrev pub line_end : List ℕ
@@ -42,7 +44,7 @@ request_line token target = token ++ codes " " ++ target ++ codes " HTTP/1.1" ++
 abbrev pub host_line : List ℕ → ℕ → List ℕ
 host_line host port = codes "Host: " ++ host ++ codes ":" ++ decimal port ++ line_end
 
--- the link itself says who is asked, how long the content is, and that the connection ends
+-- the link itself says who is asked, how long the content is, and what becomes of the connection
 unfoldable pub is_said : List ℕ → Bool
 is_said name = is_same_word name (codes "host") || (is_same_word name (codes "content-length")
     || (is_same_word name (codes "transfer-encoding") || is_same_word name (codes "connection")))
@@ -58,15 +60,15 @@ length_line method len =
     if takes_content method || nat_lt 0 len then (codes "Content-Length: " ++ decimal len ++ line_end)
     else []
 
--- the field that says that the connection ends with the reply, and the empty line that ends the head
-abbrev pub close_lines : List ℕ
-close_lines = codes "Connection: close" ++ line_end ++ line_end
+-- the head of a request. Its connection persists, as that of HTTP/1.1 does where nothing else is said
+unfoldable pub head : List ℕ → LinkRequest → List ℕ
+head token request =
+    request_line token request.target ++ host_line request.host request.port ++ flat_map own_line request.fields
+    ++ length_line request.method (length request.body) ++ line_end
 
 -- the bytes of a request
-unfoldable pub written : List ℕ → LinkRequest → List ℕ
-written token request =
-    request_line token request.target ++ host_line request.host request.port ++ flat_map own_line request.fields
-    ++ length_line request.method (length request.body) ++ (close_lines ++ request.body)
+abbrev pub written : List ℕ → LinkRequest → List ℕ
+written token request = head token request ++ request.body
 
 -- at least one byte, each of which is visible
 unfoldable pub is_visible : List ℕ → Bool
@@ -84,3 +86,27 @@ is_sendable request = is_visible request.host && (is_visible request.target && l
 abbrev pub sent : LinkRequest → Option (List ℕ)
 sent request =
     if is_sendable request then option_map (λ token. written token request) (token_of request.method) else None
+
+-- the content goes out with the head, in 16,384 bytes at most
+abbrev pub is_with_head : List ℕ → List ℕ → Bool
+is_with_head front body = nat_le (length body) (16384 - length front)
+
+-- what goes out first: the whole request, or else its head alone
+abbrev pub prepared_with : List ℕ → LinkRequest → Prepared
+prepared_with token request =
+    if is_with_head (head token request) request.body
+    then record { first = written token request; is_whole = true }
+    else record { first = head token request; is_whole = false }
+
+-- a request that may be sent
+abbrev pub prepared : LinkRequest → Option Prepared
+prepared request =
+    if is_sendable request then option_map (λ token. prepared_with token request) (token_of request.method) else None
+
+-- where it is told what a sink holds, the bytes of the request were added at its end, once
+abbrev pub Sends : LinkRequest → Option (List ℕ) → Option (List ℕ) → Type 0
+Sends request before after = (bytes : List ℕ) → sent request ≡ Some bytes → Told before after bytes
+
+-- the same for some prefix of them
+abbrev pub SendsSome : LinkRequest → Option (List ℕ) → Option (List ℕ) → Type 0
+SendsSome request before after = (bytes : List ℕ) → sent request ≡ Some bytes → SentSome before after bytes

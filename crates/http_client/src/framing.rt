@@ -1,7 +1,7 @@
 //! What the fields of a reply say of its content, and which of them are the reply's own.
 ghost use Rattle.std.specs.Prelude.{◌≡◌, ◌≤◌, codes, count_by, length, IfOk, IfSome};
 ghost use Rattle.side_base.specs.Field.{is_named};
-ghost use Rattle.http_client.specs.Replies.{listed, is_of_connection, is_of_framing, is_of_hop, kept, IsLength, IsFraming, IsFramedByLength, IsFramedByCoding};
+ghost use Rattle.http_client.specs.Replies.{listed, is_of_connection, is_of_framing, is_of_hop, own_fields, may_persist, is_to_end, IsLength, IsFraming, IsFramedByLength, IsFramedByCoding};
 
 use side_base::{
     Blob, Fields, NoMemory, Sequence, first_value, has_item, is_same_word, number_of, split_digits,
@@ -107,7 +107,7 @@ fn length_of(value: &[u8]) -> Option<u64>
 
 /// The fields that `Connection` lists, as one list value.
 #[tactic(auto, unfolding(crate::specs::Replies::listed))]
-fn listed(alloc: Global, fields: &Fields) -> Result<Blob, NoMemory>
+pub(crate) fn listed(alloc: Global, fields: &Fields) -> Result<Blob, NoMemory>
     ensures { IfOk result (λ value. value ≡ listed fields.now) }
 {
     let mut value = Blob::new(alloc);
@@ -151,18 +151,35 @@ fn is_of_framing(name: &[u8]) -> bool
         || is_same_word(name, CONTENT_LENGTH)
 }
 
-/// The fields of a reply that don't speak of its connection alone, in order.
-#[tactic(auto, unfolding(crate::specs::Replies::kept))]
-pub(crate) fn kept(alloc: Global, fields: Fields) -> Result<Fields, NoMemory>
-    ensures { IfOk result (λ own. own ≡ kept fields) }
+/// The fields that don't speak of a connection that lists these names, in order.
+pub(crate) fn own_fields(alloc: Global, names: &[u8], fields: Fields) -> Result<Fields, NoMemory>
+    ensures { IfOk result (λ own. own ≡ own_fields names.now fields) }
 {
-    let names = listed(alloc, &fields)?;
     let mut left = fields;
     let mut own = Sequence::new(alloc);
     while let Some(field) = left.take_first() {
-        if !is_of_hop(names.bytes(), field.name.bytes()) {
+        if !is_of_hop(names, field.name.bytes()) {
             own.push(field)?;
         }
     }
     Ok(own)
+}
+
+/// Whether the connection may be used again behind a reply of this version, where `Connection` lists those of `names` and so many bytes came
+/// behind it (RFC 9112, section 9.3).
+#[tactic(auto, unfolding(crate::specs::Replies::may_persist))]
+pub(crate) fn may_persist(minor: u8, names: &[u8], framing: Framing, came: &[u8]) -> bool
+    ensures { result ≡ may_persist minor names.now framing came.now }
+{
+    minor == 1 && !has_item(names, b"close") && !is_to_end(framing) && came.is_empty()
+}
+
+/// Whether content that is framed so ends with the input.
+fn is_to_end(framing: Framing) -> bool
+    ensures { result ≡ is_to_end framing }
+{
+    match framing {
+        Framing::ToEnd => true,
+        Framing::Nothing | Framing::Length { len: _ } | Framing::Chunks => false,
+    }
 }

@@ -5,27 +5,36 @@ ghost use Rattle.side_world.specs.Told.{Took, IsDrained};
 ghost use Rattle.side_world.specs.Link.{IsReply};
 ghost use Rattle.http_client.specs.declared.incoming.ReplyErr.TheVariants.{SourceFailed};
 ghost use Rattle.http_chunks.specs.Chunked.{BODY_LIMIT};
-ghost use Rattle.http_client.specs.Replies.{ahead, IsReplyOf, IsContent};
+ghost use Rattle.http_client.specs.Replies.{ahead, kept, listed, may_persist, IsReplyOf, IsContent};
 ghost use Rattle.http_client.specs.Taken.{IsReplyTaken};
 
-use crate::framing::{Framing, framing_of, kept};
+use crate::framing::{Framing, framing_of, listed, may_persist, own_fields};
+use crate::head::Head;
 use crate::incoming::{Incoming, Pending, ReplyErr};
 use http_chunks::BODY_LIMIT;
-use side_base::{Blob, Response};
+use side_base::{Blob, NoMemory, Response};
 use side_world::Source;
 use std::alloc::Global;
 
+/// A reply, and what becomes of its connection.
+#[derive(Debug, Drop)]
+pub struct Reply {
+    /// Its status is from 200 to 599. Of its fields, those that speak of the connection alone are left out.
+    pub response: Response,
+    /// Whether the connection may be used again: not behind HTTP/1.0, `Connection: close`, content to the end of the input, or where bytes
+    /// came behind the reply.
+    pub persists: bool,
+}
+
 /// Reads a reply from the front of a source: interim heads, which are let go, its head, and its content of at most 4,194,304
 /// bytes. `to_head`: it replies to HEAD. The source comes back with it; what was read behind the reply is let go.
-///
-/// Its status is from 200 to 599. Of its fields, those that speak of the connection alone are left out.
 pub fn read_reply<S: Source>(
     alloc: Global,
     source: S,
     to_head: bool,
-) -> (Result<Response, ReplyErr>, S)
+) -> (Result<Reply, ReplyErr>, S)
     ensures is { IfOk result.0 (IsReplyOf to_head (S.left source) (S.left result.1)) }
-    ensures reply { IfOk result.0 IsReply }
+    ensures reply { IfOk result.0 (λ reply. IsReply reply.response) }
     ensures no_fault { OnOk result.0 (S.faults result.1 ≡ S.faults source) }
     ensures failed { IfErr result.0 (λ why. why ≡ SourceFailed → Rose (S.faults source) (S.faults result.1)) }
 {
@@ -41,9 +50,9 @@ impl<S: Source> Incoming<S> {
     /// Takes a reply: interim heads, which are let go, its head, and its content of at most 4,194,304 bytes. `to_head`: it replies to HEAD.
     ///
     /// Its status is from 200 to 599, and the fields that speak of the connection alone are left out.
-    fn take_reply(&mut self, alloc: Global, to_head: bool) -> Result<Response, ReplyErr>
-        ensures took { IfOk result (λ response. IsReplyTaken to_head (ahead self.old.pending (S.left self.old.source)) (ahead self.new.pending (S.left self.new.source)) response) }
-        ensures reply { IfOk result IsReply }
+    fn take_reply(&mut self, alloc: Global, to_head: bool) -> Result<Reply, ReplyErr>
+        ensures took { IfOk result (IsReplyTaken to_head (ahead self.old.pending (S.left self.old.source)) self.new.pending (ahead self.new.pending (S.left self.new.source))) }
+        ensures reply { IfOk result (λ reply. IsReply reply.response) }
         ensures no_fault { OnOk result (S.faults self.new.source ≡ S.faults self.old.source) }
         ensures failed { IfErr result (λ why. why ≡ SourceFailed → Rose (S.faults self.old.source) (S.faults self.new.source)) }
     {
@@ -51,12 +60,8 @@ impl<S: Source> Incoming<S> {
         match framing_of(to_head, head.status, head.minor, &head.fields) {
             Some(framing) => {
                 let body = self.take_content(alloc, framing)?;
-                match kept(alloc, head.fields) {
-                    Ok(fields) => Ok(Response {
-                        status: head.status,
-                        fields,
-                        body,
-                    }),
+                match reply_of(alloc, head, framing, body, self.pending.bytes()) {
+                    Ok(reply) => Ok(reply),
                     Err(_) => Err(ReplyErr::NoMemory),
                 }
             }
@@ -131,4 +136,31 @@ impl<S: Source> Incoming<S> {
             Err(_) => Err(ReplyErr::NoMemory),
         }
     }
+}
+
+/// The reply of this head and this content, which is framed so and behind which these bytes came.
+#[tactic(auto, unfolding(crate::specs::Replies::kept))]
+fn reply_of(
+    alloc: Global,
+    head: Head,
+    framing: Framing,
+    body: Blob,
+    came: &[u8],
+) -> Result<Reply, NoMemory>
+    ensures status { IfOk result (λ reply. reply.response.status ≡ head.status) }
+    ensures fields { IfOk result (λ reply. reply.response.fields ≡ kept head.fields) }
+    ensures body { IfOk result (λ reply. reply.response.body ≡ body) }
+    ensures again { IfOk result (λ reply. reply.persists ≡ may_persist head.minor (listed head.fields) framing came.now) }
+{
+    let names = listed(alloc, &head.fields)?;
+    let persists = may_persist(head.minor, names.bytes(), framing, came);
+    let fields = own_fields(alloc, names.bytes(), head.fields)?;
+    Ok(Reply {
+        response: Response {
+            status: head.status,
+            fields,
+            body,
+        },
+        persists,
+    })
 }

@@ -1,12 +1,14 @@
 //! The bytes of a request to another program.
-ghost use Rattle.std.specs.Prelude.{◌≡◌, ◌++◌, ◌∷◌, [], IfOk, OnOk, option_copied, length};
+ghost use Rattle.std.specs.Prelude.{◌≡◌, ◌≤◌, ◌++◌, ◌∷◌, [], Some, IfOk, OnOk, OnErr, option_copied, length};
 ghost use Rattle.std.specs.List.{flat_map, list_all};
 ghost use Rattle.httparse.specs.Grammar.{is_uri_byte};
-ghost use Rattle.http_client.specs.Written.{token_of, takes_content, request_line, host_line, is_said, own_line, length_line, close_lines, written, is_visible, is_field, is_sendable, sent};
+ghost use Rattle.side_world.specs.Faults.{Rose};
+ghost use Rattle.http_client.specs.Written.{token_of, takes_content, request_line, host_line, is_said, own_line, length_line, head, is_visible, is_field, is_sendable, prepared_with, prepared, Sends, SendsSome};
 
 use httparse::{is_header_value, is_token, is_uri_token};
 use itoa::Buffer;
 use side_base::{Blob, Field, Fields, LinkRequest, Method, NoMemory, is_same_word};
+use side_world::{Failed, Sink, send};
 use std::alloc::Global;
 
 const SPACE: &[u8] = b" ";
@@ -23,27 +25,68 @@ const HOST: &[u8] = b"Host: ";
 
 const CONTENT_LENGTH: &[u8] = b"Content-Length: ";
 
-const CLOSE_LINES: &[u8] = b"Connection: close\r\n\r\n";
+/// The most bytes that go out by one write, where the head has no more.
+const FIRST_LIMIT: usize = 16_384;
 
-/// The bytes that are sent for a request, which say its host and port, the length of its content, and that the connection ends with the
-/// reply.
+/// How many bytes most heads have at most.
+const HEAD_ROOM: usize = 512;
+
+/// A request that may be sent.
+#[derive(Debug, Drop)]
+pub struct Prepared {
+    /// What goes out first: the whole request, or its head alone.
+    first: Blob,
+    is_whole: bool,
+}
+
+/// Prepares a request, which says its host and port and the length of its content. Its connection is kept.
 ///
 /// `None` where the method is `Other`, or a part of the request has a byte that it may not have, so that the bytes would be another
 /// request.
-pub fn request_bytes(alloc: Global, request: &LinkRequest) -> Result<Option<Blob>, NoMemory>
-    ensures { IfOk result (λ bytes. bytes ≡ sent request.now) }
+pub fn prepare(alloc: Global, request: &LinkRequest) -> Result<Option<Prepared>, NoMemory>
+    ensures { IfOk result (λ it. it ≡ prepared request.now) }
 {
     if !is_sendable(request) {
         return Ok(None);
     }
     match token_of(request.method) {
-        Some(token) => {
-            let mut out = Blob::new(alloc);
-            push_request(&mut out, token, request)?;
-            Ok(Some(out))
-        }
+        Some(token) => Ok(Some(prepared_with(alloc, token, request)?)),
         None => Ok(None),
     }
+}
+
+/// Prepares a request of this token: its content goes out with its head, in 16,384 bytes at most, or else behind it.
+fn prepared_with(alloc: Global, token: &[u8], request: &LinkRequest) -> Result<Prepared, NoMemory>
+    ensures { IfOk result (λ it. it ≡ prepared_with token.now request.now) }
+{
+    let mut first = Blob::new(alloc);
+    first.reserve(HEAD_ROOM)?;
+    push_head(&mut first, token, request)?;
+    let is_whole = request.body.len() <= FIRST_LIMIT.saturating_sub(first.len());
+    if is_whole {
+        first.push(request.body.bytes())?;
+    }
+    Ok(Prepared { first, is_whole })
+}
+
+/// Sends a request that was prepared, once.
+pub(crate) fn send_prepared<N: Sink>(
+    sink: &mut N,
+    ready: &Prepared,
+    request: &LinkRequest,
+) -> Result<(), Failed>
+    requires { prepared request.now ≡ Some ready.now }
+    ensures all { OnOk result (Sends request.now (N.contents sink.old) (N.contents sink.new)) }
+    ensures no_fault { OnOk result (N.faults sink.new ≡ N.faults sink.old) }
+    ensures some { OnErr result (SendsSome request.now (N.contents sink.old) (N.contents sink.new)) }
+    ensures failed { OnErr result (Rose (N.faults sink.old) (N.faults sink.new)) }
+    ensures no_fewer { N.faults sink.old ≤ N.faults sink.new }
+{
+    send(sink, ready.first.bytes())?;
+    if ready.is_whole {
+        return Ok(());
+    }
+    send(sink, request.body.bytes())
 }
 
 /// The token of a method; `None` for any other.
@@ -104,14 +147,14 @@ fn is_field(field: &Field) -> bool
     is_token(field.name.bytes()) && is_header_value(field.value.bytes())
 }
 
-fn push_request(out: &mut Blob, token: &[u8], request: &LinkRequest) -> Result<(), NoMemory>
-    ensures { OnOk result (out.new ≡ out.old ++ written token.now request.now) }
+fn push_head(out: &mut Blob, token: &[u8], request: &LinkRequest) -> Result<(), NoMemory>
+    ensures { OnOk result (out.new ≡ out.old ++ head token.now request.now) }
 {
     push_request_line(out, token, request)?;
     push_host_line(out, request)?;
     push_fields(out, &request.fields)?;
     push_length_line(out, request)?;
-    push_content(out, request)
+    out.push(LINE_END)
 }
 
 fn push_request_line(out: &mut Blob, token: &[u8], request: &LinkRequest) -> Result<(), NoMemory>
@@ -176,14 +219,6 @@ fn push_length_line(out: &mut Blob, request: &LinkRequest) -> Result<(), NoMemor
     out.push(CONTENT_LENGTH)?;
     out.push(Buffer::new().format(len).as_bytes())?;
     out.push(LINE_END)
-}
-
-/// Appends the end of the head and the content.
-fn push_content(out: &mut Blob, request: &LinkRequest) -> Result<(), NoMemory>
-    ensures { OnOk result (out.new ≡ out.old ++ (close_lines ++ request.now.body)) }
-{
-    out.push(CLOSE_LINES)?;
-    out.push(request.body.bytes())
 }
 
 /// Whether the length of the content is said even where it is none.

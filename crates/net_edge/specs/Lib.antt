@@ -1,1 +1,2 @@
+pub mod CallTimes
 pub mod Patience

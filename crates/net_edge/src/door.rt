@@ -1,3 +1,4 @@
+use crate::call_time::end_behind;
 use crate::door_limits::DoorLimits;
 use crate::pace::Pace;
 use crate::places::Places;
@@ -29,7 +30,7 @@ const SWEEP_MS: u64 = 50;
 /// The longest that a worker waits before it looks again at what others changed, in milliseconds.
 pub(crate) const LOOK_MS: i32 = 50;
 
-/// The moment of work that never falls due.
+/// A moment that never comes.
 const NEVER: u64 = u64::MAX;
 
 /// What all workers share of a door: the set of what they wait for, and the connections that none of them serves.
@@ -42,9 +43,13 @@ pub(crate) struct Door {
     limits: DoorLimits,
     /// How many acceptors there are.
     workers: AtomicU64,
-    /// The bits of those workers that wait for a slow peer, and of those whose peer has sent for long within requests.
+    /// The bits of those workers that wait for a slow peer, of those whose peer has sent for long within requests, and of those that call
+    /// another program.
     waiting: AtomicU64,
     held: AtomicU64,
+    calling: AtomicU64,
+    /// The moment at which all calls are over, since all workers end; `NEVER` before.
+    calls_end: AtomicU64,
     /// The moment at which accepting begins again; 0 where it goes on.
     resumes_at: AtomicU64,
     /// The moment of the last sweep, and how many there were.
@@ -114,6 +119,8 @@ impl Door {
             workers: AtomicU64::new(0),
             waiting: AtomicU64::new(0),
             held: AtomicU64::new(0),
+            calling: AtomicU64::new(0),
+            calls_end: AtomicU64::new(NEVER),
             resumes_at: AtomicU64::new(0),
             swept_at: AtomicU64::new(0),
             sweeps: AtomicU64::new(0),
@@ -149,8 +156,10 @@ impl Door {
         self.is_shut.load(Ordering::SeqCst)
     }
 
-    /// Says that all workers end, and wakes those that wait.
+    /// Says that all workers end, and wakes those that wait. Calls that are under way have some seconds more.
     pub(crate) fn leave(&self) {
+        self.calls_end
+            .fetch_min(end_behind(now_ms()), Ordering::SeqCst);
         self.is_ending.store(true, Ordering::SeqCst);
         self.bell.ring();
     }
@@ -265,7 +274,10 @@ impl Door {
         let Ok(stream) = Arc::new(rt.alloc(), stream) else {
             return Admission::NoRoom;
         };
-        if self.places.admit(rt, &self.set, stream, now_ms()) {
+        let most = self
+            .limits
+            .places_beside(self.workers.load(Ordering::SeqCst));
+        if self.places.admit(rt, &self.set, stream, most, now_ms()) {
             Admission::Went
         } else {
             Admission::NoRoom
@@ -347,6 +359,21 @@ impl Door {
         self.held.fetch_and(!worker, Ordering::SeqCst);
     }
 
+    /// The worker with this bit calls another program.
+    pub(crate) fn begin_call(&self, worker: u64) {
+        self.calling.fetch_or(worker, Ordering::SeqCst);
+    }
+
+    /// Its call has ended.
+    pub(crate) fn end_call(&self, worker: u64) {
+        self.calling.fetch_and(!worker, Ordering::SeqCst);
+    }
+
+    /// The moment at which all calls are over.
+    pub(crate) fn calls_end(&self) -> u64 {
+        self.calls_end.load(Ordering::SeqCst)
+    }
+
     /// For how many milliseconds a peer may be waited for before another look; 0 where its time is over.
     pub(crate) fn patience(&self, pace: &Pace) -> i32
         ensures { (result ≡ pos (min (left_while_pressed self.now.limits pace.now) 50)) ⊎ (result ≡ pos (min (left_alone self.now.limits pace.now) 50)) }
@@ -355,12 +382,14 @@ impl Door {
         left.min(LOOK_MS as u64) as i32
     }
 
-    /// Whether all workers end, or peers hold them all and something else wants one of them.
+    /// Whether all workers end, or peers and calls hold them all and something else wants one of them.
     fn is_pressed(&self) -> bool {
         if self.is_ending() {
             return true;
         }
-        let taken = self.waiting.load(Ordering::SeqCst) | self.held.load(Ordering::SeqCst);
+        let taken = self.waiting.load(Ordering::SeqCst)
+            | self.held.load(Ordering::SeqCst)
+            | self.calling.load(Ordering::SeqCst);
         u64::from(taken.count_ones()) >= self.workers.load(Ordering::SeqCst) && self.is_wanted()
     }
 

@@ -28,10 +28,12 @@ pub struct DoorLimits {
     /// The most of a worker's time that a peer then has for what it sends without a moment between two requests, and once more for
     /// what it takes, whatever its bytes are worth. The answers to what one read asked for come on top.
     pub held_ms: u64,
+    /// So many of the greatest places are left to each worker, for the connections by which it calls other programs.
+    pub left_to_worker: usize,
 }
 
 impl DoorLimits {
-    ghost use Rattle.std.specs.Prelude.{◌≡◌, ◌≤◌, true, false};
+    ghost use Rattle.std.specs.Prelude.{◌≡◌, ◌≤◌, ◌-◌, ◌*◌, true, false};
     ghost use Rattle.net_edge.specs.Patience.{left_alone, left_while_pressed};
 
     /// The limits of the program.
@@ -42,6 +44,7 @@ impl DoorLimits {
         ensures patience { result.patience_ms ≡ 30000 }
         ensures pressed { result.pressed_ms ≡ 100 }
         ensures held { result.held_ms ≡ 1000 }
+        ensures left { result.left_to_worker ≡ 9 }
     {
         DoorLimits {
             places: places(),
@@ -50,7 +53,16 @@ impl DoorLimits {
             patience_ms: 30_000,
             pressed_ms: 100,
             held_ms: 1_000,
+            left_to_worker: 9,
         }
+    }
+
+    /// One past the greatest descriptor that a connection may have beside those of so many workers.
+    pub(crate) fn places_beside(&self, workers: u64) -> usize
+        ensures { result ≡ self.now.places - self.now.left_to_worker * workers }
+    {
+        self.places
+            .saturating_sub(self.left_to_worker.saturating_mul(workers as usize))
     }
 
     /// For how many milliseconds more a peer of this pace is waited for, where something else wants its worker and where not.

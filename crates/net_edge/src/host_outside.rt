@@ -2,8 +2,8 @@ ghost use Rattle.std.specs.Prelude.{◌≡◌, None, IfOk};
 ghost use Rattle.side_world.specs.Outside.{IsNewDisk, AreNew};
 
 use crate::start_numbers::StartNumbers;
-use crate::{TcpAcceptor, TcpDoor};
-use host_devices::{FaultCount, HostClock, HostDisk, NoLink};
+use crate::{TcpAcceptor, TcpDoor, TcpLink};
+use host_devices::{FaultCount, HostClock, HostDisk};
 use side_world::{Acceptor, Disk, Failed, Link, Outside, WorkerParts};
 use std::fs::{File, Files};
 use std::io::{self, ErrorKind};
@@ -33,10 +33,10 @@ where
 {}
 
 /// What this outside gives to a worker.
-type HostParts<R> = WorkerParts<TcpAcceptor<R>, NoLink, HostClock<R>>;
+type HostParts<R> = WorkerParts<TcpAcceptor<R>, TcpLink<R>, HostClock<R>>;
 
-/// The outside of a program on this host: disks are its files, the workers share one door of 127.0.0.1, and each has a link and
-/// the host's clock. It tells nothing. Each error of the host is a fault, and so is a second port.
+/// The outside of a program on this host: disks are its files, the workers share one door of 127.0.0.1, and each has a link of
+/// its own and the host's clock. It tells nothing. Each error of the host is a fault, and so is a second port.
 #[derive(Drop)]
 pub struct HostOutside<R> {
     rt: R,
@@ -80,7 +80,7 @@ fn open_disk<R: Files<File = File>>(rt: &R, path: &[u8]) -> io::Result<HostDisk>
 
 /// What the next worker at this port has. The first call opens the door.
 fn open_worker<R: Host>(rt: R, door: &mut Option<PortDoor>, port: u16) -> io::Result<HostParts<R>>
-    ensures { IfOk result (AreNew ⟦<TcpAcceptor<R> as Acceptor>⟧ ⟦<NoLink as Link>⟧) }
+    ensures { IfOk result (AreNew ⟦<TcpAcceptor<R> as Acceptor>⟧ ⟦<TcpLink<R> as Link>⟧) }
 {
     if door.is_none() {
         let open = TcpDoor::open(&rt, port)?;
@@ -94,11 +94,12 @@ fn open_worker<R: Host>(rt: R, door: &mut Option<PortDoor>, port: u16) -> io::Re
 
 /// What a worker at this door has.
 fn worker_parts<R: Host>(rt: R, door: &TcpDoor) -> io::Result<HostParts<R>>
-    ensures { IfOk result (AreNew ⟦<TcpAcceptor<R> as Acceptor>⟧ ⟦<NoLink as Link>⟧) }
+    ensures { IfOk result (AreNew ⟦<TcpAcceptor<R> as Acceptor>⟧ ⟦<TcpLink<R> as Link>⟧) }
 {
+    let acceptor = door.acceptor(rt)?;
     Ok(WorkerParts {
-        acceptor: door.acceptor(rt)?,
-        link: NoLink::new(),
+        link: door.link(rt, &acceptor)?,
+        acceptor,
         clock: HostClock::new(rt)?,
     })
 }
@@ -108,7 +109,7 @@ impl<R: Host + Send> Outside for HostOutside<R> {
 
     type Acceptor = TcpAcceptor<R>;
 
-    type Link = NoLink;
+    type Link = TcpLink<R>;
 
     type Clock = HostClock<R>;
 

@@ -1,7 +1,10 @@
-//! The door at which connections wait for workers, and the outside of a program on its host, over sockets of std and what the
-//! system has beside them. They tell no content.
+//! The door at which connections wait for workers, the link by which they call other programs, and the outside of a program on its host,
+//! over sockets of std and what the system has beside them. They tell no content.
 #![tactic(auto)]
 
+mod call_connection;
+mod call_stream;
+mod call_time;
 mod connection;
 mod door;
 mod door_limits;
@@ -12,6 +15,7 @@ mod ready_set;
 mod start_numbers;
 mod tcp_acceptor;
 mod tcp_door;
+mod tcp_link;
 mod tcp_sink;
 mod tcp_source;
 mod waiting;
@@ -20,5 +24,6 @@ pub use door_limits::DoorLimits;
 pub use host_outside::{Host, HostOutside};
 pub use tcp_acceptor::TcpAcceptor;
 pub use tcp_door::TcpDoor;
+pub use tcp_link::TcpLink;
 pub use tcp_sink::TcpSink;
 pub use tcp_source::TcpSource;

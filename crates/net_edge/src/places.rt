@@ -45,16 +45,17 @@ impl Places {
         Ok(Places { places })
     }
 
-    /// Has a new connection awaited by the set, at its place. Where it has no place, or the set no room, it is let go: `false`.
+    /// Has a new connection awaited by the set, at its place. Where it has no place below `most`, or the set no room, it is let go: `false`.
     pub(crate) fn admit<R: Wait>(
         &self,
         rt: &R,
         set: &ReadySet,
         stream: Arc<TcpStream>,
+        most: usize,
         now: u64,
     ) -> bool {
         let fd = stream.as_raw_fd();
-        let Some(at) = place_of(fd, self.places.len()) else {
+        let Some(at) = place_of(fd, self.places.len().min(most)) else {
             return false;
         };
         let mut place = self.places[at as usize].lock(rt);

@@ -1,5 +1,6 @@
 ghost use Rattle.std.specs.Prelude.{◌≡◌, ◌↔◌, None, IsOk, true};
 
+use crate::call_time::Caller;
 use crate::connection::part_with;
 use crate::door::{Door, LOOK_MS, Look};
 use crate::tcp_sink::TcpSink;
@@ -69,6 +70,11 @@ impl<R: Wait + AllocGlobal> TcpAcceptor<R> {
             was_idle: false,
             faults: FaultCount::none(),
         }
+    }
+
+    /// Its worker, as it calls other programs.
+    pub(crate) fn caller(&self) -> io::Result<Caller> {
+        Ok(Caller::worker(Arc::try_clone(&self.door)?, self.worker))
     }
 
     /// How often it has failed.

@@ -1,7 +1,7 @@
-use crate::TcpAcceptor;
 use crate::door::Door;
 use crate::door_limits::DoorLimits;
-use side_world::Acceptor;
+use crate::{TcpAcceptor, TcpLink};
+use side_world::{Acceptor, Link};
 use std::io;
 use std::net::{Net, TcpListener, TcpStream};
 use std::sync::{Arc, Wait};
@@ -12,7 +12,7 @@ use std::sync::{Arc, Wait};
 /// until one at which, between two requests, nothing more is, or it is others' turn, after 64 reads or 100 milliseconds. Then it waits
 /// at the door again, and takes no worker's time.
 ///
-/// It has as many connections as the process may have descriptors, less 64, and 16,384 at most. One that comes beyond that is closed at
+/// It has as many connections as the process may have descriptors, less 64 and nine for the calls of each worker, and 16,384 less those nine at most. One that comes beyond that is closed at
 /// once, and so is what has idled for a second then; for 100 milliseconds none is accepted.
 ///
 /// How long a peer may keep a worker is bounded ([`DoorLimits`]): one that says nothing for 60 seconds between two requests is closed,
@@ -65,6 +65,18 @@ impl TcpDoor {
         ensures { IfOk result (λ a. ⟦<TcpAcceptor<R> as Acceptor>⟧.faults a ≡ 0) }
     {
         Ok(TcpAcceptor::new(rt, Arc::try_clone(&self.door)?))
+    }
+
+    /// The link of the worker of this acceptor, of which no call has failed or expired.
+    pub fn link<R: Net<Listener = TcpListener, Stream = TcpStream> + Wait + AllocGlobal + Drop>(
+        &self,
+        rt: R,
+        acceptor: &TcpAcceptor<R>,
+    ) -> io::Result<TcpLink<R>>
+        ensures no_faults { IfOk result (λ it. ⟦<TcpLink<R> as Link>⟧.faults it ≡ 0) }
+        ensures no_expiries { IfOk result (λ it. ⟦<TcpLink<R> as Link>⟧.expiries it ≡ 0) }
+    {
+        Ok(TcpLink::of_caller(rt, acceptor.caller()?))
     }
 
     /// Its acceptors answer `Closed` from now on.

@@ -1,6 +1,7 @@
-use libc::net::{self, POLLIN, POLLOUT};
+use libc::net::{self, MSG_DONTWAIT, MSG_PEEK, POLLIN, POLLOUT};
 use libc::types::{pollfd, timespec};
-use libc::{CLOCK_MONOTONIC, CLOCK_REALTIME, clock_gettime};
+use libc::{CLOCK_MONOTONIC, CLOCK_REALTIME, EAGAIN, clock_gettime};
+use os::errno;
 use std::os::fd::RawFd;
 
 /// The milliseconds since some start, by the system's clock that is never set back.
@@ -39,6 +40,13 @@ pub(crate) fn wait_for_room(fd: RawFd, ms: i32) {
 /// Whether something can be read now.
 pub(crate) fn has_bytes(fd: RawFd) -> bool {
     wait_for(fd, POLLIN, 0) > 0
+}
+
+/// Whether nothing has come on a connection, and it hasn't ended. It doesn't wait.
+pub(crate) fn is_quiet(fd: RawFd) -> bool {
+    let mut piece = [0u8; 1];
+    let found = unsafe { net::recv(fd, &mut piece, MSG_PEEK | MSG_DONTWAIT) };
+    found < 0 && errno() == EAGAIN
 }
 
 fn wait_for(fd: RawFd, events: i16, ms: i32) -> i32 {

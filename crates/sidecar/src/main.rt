@@ -1,8 +1,8 @@
 //! The program: makes the real devices, runs the command that its words ask for, and ends with its status.
 #![tactic(auto)]
 
-use host_devices::{HostClock, HostFiles, NoLink, StdSink, StdSource};
-use net_edge::HostOutside;
+use host_devices::{HostClock, HostFiles, StdSink, StdSource};
+use net_edge::{HostOutside, TcpLink};
 use side_base::{NoMemory, Text};
 use side_world::Sink;
 use sidecar_cli::{Device, Status, World, sidecar_main};
@@ -24,7 +24,7 @@ fn main(rt: HostRuntime) -> ExitCode {
         sink: StdSink::new(rt.stdout()),
         note,
         files: HostFiles::new(rt),
-        link: NoLink::new(),
+        link: TcpLink::new(rt),
         clock,
         outside,
     };
