@@ -17,10 +17,12 @@ use Rattle.meta_api.specs.declared.command.NotesReply.{NotesReply}
 use Rattle.meta_api.specs.declared.command.NotesReply.TheVariants as told
 use Rattle.meta_api.specs.Body.{IsPutReply, put_response}
 use Rattle.sidecar_core.specs.declared.config.Config.{Config}
-use Rattle.sidecar_core.specs.declared.doing.Doing.{Doing}
+use Rattle.sidecar_objects.specs.declared.doing.Doing.{Doing}
 use Rattle.sidecar_core.specs.Site.{Site}
-use Rattle.sidecar_core.specs.Did.{Kinds, CellsAt, SeatsAt, Standing, Does}
-use Rattle.sidecar_core.specs.Exchange.{Answered, AtSite, AtStore, FaultGives, IsOr, PutReplies, store_in}
+use Rattle.sidecar_objects.specs.Kind.{Kinds, CellsAt, SeatsAt}
+use Rattle.sidecar_objects.specs.Did.{Standing, Does}
+use Rattle.link_call.specs.Came.{IsOr}
+use Rattle.sidecar_core.specs.Exchange.{Answered, AtSite, AtStore, FaultGives, PutReplies, store_in}
 use Rattle.sidecar_core.specs.Exchange as exchange
 use Rattle.sidecar_core.specs.Shown.{RouteShows, StoreShows}
 

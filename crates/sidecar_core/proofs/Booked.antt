@@ -20,9 +20,10 @@ use Rattle.meta_api.specs.declared.notes.Notes.{Notes}
 use Rattle.meta_api.specs.declared.command.NotesCmd.{NotesCmd}
 use Rattle.meta_api.specs.declared.command.NotesReply.{NotesReply}
 use Rattle.policy_run.specs.Effects.{Clocked}
-use Rattle.sidecar_core.specs.declared.doing.Doing.TheVariants.{Noted, Entered}
-use Rattle.sidecar_core.specs.Doing.{entered_at}
-use Rattle.sidecar_core.specs.Did.{Kinds, CellsAt, SeatsAt, Standing, Does}
+use Rattle.sidecar_objects.specs.declared.doing.Doing.TheVariants.{Noted, Entered}
+use Rattle.sidecar_objects.specs.Doing.{entered_at}
+use Rattle.sidecar_objects.specs.Kind.{Kinds, CellsAt, SeatsAt}
+use Rattle.sidecar_objects.specs.Did.{Standing, Does}
 use Rattle.sidecar_core.specs.Exchange.{NotesRan}
 use Rattle.sidecar_core.specs.Exchange as exchange
 use Rattle.sidecar_core.specs.Delivery.{Counted}

@@ -1,10 +1,11 @@
 ghost use Rattle.std.specs.Prelude.{◌≡◌, ◌<◌, ℕ, length, Err};
-ghost use Rattle.sidecar_core.specs.Did.{IsPassOf, ShowsAt};
-ghost use Rattle.sidecar_core.specs.Pass.{DoesAlone, DoesBy, cells_of, seats_of};
+ghost use Rattle.sidecar_objects.specs.Passes.{IsPassOf};
+ghost use Rattle.sidecar_objects.specs.Shown.{ShowsAt};
+ghost use Rattle.sidecar_objects.specs.Pass.{DoesAlone, DoesBy, cells_of, seats_of};
 ghost use Rattle.sidecar_core.specs.Delivery.{Counted, Delivers};
 
-use crate::kinds::ObjectKinds;
-use crate::{Pass, Shared};
+use crate::Shared;
+use sidecar_objects::{ObjectKinds, Pass};
 use keeper_core::Keeper;
 use ledger_core::{LedgerCmd, LedgerReply};
 use rand_core::Rng;

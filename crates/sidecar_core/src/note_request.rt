@@ -3,13 +3,13 @@ ghost use Rattle.std.specs.Prelude.{◌≡◌, ℕ, List, Some, Err, IfOk};
 ghost use Rattle.turn_cell.specs.declared.error.ApiErr.TheVariants as error;
 ghost use Rattle.meta_api.specs.declared.command.NotesCmd.TheVariants as ask;
 ghost use Rattle.meta_api.specs.Fits.{Fits};
-ghost use Rattle.sidecar_core.specs.Did.{IsPassOf};
-ghost use Rattle.sidecar_core.specs.Pass.{DoesAlone, cells_of, seats_of};
+ghost use Rattle.sidecar_objects.specs.Passes.{IsPassOf};
+ghost use Rattle.sidecar_objects.specs.Pass.{DoesAlone, cells_of, seats_of};
 ghost use Rattle.sidecar_core.specs.Exchange.{AtNotes, ListReplies, NotesRan, PutReplies, SetsNote};
 
 use crate::given::given;
-use crate::kinds::ObjectKinds;
-use crate::{Pass, Shared};
+use crate::Shared;
+use sidecar_objects::{ObjectKinds, Pass};
 use keeper_core::Keeper;
 use meta_api::laws::replies_fit;
 use meta_api::{NoteErr, NotesCmd, NotesReply, metadata, put_command, put_response};

@@ -2,18 +2,18 @@ ghost use Rattle.std.specs.Prelude.{◌≡◌, ℕ, [], None, Ok, Err, IfOk, opt
 ghost use Rattle.http.specs.StatusCode.{IsStatusCode};
 ghost use Rattle.side_base.specs.declared.message.Request.{Request as RequestRecord};
 ghost use Rattle.turn_cell.specs.declared.error.ApiErr.TheVariants as error;
-ghost use Rattle.sidecar_core.specs.Did.{IsPassOf};
+ghost use Rattle.sidecar_objects.specs.Passes.{IsPassOf};
 ghost use Rattle.sidecar_core.specs.declared.config.Config.{Config as ConfigRecord};
-ghost use Rattle.sidecar_core.specs.Pass.{DoesAlone, DoesBy, DoesUncalled, cells_of, seats_of};
+ghost use Rattle.sidecar_objects.specs.Pass.{DoesAlone, DoesBy, DoesUncalled, cells_of, seats_of};
 ghost use Rattle.sidecar_core.specs.Exchange.{Answered, Exchange, store_in};
 ghost use Rattle.sidecar_core.specs.Shown.{RouteShows, ShownFor};
 
 use crate::given::given;
-use crate::kinds::ObjectKinds;
 use crate::note_request::{list, put};
 use crate::refusing::{bad_escape, no_route, not_allowed, not_yet};
 use crate::state_request::at_store;
-use crate::{Pass, Shared};
+use crate::Shared;
+use sidecar_objects::{ObjectKinds, Pass};
 use api_routes::{Route, RouteErr};
 use keeper_core::Keeper;
 use meta_api::health;

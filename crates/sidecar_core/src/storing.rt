@@ -6,12 +6,11 @@ ghost use Rattle.state_core.specs.Taken.{IsTaken};
 ghost use Rattle.policy_run.specs.Effects.{AreNone, Draws, times};
 ghost use Rattle.state_api.specs.Moment.{IsSame};
 ghost use Rattle.state_api.specs.Ran.{Grows, IsAnswer, RunsBy};
-ghost use Rattle.sidecar_core.specs.Pass.{RunsStore};
+ghost use Rattle.sidecar_objects.specs.Pass.{RunsStore};
 ghost use Rattle.sidecar_core.specs.Ran.{IsShown, StoreRan};
 ghost use Rattle.sidecar_core.specs.Sites.{HasBreakerOf};
 
-use crate::kinds::ObjectKinds;
-use crate::{Objects, Pass};
+use sidecar_objects::{ObjectKinds, Objects, Pass};
 use breaker_core::Breaker;
 use keeper_core::Keeper;
 use policy_run::{BreakerAt, NoBreaker};

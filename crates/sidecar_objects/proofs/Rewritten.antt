@@ -8,7 +8,7 @@ use Rattle.turn_cell.specs.Passes.{EachSplit, EachMet}
 
 -- what holds of two lists holds of what they were lent as
 pub lent : {A B : Type 0} (P : List A → List B → Type 0) {xs xs' : List A} {ys ys' : List B} → xs' ≡ xs → ys' ≡ ys → P xs ys → P xs' ys'
-lent P e f holds = subst (λ z. P z.0 z.1) (λ i. (sym e i, sym f i)) holds
+lent {A} {B} P e f holds = subst (λ (z : List A × List B). P z.0 z.1) (λ i. (sym e i, sym f i)) holds
 
 -- as many elements written over a list are the list
 written : {A : Type 0} (n : ℕ) (old new : List A) → n ≡ length old → length new ≡ length old → take n (new ++ drop (length new) old) ≡ new
@@ -26,5 +26,5 @@ module _ {O C R : Type 0} where
   pub met_lent : (object : Ghosts O C R) (n : ℕ) (cells cells' : List (Begun O)) (roots roots' others after : List (Sitting O C R)) → n ≡ length roots → cells' ≡ cells → roots' ≡ roots → EachMet object cells' roots' others after
       → EachMet object cells roots others (take n (after ++ drop (length after) roots))
   met_lent object n cells cells' roots roots' others after long same-cells same met =
-      let done : EachMet object cells roots others after = subst (λ z. EachMet object z.0 z.1 others after) (λ i. (same-cells i, same i)) met in
+      let done : EachMet object cells roots others after = subst (λ (z : List (Begun O) × List (Sitting O C R)). EachMet object z.0 z.1 others after) (λ i. (same-cells i, same i)) met in
       subst (λ l. EachMet object cells roots others l) (sym (written n roots after long done.wide)) done

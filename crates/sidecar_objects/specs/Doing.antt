@@ -81,4 +81,4 @@ laid does j (event.pause ms) = Waited ms
 
 -- the same where its attempts are steps of the store at i
 abbrev pub placed : ℕ → ℕ → Event StoreStep → Doing
-placed i j e = laid (λ step. Stepped (Store i step)) j e
+placed i j = laid (λ step. Stepped (Store i step)) j

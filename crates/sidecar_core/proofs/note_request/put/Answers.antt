@@ -3,7 +3,7 @@ use Rattle.std.specs.Prelude.{IsErrOf}
 use Rattle.meta_api.specs.declared.command.NoteErr.TheVariants.{NotText}
 use Rattle.sidecar_core.specs.Exchange.{AtNotes, PutReplies}
 use Rattle.sidecar_core.specs.Exchange as exchange
-use Rattle.sidecar_core.specs.Composed.{does_nothing}
+use Rattle.sidecar_objects.specs.Composed.{does_nothing}
 use Rattle.sidecar_core.proofs.Answering.{does_as, not_exhausted}
 use Rattle.sidecar_core.proofs.note_request.put.Goals as goal
 

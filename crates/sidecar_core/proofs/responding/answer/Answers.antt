@@ -1,5 +1,5 @@
 use Rattle.std.proofs.Common.{sym}
-use Rattle.sidecar_core.specs.Pass.{seats_of}
+use Rattle.sidecar_objects.specs.Pass.{seats_of}
 use Rattle.sidecar_core.proofs.Answering.{does_as, state_answered, state_shows}
 use Rattle.sidecar_core.proofs.responding.answer.Goals as goal
 

@@ -1,6 +1,6 @@
 use Rattle.std.proofs.Common.{Ok, refl, inl, subst}
 use Rattle.sidecar_core.specs.Exchange.{SetsNote}
-use Rattle.sidecar_core.specs.Composed.{does_nothing}
+use Rattle.sidecar_objects.specs.Composed.{does_nothing}
 use Rattle.sidecar_core.proofs.Answering.{does_as, not_exhausted}
 use Rattle.sidecar_core.proofs.responding.answer_plainly.Goals as goal
 

@@ -1,6 +1,6 @@
 use Rattle.std.proofs.Common.{Ok, Err, subst}
 use Rattle.api_routes.specs.Route.{Answers}
-use Rattle.sidecar_core.specs.Composed.{does_nothing, pass_stays}
+use Rattle.sidecar_objects.specs.Composed.{does_nothing, pass_stays}
 use Rattle.sidecar_core.proofs.Answering.{does_as, refusal_shows_nothing}
 use Rattle.sidecar_core.proofs.Statuses.{fine_reply}
 use Rattle.sidecar_core.proofs.responding.respond.Goals as goal

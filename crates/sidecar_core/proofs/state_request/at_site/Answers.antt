@@ -4,7 +4,7 @@ use Rattle.state_api.specs.Given.{Tells}
 use Rattle.state_api.specs.Asked.{Asks}
 use Rattle.sidecar_core.specs.Exchange.{Called}
 use Rattle.sidecar_core.specs.Exchange as exchange
-use Rattle.sidecar_core.specs.Composed.{does_nothing}
+use Rattle.sidecar_objects.specs.Composed.{does_nothing}
 use Rattle.sidecar_core.specs.Ran.{IsShown}
 use Rattle.sidecar_core.proofs.Answering.{does_as, fault_at, fault_shows_nothing}
 use Rattle.sidecar_core.proofs.state_request.at_site.Goals as goal

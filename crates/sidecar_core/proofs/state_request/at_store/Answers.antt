@@ -3,7 +3,7 @@ use mathlib.Core.Option.{some}
 use lib.ListN.{get_elem?}
 use Rattle.atomic_table.proofs.Lists.{at_index}
 use Rattle.sidecar_core.specs.Exchange.{unknown, found}
-use Rattle.sidecar_core.specs.Composed.{does_nothing}
+use Rattle.sidecar_objects.specs.Composed.{does_nothing}
 use Rattle.sidecar_core.proofs.Answering.{does_as, has_store, not_exhausted}
 use Rattle.sidecar_core.proofs.state_request.at_store.Goals as goal
 

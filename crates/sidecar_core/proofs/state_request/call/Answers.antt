@@ -1,5 +1,5 @@
 use Rattle.std.proofs.Common.{◌∙◌, refl, subst}
-use Rattle.sidecar_core.specs.Exchange.{IsOr}
+use Rattle.link_call.specs.Came.{IsOr}
 use Rattle.sidecar_core.proofs.Answering.{not_exhausted, same_err}
 use Rattle.sidecar_core.proofs.state_request.call.Goals as goal
 

@@ -36,7 +36,7 @@ meet-requires-clause-other g c = the_seat c.args.self.now.notes c.args.other.not
 
 pub returns : goal.returns
 returns g c = let cells = c.args.self.now in let pass = c.args.pass.now in let other = c.args.other in record {
-  each = by_kind
+  each = by_kind _
       (met_lent _ pass.stores.len cells.stores.items c.deref.result.now pass.stores.items c.deref_mut.result.now other.stores.items c.meet_each.new.roots (omega (arith, pass.stores.ok)) c.deref.ensures.value c.deref_mut.ensures.value c.meet_each.ensures)
       (met_lent _ pass.ledgers.len cells.ledgers.items c.deref-2.result.now pass.ledgers.items c.deref_mut-2.result.now other.ledgers.items c.meet_each-2.new.roots (omega (arith, pass.ledgers.ok)) c.deref-2.ensures.value c.deref_mut-2.ensures.value c.meet_each-2.ensures)
       (met_lent _ pass.breakers.len cells.breakers.items c.deref-3.result.now pass.breakers.items c.deref_mut-3.result.now other.breakers.items c.meet_each-3.new.roots (omega (arith, pass.breakers.ok)) c.deref-3.ensures.value c.deref_mut-3.ensures.value c.meet_each-3.ensures)

@@ -26,9 +26,9 @@ split-notes-requires-clause-room g c = (the_seat c.args.self.now.notes c.args.pa
 
 pub returns-clause-split : goal.returns-clause-split
 returns-clause-split g c = let pass = c.args.pass.now in record {
-  each = by_kind
-      (split_lent pass.stores.len pass.stores.items c.deref_mut.result.now c.split_each.new.roots c.split_each.new.pass (omega (arith, pass.stores.ok)) c.deref_mut.ensures.value c.split_each.ensures)
-      (split_lent pass.ledgers.len pass.ledgers.items c.deref_mut-2.result.now c.split_each-2.new.roots c.split_each-2.new.pass (omega (arith, pass.ledgers.ok)) c.deref_mut-2.ensures.value c.split_each-2.ensures)
-      (split_lent pass.breakers.len pass.breakers.items c.deref_mut-3.result.now c.split_each-3.new.roots c.split_each-3.new.pass (omega (arith, pass.breakers.ok)) c.deref_mut-3.ensures.value c.split_each-3.ensures)
+  each = by_kind _
+      (split_lent pass.stores.len pass.stores.items c.deref_mut.result.now c.split_each.new.roots c.split_each.new.pass.items (omega (arith, pass.stores.ok)) c.deref_mut.ensures.value c.split_each.ensures)
+      (split_lent pass.ledgers.len pass.ledgers.items c.deref_mut-2.result.now c.split_each-2.new.roots c.split_each-2.new.pass.items (omega (arith, pass.ledgers.ok)) c.deref_mut-2.ensures.value c.split_each-2.ensures)
+      (split_lent pass.breakers.len pass.breakers.items c.deref_mut-3.result.now c.split_each-3.new.roots c.split_each-3.new.pass.items (omega (arith, pass.breakers.ok)) c.deref_mut-3.ensures.value c.split_each-3.ensures)
       (λ i. c.split-notes.ensures.parent i ∷ [], λ i. c.split-notes.ensures.child i ∷ []);
 }
