@@ -26,10 +26,6 @@ use Rattle.sidecar_core.specs.Exchange.{Answered, AtSite, AtStore, FaultGives, P
 use Rattle.sidecar_core.specs.Exchange as exchange
 use Rattle.sidecar_core.specs.Shown.{RouteShows, StoreShows}
 
--- what was done, said otherwise
-pub does_as : {O : Type 0} (kinds : Kinds O) (cells : CellsAt O) (at after : Standing O) (one other : List Doing → Type 0) → ((events : List Doing) → one events → other events) → Does kinds cells at after one → Does kinds cells at after other
-does_as kinds cells at after one other so d = record { events = d.events; held = so d.events d.held; went = d.went }
-
 -- a response, or the want of memory for it, is no exhausted cell
 pub not_exhausted : {A : Type 0} (response : Response) (reply : Result Response ApiErr) (count : ℕ) → IsOr response reply → reply ≡ Err (error.Exhausted count) → A
 not_exhausted response reply count (inl given) is = absurd (cc)

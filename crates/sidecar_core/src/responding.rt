@@ -4,7 +4,7 @@ ghost use Rattle.side_base.specs.declared.message.Request.{Request as RequestRec
 ghost use Rattle.turn_cell.specs.declared.error.ApiErr.TheVariants as error;
 ghost use Rattle.sidecar_objects.specs.Passes.{IsPassOf};
 ghost use Rattle.sidecar_core.specs.declared.config.Config.{Config as ConfigRecord};
-ghost use Rattle.sidecar_objects.specs.Pass.{DoesAlone, DoesBy, DoesUncalled, cells_of, seats_of};
+ghost use Rattle.sidecar_objects.specs.Pass.{DoesAlone, DoesBy, cells_of, seats_of};
 ghost use Rattle.sidecar_core.specs.Exchange.{Answered, Exchange, store_in};
 ghost use Rattle.sidecar_core.specs.Shown.{RouteShows, ShownFor};
 
@@ -45,23 +45,24 @@ pub fn respond<K: Keeper, L: Link, C: Clock, R: Rng, W: Wait>(
     ensures status { IfOk result (λ response. IsStatusCode response.status) }
 {
     match shared.route(request) {
-        Ok(route) => answer(rt, shared, pass, request, &route, clock, rng),
+        Ok(route) => answer(rt, shared, pass, request, &route, link, clock, rng),
         Err(error) => given_refusal(shared.alloc, error),
     }
 }
 
 /// Answers a request of this route.
-fn answer<K: Keeper, C: Clock, R: Rng, W: Wait>(
+fn answer<K: Keeper, L: Link, C: Clock, R: Rng, W: Wait>(
     rt: &W,
     shared: &Shared<K>,
     pass: &mut Pass<K>,
     request: &Request,
     route: &Route,
+    _link: &mut L,
     clock: &mut C,
     rng: &mut R,
 ) -> Result<Response, ApiErr>
     requires pass { IsPassOf (cells_of shared.now.objects) (seats_of pass.old) }
-    ensures does { DoesUncalled ⟦<Store<K> as ObjectKinds>⟧.kinds C.Clock R.stream shared.now.objects pass.old pass.new clock.old clock.new rng.old rng.new (Answered shared.now.config request.now (Ok route.now)) result }
+    ensures does { DoesBy ⟦<Store<K> as ObjectKinds>⟧.kinds L.Link C.Clock R.stream shared.now.objects pass.old pass.new link.old link.new clock.old clock.new rng.old rng.new (Answered shared.now.config request.now (Ok route.now)) result }
     ensures shows { (count : ℕ) → result ≡ Err (error.Exhausted count) → RouteShows shared.now.config (seats_of pass.new) route.now count }
 {
     match store_in(route) {

@@ -1,5 +1,5 @@
-ghost use Rattle.sidecar_core.specs.Did.{IsPassOf};
-ghost use Rattle.sidecar_core.specs.Pass.{cells_of, seats_of};
+ghost use Rattle.sidecar_objects.specs.Passes.{IsPassOf};
+ghost use Rattle.sidecar_objects.specs.Pass.{cells_of, seats_of};
 
 use crate::due::Due;
 use conn_serve::Buffers;

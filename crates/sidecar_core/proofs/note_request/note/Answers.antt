@@ -2,7 +2,7 @@ use Rattle.sidecar_core.proofs.Booked.{booked, unbooked}
 use Rattle.sidecar_core.proofs.note_request.note.Goals as goal
 
 pub returns-in-Ok-clause-does : goal.returns-in-Ok-clause-does
-returns-in-Ok-clause-does g c = λ clock calls words. booked _ _ _ clock calls words c.call.new.seat c.args.cmd.now c.in-Ok.reply c.in-Ok.ensures.ok
+returns-in-Ok-clause-does g c = λ clock link words. booked _ _ _ clock link words c.call.new.seat c.args.cmd.now c.in-Ok.reply c.in-Ok.ensures.ok
 
 pub returns-in-Err-clause-does : goal.returns-in-Err-clause-does
-returns-in-Err-clause-does g c = λ clock calls words. unbooked _ _ _ clock calls words c.call.new.seat c.args.cmd.now _ c.in-Err.ensures.err
+returns-in-Err-clause-does g c = λ clock link words. unbooked _ _ _ clock link words c.call.new.seat c.args.cmd.now _ c.in-Err.ensures.err

@@ -10,24 +10,24 @@ pub response-requires-clause-cut : goal.response-requires-clause-cut
 response-requires-clause-cut g c = c.the_moment_changes_no_response.ensures.cut c.args.cmd.now c.run_store.new.cmd c.run_store.ensures.same c.requires.cut
 
 pub returns-in-Ok-clause-does : goal.returns-in-Ok-clause-does
-returns-in-Ok-clause-does g c = λ calls. let r = c.run_store.ensures.ran in record {
+returns-in-Ok-clause-does g c = λ link. let r = c.run_store.ensures.ran in record {
   events = r.0;
   held = record {
     ran = c.run_store.result;
     steps = r.1;
     replies = rw c.in-Ok.is (subst (λ z. IsOr z c.given.result) (c.the_moment_changes_no_response.ensures.response c.args.cmd.now c.run_store.new.cmd c.in-Ok.ran c.run_store.ensures.same) (c.given.ensures _ c.response.ensures));
   };
-  went = r.2 calls;
+  went = r.2 link;
 }
 
 pub returns-in-Ok-clause-shows : goal.returns-in-Ok-clause-shows
 returns-in-Ok-clause-shows g c = λ count is. not_exhausted _ c.given.result count (c.given.ensures _ c.response.ensures) is
 
 pub returns-in-Err-clause-does : goal.returns-in-Err-clause-does
-returns-in-Err-clause-does g c = λ calls. let r = c.run_store.ensures.ran in record {
+returns-in-Err-clause-does g c = λ link. let r = c.run_store.ensures.ran in record {
   events = r.0;
   held = record { ran = c.run_store.result; steps = r.1; replies = rw c.in-Err.is refl };
-  went = r.2 calls;
+  went = r.2 link;
 }
 
 pub returns-in-Err-clause-shows : goal.returns-in-Err-clause-shows

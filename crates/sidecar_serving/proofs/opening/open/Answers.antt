@@ -1,6 +1,6 @@
 use Rattle.std.proofs.Common.{sym, subst}
-use Rattle.sidecar_core.specs.Pass.{cells_of, seats_of}
-use Rattle.sidecar_serving.specs.Passes.{IsSplitOffPass}
+use Rattle.sidecar_objects.specs.Pass.{cells_of, seats_of}
+use Rattle.sidecar_objects.specs.Passes.{IsSplitOffPass}
 use Rattle.sidecar_serving.proofs.Passes.{split_off_of, worker_pass_is}
 use Rattle.sidecar_serving.proofs.opening.open.Goals as goal
 

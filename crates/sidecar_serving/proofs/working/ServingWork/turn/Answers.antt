@@ -1,5 +1,5 @@
 use Rattle.std.proofs.Common.{◌∙◌, ap, refl, sym}
-use Rattle.sidecar_core.specs.Composed.{pass_stays}
+use Rattle.sidecar_objects.specs.Composed.{pass_stays}
 use Rattle.sidecar_workers.specs.Works.{exit_of_turned}
 use Rattle.sidecar_serving.proofs.Doings.{turned_on}
 use Rattle.sidecar_serving.proofs.working.ServingWork.turn.Goals as goal
