@@ -1,0 +1,4 @@
+pub mod Lists
+pub mod Keeping
+pub mod Coming
+pub mod Following
