@@ -42,7 +42,7 @@ use Rattle.sidecar_core.specs.Ran.{StoreRan}
 
 module _ (i j : ℕ) (events : List (Event StoreStep)) where
   -- an attempt is a step of the store
-  step : StoreStep → Doing
+  abbrev step : StoreStep → Doing
   step s = Stepped (Store i s)
 
   stored_here : flat_map (steps_at stores i) (map (placed i j) events) ≡ flat_map own_of events

@@ -57,7 +57,7 @@ fn answer<K: Keeper, L: Link, C: Clock, R: Rng, W: Wait>(
     pass: &mut Pass<K>,
     request: &Request,
     route: &Route,
-    _link: &mut L,
+    link: &mut L,
     clock: &mut C,
     rng: &mut R,
 ) -> Result<Response, ApiErr>
@@ -65,6 +65,7 @@ fn answer<K: Keeper, L: Link, C: Clock, R: Rng, W: Wait>(
     ensures does { DoesBy ⟦<Store<K> as ObjectKinds>⟧.kinds L.Link C.Clock R.stream shared.now.objects pass.old pass.new link.old link.new clock.old clock.new rng.old rng.new (Answered shared.now.config request.now (Ok route.now)) result }
     ensures shows { (count : ℕ) → result ≡ Err (error.Exhausted count) → RouteShows shared.now.config (seats_of pass.new) route.now count }
 {
+    let _ = link;
     match store_in(route) {
         Some(name) => at_store(rt, shared, pass, request, route, name, clock, rng),
         None => answer_plainly(rt, shared, pass, request, route),

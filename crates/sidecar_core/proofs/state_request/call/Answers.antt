@@ -1,7 +1,14 @@
 use Rattle.std.proofs.Common.{◌∙◌, refl, subst}
 use Rattle.link_call.specs.Came.{IsOr}
+use Rattle.sidecar_objects.specs.Kind.{stores, breakers}
 use Rattle.sidecar_core.proofs.Answering.{not_exhausted, same_err}
 use Rattle.sidecar_core.proofs.state_request.call.Goals as goal
+
+pub run_store-requires-clause-stores : goal.run_store-requires-clause-stores
+run_store-requires-clause-stores g c = c.requires.pass.each stores
+
+pub run_store-requires-clause-breakers : goal.run_store-requires-clause-breakers
+run_store-requires-clause-breakers g c = c.requires.pass.each breakers
 
 pub response-requires-clause-answer : goal.response-requires-clause-answer
 response-requires-clause-answer g c = c.the_moment_changes_no_response.ensures.answer c.args.cmd.now c.run_store.new.cmd c.in-Ok.ran c.run_store.ensures.same c.in-Ok.ensures.answer

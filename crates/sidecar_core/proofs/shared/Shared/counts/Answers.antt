@@ -4,6 +4,9 @@ use Rattle.sidecar_objects.specs.Kind.{ledgers}
 use Rattle.sidecar_core.proofs.Booked.{counted, shown_count}
 use Rattle.sidecar_core.proofs.shared.Shared.counts.Goals as goal
 
+pub index_mut-requires : goal.index_mut-requires
+index_mut-requires g c = omega (arith, c.requires.place, (c.requires.pass.each ledgers).wide)
+
 pub call-requires-clause-seat : goal.call-requires-clause-seat
 call-requires-clause-seat g c = (c.requires.pass.each ledgers).each c.args.place c.index.result.now c.index_mut.result.now
     (at_index c.args.self.now.objects.ledgers.items c.args.place c.index.result.now c.requires.place c.index.ensures)
