@@ -29,7 +29,7 @@ pub(crate) fn turned_of(turn: &Turn) -> Turned
     ensures { result ≡ turned_of turn.now }
 {
     match turn {
-        Turn::Delivered { .. } | Turn::Idle { .. } => Turned::Did,
+        Turn::Delivered { .. } | Turn::Idle { .. } => Turned::Went,
         Turn::Held => Turned::NoMemory,
         Turn::Exhausted { count } => Turned::Spent { count: *count },
     }
