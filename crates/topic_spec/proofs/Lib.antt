@@ -5,3 +5,4 @@ mod Pathing
 mod Readings
 mod Sound
 mod Steps
+mod Unruled

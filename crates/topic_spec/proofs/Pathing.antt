@@ -1,5 +1,5 @@
 -- The path of an event by the values of rules, one rule and one subscription after the other.
-use Rattle.std.proofs.Common.{◌≡◌, ◌≢◌, inl, inr, ◌∙◌, ap, sym, subst, refl, cond, Bool, true, false, ℕ, ◌+◌, List, [], ◌∷◌, ◌++◌, append_assoc, append-nil, Option, Some, None}
+use Rattle.std.proofs.Common.{◌≡◌, ◌≢◌, inl, inr, ◌∙◌, ap, sym, subst, refl, cond, true, false, ℕ, ◌+◌, List, [], ◌∷◌, ◌++◌, append_assoc, append-nil, Option, Some}
 use Rattle.std.specs.Prelude.{◌&&◌, bytes_eq, Result, Ok, Err, OnOk}
 use Rattle.ledger_core.specs.declared.plan.Aim.{Aim}
 use Rattle.rule_value.specs.declared.truth.Truth.{Truth}

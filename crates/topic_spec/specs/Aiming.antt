@@ -1,5 +1,5 @@
 -- Which subscriptions a message is for, and which path each of them gives it.
-use Rattle.std.specs.Prelude.{◌≡◌, ◌≢◌, ℕ, ◌+◌, ⊤, ◌⊎◌, Bool, true, false, ◌&&◌, List, [], ◌∷◌, ◌++◌, bytes_eq, filter, if◌then◌else◌, Option, Some, None}
+use Rattle.std.specs.Prelude.{◌≡◌, ◌≢◌, ℕ, ◌+◌, ⊤, ◌⊎◌, Bool, true, false, ◌&&◌, ◌||◌, List, [], ◌∷◌, ◌++◌, bytes_eq, filter, if◌then◌else◌, Option, Some, None}
 use Rattle.std.specs.Option.{option_or}
 use Rattle.ledger_core.specs.declared.plan.Aim.{Aim}
 use Rattle.rule_value.specs.declared.truth.Truth.{Truth}
@@ -59,6 +59,21 @@ aims_of event pubsub topic subs = aims_from 0 event pubsub topic subs
 -- nothing was added, or an aim of this place
 abbrev pub IsAimed : ℕ → List Aim → List Aim → Type 0
 IsAimed place old new = (new ≡ old) ⊎ ((path : Option (List ℕ)) × (new ≡ old ++ record { sub = place; path = path } ∷ []))
+
+-- ---- without an event
+
+abbrev pub has_rules : List Rule → Bool
+has_rules [] = false
+has_rules (rule ∷ rules) = true
+
+-- the subscription is to the topic and has rules, so that its path depends on the event
+unfoldable pub is_ruled : List ℕ → List ℕ → Sub → Bool
+is_ruled pubsub topic sub = is_to pubsub topic sub && has_rules sub.rules
+
+-- one of them is such
+unfoldable pub are_ruled : List ℕ → List ℕ → List Sub → Bool
+are_ruled pubsub topic [] = false
+are_ruled pubsub topic (sub ∷ subs) = is_ruled pubsub topic sub || are_ruled pubsub topic subs
 
 -- ---- the same by the texts of rules
 

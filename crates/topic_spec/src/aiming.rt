@@ -1,12 +1,12 @@
 //! To which paths an event is delivered.
-ghost use Rattle.std.specs.Prelude.{◌≡◌, ◌++◌, ℕ, List, length, Option, option_map, OnOk, IfOk};
+ghost use Rattle.std.specs.Prelude.{◌≡◌, ◌++◌, ℕ, false, List, length, Option, option_map, is_none, OnOk, IfOk, IfSome};
 ghost use Rattle.ledger_core.specs.Aims.{AreAims};
 ghost use Rattle.rule_value.specs.Standing.{IsEvent};
 ghost use Rattle.rule_value.specs.Values.{Event};
 ghost use Rattle.std.specs.Option.{option_or};
 ghost use Rattle.topic_spec.specs.declared.draft.Draft.{Draft};
 ghost use Rattle.topic_spec.specs.declared.draft.RuleText.{RuleText};
-ghost use Rattle.topic_spec.specs.Aiming.{is_yes, first_yes, path_of, is_to, aim_at, aims_of, IsAimed, IsPath, AreSubs, AddsBy, AimsBy};
+ghost use Rattle.topic_spec.specs.Aiming.{is_yes, first_yes, path_of, is_to, has_rules, is_ruled, are_ruled, aim_at, aims_of, IsAimed, IsPath, AreSubs, AddsBy, AimsBy};
 ghost use Rattle.topic_spec.specs.Reading.{AreRules, IsSub};
 
 use crate::sub::{Rules, Sub, Subs};
@@ -116,4 +116,66 @@ pub fn aims(
         }
     }
     Ok(aims)
+}
+
+// Whether the subscription is to the topic and has rules.
+#[tactic(auto, unfolding(crate::specs::Aiming::is_ruled))]
+fn is_ruled(sub: &Sub, pubsub: &Text, topic: &Text) -> bool
+    ensures { result ≡ is_ruled pubsub.now topic.now sub.now }
+{
+    is_to(sub, pubsub, topic) && has_rules(&sub.rules)
+}
+
+fn has_rules(rules: &Rules) -> bool
+    ensures { result ≡ has_rules rules.now }
+{
+    !rules.is_empty()
+}
+
+// Adds the aim of the subscription at this place, if it is to the topic: its default.
+#[tactic(auto, unfolding(crate::specs::Aiming::aim_at))]
+fn add_default(
+    place: u32,
+    sub: &Sub,
+    pubsub: &Text,
+    topic: &Text,
+    aims: &mut Aims,
+) -> Result<(), NoMemory>
+    requires { is_ruled pubsub.now topic.now sub.now ≡ false }
+    ensures aims { (event : Event) → OnOk result (aims.new ≡ aims.old ++ aim_at place event pubsub.now topic.now sub.now) }
+    ensures place { OnOk result (IsAimed place aims.old aims.new) }
+{
+    if !is_to(sub, pubsub, topic) {
+        return Ok(());
+    }
+    match copied(sub.default.as_ref()) {
+        Ok(path) => aims.push(Aim { sub: place, path }),
+        Err(error) => Err(error),
+    }
+}
+
+/// What `aims` gives for whatever event, where no subscription to the topic has rules: each with its default, or none. `None`
+/// exactly where one of them has rules, so that the event has to be read.
+pub fn default_aims(
+    alloc: Global,
+    subs: &Subs,
+    pubsub: &Text,
+    topic: &Text,
+) -> Result<Option<Aims>, NoMemory>
+    ensures aims { (event : Event) → IfOk result (λ found. IfSome found (λ aims. aims ≡ aims_of event pubsub.now topic.now subs.now)) }
+    ensures ruled { IfOk result (λ found. is_none found ≡ are_ruled pubsub.now topic.now subs.now) }
+    ensures given { IfOk result (λ found. IfSome found (AreAims (length subs.now))) }
+{
+    let mut aims = Aims::new(alloc);
+    for i in 0..subs.len() {
+        let sub = subs.at(i);
+        if is_ruled(sub, pubsub, topic) {
+            return Ok(None);
+        }
+        match add_default(i as u32, sub, pubsub, topic, &mut aims) {
+            Ok(()) => {}
+            Err(error) => return Err(error),
+        }
+    }
+    Ok(Some(aims))
 }

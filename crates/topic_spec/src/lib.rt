@@ -14,7 +14,7 @@ mod scopes;
 mod sub;
 mod sub_err;
 
-pub use aiming::aims;
+pub use aiming::{aims, default_aims};
 pub use choosing::{allowed, join};
 pub use loading::{app_list, subscriptions};
 pub use scopes::{may_publish, may_subscribe};
