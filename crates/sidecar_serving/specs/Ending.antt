@@ -31,8 +31,8 @@ served_of ends.NoMemory = served.NoMemory
 
 -- what its `turn` answers after a delivery that came to this
 abbrev pub turned_of : Turn → Turned
-turned_of (turns.Delivered message place settled) = turned.Did
-turned_of (turns.Idle next) = turned.Did
+turned_of (turns.Delivered message place settled) = turned.Went
+turned_of (turns.Idle next) = turned.Went
 turned_of turns.Held = turned.NoMemory
 turned_of (turns.Exhausted count) = turned.Spent count
 
