@@ -1,27 +1,13 @@
 -- What holds of a pass, and what is done to one as a whole: of each kind the same.
-use Rattle.std.specs.Prelude.{◌≡◌, ℕ, [], ◌∷◌, map}
-use Rattle.std.specs.Coded.{Π_prop}
+use Rattle.std.specs.Prelude.{◌≡◌, ℕ, map}
 use Rattle.turn_cell.specs.Sitting.{root_of}
 use Rattle.turn_cell.specs.Passes.{EachSeated, EachRoot, EachSplitOff, EachSound, EachSplit, EachMet}
 use Rattle.turn_pass.specs.Pass.{MayEachSplit, EachMayMeet}
-use Rattle.sidecar_objects.specs.Kind.{Kind, Kinds, CellsAt, SeatsAt, stores, ledgers, breakers, book, cells_in, seats_in}
+use Rattle.sidecar_objects.specs.Kind.{Kind, Kinds, CellsAt, SeatsAt, cells_in, seats_in}
 
 -- a pass of these cells: a seat of each, at the same place
 pub record IsPassOf {O : Type 0} (cells : CellsAt O) (seats : SeatsAt O) : Type 0 where
   pub each : (kind : Kind) → EachSeated (cells_in cells kind) (seats_in seats kind)
-
--- where of each kind it has at most one proof, it has at most one
-module _ {O : Type 0} {cells : CellsAt O} {seats : SeatsAt O} where
-  each_prop : IsProp (EachSeated cells.stores seats.stores) → IsProp (EachSeated cells.ledgers seats.ledgers) → IsProp (EachSeated cells.breakers seats.breakers) → IsProp (EachSeated (cells.notes ∷ []) (seats.notes ∷ []))
-      → (kind : Kind) → IsProp (EachSeated (cells_in cells kind) (seats_in seats kind))
-  each_prop store ledger breaker one stores = store
-  each_prop store ledger breaker one ledgers = ledger
-  each_prop store ledger breaker one breakers = breaker
-  each_prop store ledger breaker one book = one
-
-  pub pass_prop : IsProp (EachSeated cells.stores seats.stores) → IsProp (EachSeated cells.ledgers seats.ledgers) → IsProp (EachSeated cells.breakers seats.breakers) → IsProp (EachSeated (cells.notes ∷ []) (seats.notes ∷ []))
-      → IsProp (IsPassOf cells seats)
-  pass_prop store ledger breaker one = λ x y i. record { each = Π_prop (each_prop store ledger breaker one) x.each y.each i }
 
 -- the pass of the root seats, with `out` passes that are split off and not met
 pub record IsRootPass {O : Type 0} (out : ℕ) (cells : CellsAt O) (seats : SeatsAt O) : Type 0 where
