@@ -7,8 +7,8 @@ ghost use Rattle.state_core.specs.Store.{keeper_of};
 ghost use Rattle.sidecar_core.specs.Started.{IsRoomFor};
 
 use crate::{Config, Room, Shared};
-use sidecar_objects::Pass;
 use keeper_core::Keeper;
+use sidecar_objects::Pass;
 use state_core::Store;
 use turn_cell::Object;
 

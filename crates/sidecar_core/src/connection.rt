@@ -2,13 +2,13 @@ ghost use Rattle.sidecar_core.specs.Connection.{Serves};
 ghost use Rattle.sidecar_objects.specs.Passes.{IsPassOf};
 ghost use Rattle.sidecar_objects.specs.Pass.{cells_of, seats_of};
 
-use crate::desk::Desk;
 use crate::Shared;
-use sidecar_objects::{ObjectKinds, Pass};
+use crate::desk::Desk;
 use conn_serve::{Buffers, Ended, serve};
 use keeper_core::Keeper;
 use rand_core::Rng;
 use side_world::{Clock, Link, Sink, Source};
+use sidecar_objects::{ObjectKinds, Pass};
 use state_core::Store;
 use std::sync::Wait;
 

@@ -5,11 +5,11 @@ ghost use Rattle.sidecar_objects.specs.Pass.{DoesAlone, DoesBy, cells_of, seats_
 ghost use Rattle.sidecar_core.specs.Delivery.{Counted, Delivers};
 
 use crate::Shared;
-use sidecar_objects::{ObjectKinds, Pass};
 use keeper_core::Keeper;
 use ledger_core::{LedgerCmd, LedgerReply};
 use rand_core::Rng;
 use side_world::{Clock, Link};
+use sidecar_objects::{ObjectKinds, Pass};
 use state_core::Store;
 use std::sync::Wait;
 use turn_cell::Exhausted;

@@ -1,10 +1,10 @@
 use crate::{Shared, respond};
-use sidecar_objects::{Doing, ObjectKinds, Pass};
 use conn_serve::Handler;
 use keeper_core::Keeper;
 use rand_core::Rng;
 use side_base::{Request, Response};
 use side_world::{Clock, Link};
+use sidecar_objects::{Doing, ObjectKinds, Pass};
 use state_core::Store;
 use std::sync::Wait;
 use turn_cell::ApiErr;

@@ -29,7 +29,7 @@ pub use delivering::{Turn, deliver};
 pub use responding::respond;
 pub use room::Room;
 pub use shared::Shared;
+pub use sidecar_objects::{Doing, ObjectKinds, Objects, Pass, SlotStep};
 pub use site::StoreSite;
 pub use starting::count_of_stores;
 pub use storing::run_store;
-pub use sidecar_objects::{Doing, ObjectKinds, Objects, Pass, SlotStep};

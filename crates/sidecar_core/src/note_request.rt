@@ -7,13 +7,13 @@ ghost use Rattle.sidecar_objects.specs.Passes.{IsPassOf};
 ghost use Rattle.sidecar_objects.specs.Pass.{DoesAlone, cells_of, seats_of};
 ghost use Rattle.sidecar_core.specs.Exchange.{AtNotes, ListReplies, NotesRan, PutReplies, SetsNote};
 
-use crate::given::given;
 use crate::Shared;
-use sidecar_objects::{ObjectKinds, Pass};
+use crate::given::given;
 use keeper_core::Keeper;
 use meta_api::laws::replies_fit;
 use meta_api::{NoteErr, NotesCmd, NotesReply, metadata, put_command, put_response};
 use side_base::{Response, Text};
+use sidecar_objects::{ObjectKinds, Pass};
 use state_api::{What, malformed_response};
 use state_core::Store;
 use std::alloc::Global;

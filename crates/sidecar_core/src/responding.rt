@@ -8,18 +8,18 @@ ghost use Rattle.sidecar_objects.specs.Pass.{DoesAlone, DoesBy, cells_of, seats_
 ghost use Rattle.sidecar_core.specs.Exchange.{Answered, Exchange, store_in};
 ghost use Rattle.sidecar_core.specs.Shown.{RouteShows, ShownFor};
 
+use crate::Shared;
 use crate::given::given;
 use crate::note_request::{list, put};
 use crate::refusing::{bad_escape, no_route, not_allowed, not_yet};
 use crate::state_request::at_store;
-use crate::Shared;
-use sidecar_objects::{ObjectKinds, Pass};
 use api_routes::{Route, RouteErr};
 use keeper_core::Keeper;
 use meta_api::health;
 use rand_core::Rng;
 use side_base::{Request, Response, Text};
 use side_world::{Clock, Link};
+use sidecar_objects::{ObjectKinds, Pass};
 use state_core::Store;
 use std::alloc::Global;
 use std::sync::Wait;

@@ -5,11 +5,11 @@ ghost use Rattle.sidecar_core.specs.Site.{Site};
 ghost use Rattle.sidecar_core.specs.Sites.{sites_of, notes_of, pubsubs_of, sub_notes_of, HasBreakerOf};
 
 use crate::{Config, StoreSite};
-use sidecar_objects::Objects;
 use api_routes::{Route, RouteErr, Routers};
 use keeper_core::Keeper;
 use meta_api::{ComponentNotes, SubscriptionNotes};
 use side_base::{Request, Text};
+use sidecar_objects::Objects;
 use std::alloc::Global;
 
 /// What all passes share: the configuration, and a cell for each store, each ledger, each breaker and for the book of metadata.

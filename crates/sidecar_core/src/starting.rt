@@ -15,7 +15,6 @@ ghost use Rattle.sidecar_objects.specs.Pass.{cells_of, seats_of};
 ghost use Rattle.sidecar_core.specs.Started.{IsStarted, IsRoomFor};
 
 use crate::{Config, Room, Shared, StoreSite};
-use sidecar_objects::{ObjectKinds, Objects, Pass};
 use api_routes::Routers;
 use breaker_core::Breaker;
 use keeper_core::Keeper;
@@ -24,6 +23,7 @@ use meta_api::{ComponentNote, ComponentNotes, Notes, SubscriptionNote, Subscript
 use policy_spec::{BreakerPolicies, Policies, Target, bind, breakers};
 use resource_spec::{Component, ComponentKind, Components};
 use side_base::{NoMemory, Text};
+use sidecar_objects::{ObjectKinds, Objects, Pass};
 use state_core::{Prefix, Store};
 use std::alloc::Global;
 use topic_spec::{Sub, Subs};

@@ -10,13 +10,13 @@ ghost use Rattle.sidecar_objects.specs.Pass.{RunsStore};
 ghost use Rattle.sidecar_core.specs.Ran.{IsShown, StoreRan};
 ghost use Rattle.sidecar_core.specs.Sites.{HasBreakerOf};
 
-use sidecar_objects::{ObjectKinds, Objects, Pass};
 use breaker_core::Breaker;
 use keeper_core::Keeper;
 use policy_run::{BreakerAt, NoBreaker};
 use rand_core::Rng;
 use retry_core::Bound;
 use side_world::Clock;
+use sidecar_objects::{ObjectKinds, Objects, Pass};
 use state_api::{Ran, run};
 use state_core::{Cmd, Store};
 use std::sync::Wait;

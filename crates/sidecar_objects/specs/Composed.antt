@@ -1,5 +1,5 @@
 -- What was done, part after part, and what holds of a pass behind it.
-use Rattle.std.specs.Prelude.{◌≡◌, ℕ, List, [], ◌++◌, refl}
+use Rattle.std.specs.Prelude.{ℕ, List, [], ◌++◌, refl}
 use Rattle.std.specs.List.{sum_by, flat_map}
 use Rattle.std.proofs.Common.{sym, subst, le_refl}
 use Rattle.std.proofs.lemmas.Grind.{flat_map-append}
@@ -12,7 +12,7 @@ use Rattle.turn_cell.proofs.Growing.{each_none, each_on, each_same}
 use Rattle.turn_cell.proofs.Passes.{still_seated, still_roots, still_sound, still_split_off}
 use Rattle.link_call.specs.LinkAt.{Asks, asks_none, asks_more}
 use Rattle.sidecar_objects.specs.declared.doing.Doing.{Doing}
-use Rattle.sidecar_objects.specs.Kind.{Kinds, CellsAt, SeatsAt, cells_in, seats_in}
+use Rattle.sidecar_objects.specs.Kind.{Kinds, CellsAt, cells_in, seats_in}
 use Rattle.sidecar_objects.specs.Doing.{steps_at, asked_in, word_in, moment_in, pause_in, tick_in}
 use Rattle.sidecar_objects.specs.Passes.{IsPassOf, IsRootPass, IsLone, IsSoundPass, IsSplitOffPass}
 use Rattle.sidecar_objects.specs.Did.{Standing, Did, Does}

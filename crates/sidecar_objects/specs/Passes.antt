@@ -1,5 +1,5 @@
 -- What holds of a pass, and what is done to one as a whole: of each kind the same.
-use Rattle.std.specs.Prelude.{◌≡◌, ℕ, List, map}
+use Rattle.std.specs.Prelude.{◌≡◌, ℕ, map}
 use Rattle.turn_cell.specs.Sitting.{root_of}
 use Rattle.turn_cell.specs.Passes.{EachSeated, EachRoot, EachSplitOff, EachSound, EachSplit, EachMet}
 use Rattle.turn_pass.specs.Pass.{MayEachSplit, EachMayMeet}

@@ -11,7 +11,8 @@ use Rattle.turn_pass.specs.Pass.{MayEachSplit}
 use Rattle.sidecar_objects.specs.Kind.{Kind, CellsAt, Kinds, SeatsAt, stores, ledgers, breakers, book, cells_in, seats_in}
 use Rattle.sidecar_objects.specs.Passes.{IsLone, IsPassOf, IsRootPass, IsSoundPass, IsSplitOffPass, MayMeet, MaySplit, MetPass, SplitPass}
 use Rattle.sidecar_objects.proofs.ByKind.{by_kind}
-use Rattle.sidecar_serving.specs.Passes.{root_pass, root_seat, worker_pass, worker_seat}
+use Rattle.sidecar_objects.proofs.Single.{one_seat, the_seat}
+use Rattle.sidecar_serving.specs.Passes.{IsOwnPass, root_pass, root_seat, worker_pass, worker_seat}
 
 module _ {O C R : Type 0} where
   -- what holds of a seat that is made of its cell holds of each
@@ -40,6 +41,13 @@ module _ {O C R : Type 0} where
 -- the only one of a list
 only_one : {A : Type 0} (a b : A) → a ∷ [] ≡ b ∷ [] → a ≡ b
 only_one a b e = cc
+
+-- a worker's own pass is one of the cells
+pub own_pass : {O : Type 0} (cells : CellsAt O) (seats : SeatsAt O) → IsPassOf cells seats → IsOwnPass cells seats
+own_pass cells seats of = record { stores = of.each stores; ledgers = of.each ledgers; breakers = of.each breakers; notes = the_seat cells.notes seats.notes _ (of.each book) }
+
+pub pass_owned : {O : Type 0} (cells : CellsAt O) (seats : SeatsAt O) → IsOwnPass cells seats → IsPassOf cells seats
+pass_owned cells seats own = record { each = by_kind _ own.stores own.ledgers own.breakers (one_seat cells.notes seats.notes _ own.notes) }
 
 module _ {O : Type 0} (cells : CellsAt O) where
   -- of each kind the seats of these passes are made of their cells

@@ -1,6 +1,7 @@
 -- The passes of all objects that workers begin with.
 use Rattle.std.specs.Prelude.{◌+◌, ℕ, true, false, [], map, Some, None}
-use Rattle.turn_cell.specs.Sitting.{Begun, Sitting}
+use Rattle.turn_cell.specs.Sitting.{Begun, IsSeatOf, Sitting}
+use Rattle.turn_cell.specs.Passes.{EachSeated}
 use Rattle.sidecar_objects.specs.Kind.{CellsAt, SeatsAt}
 
 module _ {O C R : Type 0} where
@@ -18,3 +19,10 @@ module _ {O : Type 0} where
 
   abbrev pub worker_pass : ℕ → CellsAt O → SeatsAt O
   worker_pass number cells = record { stores = map (worker_seat number) cells.stores; ledgers = map (worker_seat number) cells.ledgers; breakers = map (worker_seat number) cells.breakers; notes = worker_seat number cells.notes }
+
+-- a pass of these cells, kind by kind: so it is a fact of a value of a type, which has at most one proof
+pub record IsOwnPass {O : Type 0} (cells : CellsAt O) (seats : SeatsAt O) : Type 0 where
+  pub stores : EachSeated cells.stores seats.stores
+  pub ledgers : EachSeated cells.ledgers seats.ledgers
+  pub breakers : EachSeated cells.breakers seats.breakers
+  pub notes : IsSeatOf cells.notes seats.notes

@@ -1,4 +1,4 @@
-use Rattle.std.proofs.Common.{◌≡◌, refl, arith}
+use Rattle.std.proofs.Common.{refl, arith}
 use Rattle.turn_cell.specs.Passes.{EachSplitOff}
 use Rattle.turn_pass.specs.Pass.{EachMayMeet}
 use Rattle.sidecar_objects.specs.Kind.{stores, ledgers, breakers, book}

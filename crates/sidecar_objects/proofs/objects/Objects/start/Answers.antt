@@ -1,5 +1,4 @@
-use Rattle.std.proofs.Common.{◌≡◌, ◌∷◌, [], subst, sym}
-use Rattle.turn_cell.specs.Sitting.{IsSound}
+use Rattle.std.proofs.Common.{◌∷◌, []}
 use Rattle.sidecar_objects.proofs.ByKind.{by_kind}
 use Rattle.sidecar_objects.proofs.Single.{one_seat, sound_at}
 use Rattle.sidecar_objects.proofs.objects.Objects.start.Goals as goal
