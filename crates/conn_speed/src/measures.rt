@@ -1,10 +1,11 @@
 //! What is measured, and written as lines of standard error.
 ghost use Rattle.std.specs.Prelude.{IfOk};
-ghost use Rattle.sidecar_core.specs.Did.{IsPassOf};
-ghost use Rattle.sidecar_core.specs.Pass.{cells_of, seats_of};
+ghost use Rattle.sidecar_objects.specs.Passes.{IsPassOf};
+ghost use Rattle.sidecar_objects.specs.Pass.{cells_of, seats_of};
 
 use crate::devices::{Again, Counted, NoLink, StillClock};
 use crate::requests::{Asked, Kind, together};
+use app_peers::PeerList;
 use conn_serve::{Buffers, Ended};
 use keeper_core::MemoryKeeper;
 use policy_spec::policies;
@@ -147,6 +148,8 @@ fn config_of(alloc: Global) -> io::Result<Config> {
     let policies = policies(alloc, &docs, &app).ok().ok_or(unfit())?;
     Ok(Config {
         app,
+        app_port: None,
+        peers: PeerList::new(alloc),
         components,
         subs: Subs::new(alloc),
         policies,

@@ -1,8 +1,9 @@
 //! Serving over given keepers, or over one store in memory.
 ghost use Rattle.std.specs.Prelude.{◌≡◌, IfSome};
-ghost use Rattle.sidecar_core.specs.Pass.{cells_of, seats_of};
+ghost use Rattle.sidecar_objects.specs.Pass.{cells_of, seats_of};
 ghost use Rattle.sidecar_serving.specs.Passes.{root_pass};
 
+use app_peers::PeerList;
 use keeper_core::{Keeper, MemoryKeeper};
 use policy_spec::policies;
 use rand_core::SeedableRng;
@@ -36,6 +37,8 @@ fn config(alloc: Global, resources: &[u8]) -> Option<Config> {
         components: components(alloc, &docs, &app).ok()?,
         subs: Subs::new(alloc),
         policies: policies(alloc, &docs, &app).ok()?,
+        app_port: None,
+        peers: PeerList::new(alloc),
         app,
     })
 }

@@ -6,7 +6,7 @@ use Rattle.std.specs.Option.{option_or}
 use mathlib.Core.Option.{some, some-injective, some-ne-none}
 use lib.ListN.{get_elem?}
 use Rattle.side_world.specs.declared.disk.Disk.{Ghosts as Keeps}
-use Rattle.side_world.specs.declared.link.LinkCall.{LinkCall}
+use Rattle.link_call.specs.LinkAt.{LinkAt}
 use Rattle.side_world.specs.Faults.{Rose}
 use Rattle.rand_core.specs.Stream.{Stream}
 use Rattle.keeper_core.specs.declared.keeper.Keeper.{Ghosts}
@@ -37,13 +37,15 @@ use Rattle.sidecar_keepers.specs.declared.starting.KeepersErr.{KeepersErr}
 use Rattle.sidecar_keepers.specs.declared.starting.KeepersErr.TheVariants as lack
 use Rattle.sidecar_keepers.specs.Refused.{Counts, IsRefused, IsRefusedAtOne}
 use Rattle.sidecar_core.specs.declared.config.Config.{Config}
-use Rattle.sidecar_core.specs.declared.objects.Objects.{Objects}
-use Rattle.sidecar_core.specs.declared.objects.Pass.{Pass}
-use Rattle.sidecar_core.specs.Composed.{lone_stays, sound_stays}
-use Rattle.sidecar_core.specs.Did.{CellsAt, IsLone, IsSoundPass, Kinds, SeatsAt, Shows, ShowsAt, Standing, spent_of}
+use Rattle.sidecar_objects.specs.declared.objects.Objects.{Objects}
+use Rattle.sidecar_objects.specs.declared.objects.Pass.{Pass}
+use Rattle.sidecar_objects.specs.Composed.{lone_stays, sound_stays}
+use Rattle.sidecar_objects.specs.Kind.{CellsAt, Kinds, SeatsAt, breakers, cells_in, ledgers, seats_in, stores}
+use Rattle.sidecar_objects.specs.Passes.{IsLone, IsSoundPass}
+use Rattle.sidecar_objects.specs.Shown.{Shows, ShowsAt, book_shows, spent_of}
+use Rattle.sidecar_objects.specs.Did.{Standing}
 use Rattle.turn_pass.specs.Pass.{count_shown}
-use Rattle.sidecar_core.specs.Did as shown
-use Rattle.sidecar_core.specs.Pass.{cells_of, seats_of}
+use Rattle.sidecar_objects.specs.Pass.{cells_of, seats_of}
 use Rattle.sidecar_core.specs.Shown.{some_seat}
 use Rattle.sidecar_core.specs.Started.{IsStarted}
 use Rattle.sidecar_words.specs.declared.given.Words.{Words}
@@ -52,7 +54,6 @@ use Rattle.sidecar_words.specs.declared.given.Mode.TheVariants as mode
 use Rattle.sidecar_words.specs.Meaning.{Means}
 use Rattle.sidecar_words.proofs.OneMeaning.{one_meaning}
 use Rattle.sidecar_cli.specs.Causes.{AllIsWell, AllIsWellOfCheck, AreRequests, EndsAsItShould, HasFault, HasSession, IsFileRefused, IsFull, IsFullAt, IsSpent, IsUntouched, IsWhy, IsWhyOfCheck, done, closed, asked}
-use Rattle.sidecar_cli.specs.Causes as full
 use Rattle.sidecar_cli.specs.Check.{IsCheck}
 use Rattle.sidecar_cli.specs.Check as check
 use Rattle.sidecar_cli.specs.Configured.{IsConfigured, Says}
@@ -85,12 +86,7 @@ each_root {O} {C} {R} P holds cells seats are = subst (λ (l : List (Sitting O C
 
 -- the pass of objects that have just begun is alone
 pub begins_lone : {D : Type 0} {disking : Keeps D} {keeping : Ghosts (AnyKeeper D disking)} {config config' : Config} {keepers : List (AnyKeeper D disking)} {objects : Objects (AnyKeeper D disking) keeping} {pass : Pass (AnyKeeper D disking) keeping} → IsStarted config keepers config' objects pass → IsLone (cells_of objects) (seats_of pass)
-begins_lone {objects = objects} {pass = pass} started = record {
-  stores = each_root (IsRootOf 0) (λ cell. ((refl, refl), refl, refl)) objects.stores.items pass.stores.items started.store_roots;
-  ledgers = each_root (IsRootOf 0) (λ cell. ((refl, refl), refl, refl)) objects.ledgers.items pass.ledgers.items started.ledger_roots;
-  breakers = each_root (IsRootOf 0) (λ cell. ((refl, refl), refl, refl)) objects.breakers.items pass.breakers.items started.breaker_roots;
-  notes = subst (IsRootOf 0 objects.notes) (sym started.notes_root) ((refl, refl), refl, refl);
-}
+begins_lone {objects = objects} {pass = pass} started = record { each = λ kind. each_root (IsRootOf 0) (λ cell. ((refl, refl), refl, refl)) (cells_in (cells_of objects) kind) (seats_in (seats_of pass) kind) (started.roots.each kind) }
 
 -- ---- an exhausted cell
 
@@ -109,10 +105,11 @@ module _ {O C R : Type 0} (object : ObjectGhosts O C R) (cells : List (Begun O))
       record { seat = seat; there = at; shows = shown; long = (sound.each k cell.0 seat cell.1 at).full (root.1, root.2) (subst IsSome (sym shown) refl) }
 
 pub full_of : {O : Type 0} (kinds : Kinds O) (cells : CellsAt O) (seats : SeatsAt O) (count : ℕ) → IsLone cells seats → IsSoundPass kinds cells seats → Shows seats count → IsFull seats count
-full_of kinds cells seats count lone sound (shown.store k shows) = full.store k (full_at kinds.store cells.stores seats.stores lone.stores sound.stores k count shows)
-full_of kinds cells seats count lone sound (shown.ledger k shows) = full.ledger k (full_at kinds.ledger cells.ledgers seats.ledgers lone.ledgers sound.ledgers k count shows)
-full_of kinds cells seats count lone sound (shown.breaker k shows) = full.breaker k (full_at kinds.breaker cells.breakers seats.breakers lone.breakers sound.breakers k count shows)
-full_of kinds cells seats count lone sound (shown.notes shows) = full.notes shows (sound.notes.full (lone.notes.1, lone.notes.2) (subst IsSome (sym shows) refl))
+full_of kinds cells seats count lone sound shows = record {
+  kind = shows.kind;
+  place = shows.place;
+  full = full_at (kinds shows.kind) (cells_in cells shows.kind) (seats_in seats shows.kind) (lone.each shows.kind) (sound.each shows.kind) shows.place count shows.shown;
+}
 
 -- a pass shows this count, and is alone and sound
 pub record IsShown {O : Type 0} (kinds : Kinds O) (cells : CellsAt O) (count : ℕ) : Type 0 where
@@ -121,21 +118,21 @@ pub record IsShown {O : Type 0} (kinds : Kinds O) (cells : CellsAt O) (count : �
   pub sound : IsSoundPass kinds cells seats
   pub shows : Shows seats count
 
-module _ {O : Type 0} (kinds : Kinds O) (cells : CellsAt O) (clock : Clocked) (calls : Option (List LinkCall)) (words : Stream) (count : ℕ) where
+module _ {O : Type 0} (kinds : Kinds O) (cells : CellsAt O) (clock : Clocked) (link : LinkAt) (words : Stream) (count : ℕ) where
   -- what is read of the first exhausted cell, this ledger's or a later one's, is shown by its seat
   one_shown : (place : ℕ) (name : List ℕ) (seats between : SeatsAt O) (text : List ℕ) (spent later : Option ℕ) (one : IsCountedOf kinds cells name place seats text spent between) (result : Result LedgerReply Exhausted) → one.result ≡ result → option_or spent later ≡ Some count → IsLone cells between
       → IsSoundPass kinds cells between → (later ≡ Some count → IsShown kinds cells count) → IsShown kinds cells count
   one_shown place name seats between text spent later one (Ok reply) is e lone sound others = others (subst (λ s. option_or s later ≡ Some count) (one.spent_is ∙ ap spent_told is) e)
   one_shown place name seats between text spent later one (Err exhausted) is e lone sound others =
       let same : exhausted.count ≡ count = same_count (subst (λ s. option_or s later ≡ Some count) (one.spent_is ∙ ap spent_told is) e) in
-      record { seats = between; lone = lone; sound = sound; shows = shown.ledger place (one.shows count (is ∙ ap (λ n. Err (record { count = n })) same)) }
+      record { seats = between; lone = lone; sound = sound; shows = record { kind = ledgers; place = place; shown = one.shows count (is ∙ ap (λ n. Err (record { count = n })) same) } }
 
   pub counts_shown : (place : ℕ) (cs : List Loaded) (seats : SeatsAt O) (texts : List (List ℕ)) (spent : Option ℕ) (seats' : SeatsAt O) → AreCountedOf kinds cells place cs seats texts spent seats' → spent ≡ Some count → IsLone cells seats → IsSoundPass kinds cells seats → IsShown kinds cells count
   counts_shown _ _ _ _ _ _ (none place seats) e lone sound = absurd (none_is_none e)
   counts_shown _ _ _ _ _ _ (more place c cs seats between seats' text texts spent later one others) e lone sound =
-      let d = one.does clock calls words in
-      let still = lone_stays kinds cells (record { seats = seats; clock = clock; calls = calls; words = words }) d.events (record { seats = between; clock = clock; calls = calls; words = words }) d.went lone in
-      let well = sound_stays kinds cells (record { seats = seats; clock = clock; calls = calls; words = words }) d.events (record { seats = between; clock = clock; calls = calls; words = words }) d.went sound in
+      let d = one.does clock link words in
+      let still = lone_stays kinds cells (record { seats = seats; clock = clock; link = link; words = words }) d.events (record { seats = between; clock = clock; link = link; words = words }) d.went lone in
+      let well = sound_stays kinds cells (record { seats = seats; clock = clock; link = link; words = words }) d.events (record { seats = between; clock = clock; link = link; words = words }) d.went sound in
       one_shown place c.name seats between text spent later one one.result refl e still well (λ behind. counts_shown (suc place) cs between texts later seats' others behind still well)
 
 shown_first : {O C R : Type 0} (seat : Sitting O C R) (seats : List (Sitting O C R)) (count : ℕ) (read : Option ℕ) → seat.count ≡ read → either_count read (count_shown seats) ≡ Some count → (count_shown seats ≡ Some count → (k : ℕ) × ShowsAt k count seats) → (k : ℕ) × ShowsAt k count (seat ∷ seats)
@@ -153,18 +150,18 @@ one_of (Some n) other count e = inl e
 
 -- a seat of the pass shows its first count
 pub spent_shown : {O : Type 0} (seats : SeatsAt O) (count : ℕ) → spent_of seats ≡ Some count → Shows seats count
-spent_shown seats count e = ⊎_elim (λ is. let at = shown_at seats.stores count is in shown.store at.0 at.1)
-    (λ later. ⊎_elim (λ is. let at = shown_at seats.ledgers count is in shown.ledger at.0 at.1)
-    (λ last. ⊎_elim (λ is. let at = shown_at seats.breakers count is in shown.breaker at.0 at.1) (λ is. shown.notes is)
+spent_shown seats count e = ⊎_elim (λ is. let at = shown_at seats.stores count is in record { kind = stores; place = at.0; shown = at.1 })
+    (λ later. ⊎_elim (λ is. let at = shown_at seats.ledgers count is in record { kind = ledgers; place = at.0; shown = at.1 })
+    (λ last. ⊎_elim (λ is. let at = shown_at seats.breakers count is in record { kind = breakers; place = at.0; shown = at.1 }) (λ is. book_shows seats count is)
     (one_of (count_shown seats.breakers) seats.notes.count count last)) (one_of (count_shown seats.ledgers) (option_or (count_shown seats.breakers) seats.notes.count) count later))
     (one_of (count_shown seats.stores) (option_or (count_shown seats.ledgers) (option_or (count_shown seats.breakers) seats.notes.count)) count e)
 
 -- what is spent behind a pass is shown by it, or as the ledgers are counted by it
-pub met_of : {O : Type 0} (kinds : Kinds O) (cells : CellsAt O) (clock : Clocked) (calls : Option (List LinkCall)) (words : Stream) (count : ℕ) (cs : List Loaded) (seats : SeatsAt O) (texts : List (List ℕ)) (counted : Option ℕ) (seats' : SeatsAt O)
+pub met_of : {O : Type 0} (kinds : Kinds O) (cells : CellsAt O) (clock : Clocked) (link : LinkAt) (words : Stream) (count : ℕ) (cs : List Loaded) (seats : SeatsAt O) (texts : List (List ℕ)) (counted : Option ℕ) (seats' : SeatsAt O)
     → AreCountedOf kinds cells 0 cs seats texts counted seats' → IsLone cells seats → IsSoundPass kinds cells seats → option_or (spent_of seats) counted ≡ Some count → IsShown kinds cells count
-met_of kinds cells clock calls words count cs seats texts counted seats' told lone sound e =
+met_of kinds cells clock link words count cs seats texts counted seats' told lone sound e =
     ⊎_elim (λ is. record { seats = seats; lone = lone; sound = sound; shows = spent_shown seats count is })
-    (λ is. counts_shown kinds cells clock calls words count 0 cs seats texts counted seats' told is lone sound) (one_of (spent_of seats) counted count e)
+    (λ is. counts_shown kinds cells clock link words count 0 cs seats texts counted seats' told is lone sound) (one_of (spent_of seats) counted count e)
 
 -- an error of a start that isn't want of memory
 abbrev pub TellsMore : KeepersErr → Type 0

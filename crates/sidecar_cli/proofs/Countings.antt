@@ -9,10 +9,12 @@ use Rattle.std.proofs.lemmas.List.Elements.{filter-append}
 use Rattle.std.proofs.lemmas.List.Filters.{length-filter_both}
 use Rattle.rand_core.specs.Stream.{Stream}
 use Rattle.policy_run.specs.Effects.{Clocked}
+use Rattle.link_call.specs.LinkAt.{LinkAt}
 use Rattle.conn_serve.specs.Ends.{SinkAt}
 use Rattle.resource_spec.specs.Component.{Loaded}
-use Rattle.sidecar_core.specs.Composed.{lone_stays, pass_stays, sound_stays}
-use Rattle.sidecar_core.specs.Did.{CellsAt, IsLone, IsPassOf, IsSoundPass, Kinds, SeatsAt}
+use Rattle.sidecar_objects.specs.Composed.{lone_stays, pass_stays, sound_stays}
+use Rattle.sidecar_objects.specs.Kind.{CellsAt, Kinds, SeatsAt}
+use Rattle.sidecar_objects.specs.Passes.{IsLone, IsPassOf, IsSoundPass}
 use Rattle.sidecar_core.specs.Sites.{is_pubsub, pubsubs_of}
 use Rattle.sidecar_cli.specs.Counting.{AreCountedOf, IsCountedOf, IsTold, none, more}
 use Rattle.sidecar_cli.specs.Note.{AreNoted, IsNoted}
@@ -20,9 +22,12 @@ use Rattle.sidecar_cli.proofs.Noted.{noted_more}
 
 -- ---- the brokers
 
--- a clock and random words, of which nothing is asked
+-- a clock, a link and random words, of which nothing is asked
 pub still : Clocked
 still = record { last = 0; paused = 0; ticks = None }
+
+pub unasked : LinkAt
+unasked = record { calls = None; faults = 0; expiries = 0 }
 
 pub silent : Stream
 silent = record { u32_after = λ cs. 0; u64_after = λ cs. 0; bytes_after = λ cs n. [] }
@@ -43,17 +48,17 @@ few components =
 
 module _ {O : Type 0} (kinds : Kinds O) (cells : CellsAt O) where
   pub pass_counted : (name : List ℕ) (place : ℕ) (seats seats' : SeatsAt O) (text : List ℕ) (spent : Option ℕ) → IsCountedOf kinds cells name place seats text spent seats' → IsPassOf cells seats → IsPassOf cells seats'
-  pass_counted name place seats seats' text spent counted of = pass_stays kinds cells (record { seats = seats; clock = still; calls = None; words = silent }) _ (record { seats = seats'; clock = still; calls = None; words = silent }) (counted.does still None silent).went of
+  pass_counted name place seats seats' text spent counted of = pass_stays kinds cells (record { seats = seats; clock = still; link = unasked; words = silent }) _ (record { seats = seats'; clock = still; link = unasked; words = silent }) (counted.does still unasked silent).went of
 
   pub lone_counted : (place : ℕ) (cs : List Loaded) (seats seats' : SeatsAt O) (texts : List (List ℕ)) (spent : Option ℕ) → AreCountedOf kinds cells place cs seats texts spent seats' → IsLone cells seats → IsLone cells seats'
   lone_counted _ _ _ _ _ _ (none place seats) lone = lone
   lone_counted _ _ _ _ _ _ (more place c cs seats between seats' text texts spent later counted behind) lone =
-      lone_counted (suc place) cs between seats' texts later behind (lone_stays kinds cells (record { seats = seats; clock = still; calls = None; words = silent }) _ (record { seats = between; clock = still; calls = None; words = silent }) (counted.does still None silent).went lone)
+      lone_counted (suc place) cs between seats' texts later behind (lone_stays kinds cells (record { seats = seats; clock = still; link = unasked; words = silent }) _ (record { seats = between; clock = still; link = unasked; words = silent }) (counted.does still unasked silent).went lone)
 
   pub sound_counted : (place : ℕ) (cs : List Loaded) (seats seats' : SeatsAt O) (texts : List (List ℕ)) (spent : Option ℕ) → AreCountedOf kinds cells place cs seats texts spent seats' → IsSoundPass kinds cells seats → IsSoundPass kinds cells seats'
   sound_counted _ _ _ _ _ _ (none place seats) sound = sound
   sound_counted _ _ _ _ _ _ (more place c cs seats between seats' text texts spent later counted behind) sound =
-      sound_counted (suc place) cs between seats' texts later behind (sound_stays kinds cells (record { seats = seats; clock = still; calls = None; words = silent }) _ (record { seats = between; clock = still; calls = None; words = silent }) (counted.does still None silent).went sound)
+      sound_counted (suc place) cs between seats' texts later behind (sound_stays kinds cells (record { seats = seats; clock = still; link = unasked; words = silent }) _ (record { seats = between; clock = still; link = unasked; words = silent }) (counted.does still unasked silent).went sound)
 
   -- one more broker behind the others
   pub counted_on : (place at : ℕ) (c : Loaded) (cs : List Loaded) (seats between seats' : SeatsAt O) (texts : List (List ℕ)) (text : List ℕ) (spent later : Option ℕ) → at ≡ place + length cs → AreCountedOf kinds cells place cs seats texts spent between → IsCountedOf kinds cells c.name at between text later seats'

@@ -19,12 +19,13 @@ use Rattle.state_core.specs.declared.store.Store.{Store}
 use Rattle.state_core.specs.Store.{Stands, keeper_of}
 use Rattle.rand_core.specs.Stream.{Stream}
 use Rattle.sidecar_core.specs.declared.config.Config.{Config}
-use Rattle.sidecar_core.specs.declared.objects.Objects.{Objects}
-use Rattle.sidecar_core.specs.declared.objects.Pass.{Pass}
+use Rattle.sidecar_objects.specs.declared.objects.Objects.{Objects}
+use Rattle.sidecar_objects.specs.declared.objects.Pass.{Pass}
 use Rattle.conn_serve.specs.declared.ended.Ended.{Ended}
-use Rattle.sidecar_core.specs.Composed.{lone_stays, sound_stays}
-use Rattle.sidecar_core.specs.Did.{IsLone, IsSoundPass, Kinds, SeatsAt}
-use Rattle.sidecar_core.specs.Pass.{cells_of, seats_of}
+use Rattle.sidecar_objects.specs.Composed.{lone_stays, sound_stays}
+use Rattle.sidecar_objects.specs.Passes.{IsLone, IsSoundPass}
+use Rattle.sidecar_objects.specs.Kind.{Kinds, SeatsAt, book, breakers, ledgers, stores}
+use Rattle.sidecar_objects.specs.Pass.{cells_of, seats_of}
 use Rattle.sidecar_core.specs.Sites as sites
 use Rattle.sidecar_core.specs.Started.{IsStarted}
 use Rattle.sidecar_keepers.specs.Kinds.{Fits, AllFit}
@@ -79,6 +80,10 @@ filter_same f g same (x ∷ xs) = rw (same x, filter_same f g same xs) refl
 pub same_stores : (components : List Loaded) → choice.stores_of components ≡ sites.stores_of components
 same_stores components = filter_same _ _ (λ c. same_choice c.kind) components
 
+-- lists of one item each are the same, and so are their items
+head_same : {X : Type 0} (x y : X) → x ∷ [] ≡ y ∷ [] → x ≡ y
+head_same x y same = ap (λ l. get_or l 0 x) same
+
 module _ {D : Type 0} {disking : Keeps D} {keeping : Ghosts (AnyKeeper D disking)} where
   -- the keepers that a start was given fit the stores that it made
   pub fit_started : {config config' : Config} {keepers : List (AnyKeeper D disking)} {objects : Objects (AnyKeeper D disking) keeping} {pass : Pass (AnyKeeper D disking) keeping}
@@ -87,7 +92,7 @@ module _ {D : Type 0} {disking : Keeps D} {keeping : Ghosts (AnyKeeper D disking
 
   -- the pass that was started has neither seen nor done anything
   pub root_started : {config config' : Config} {keepers : List (AnyKeeper D disking)} {objects : Objects (AnyKeeper D disking) keeping} {pass : Pass (AnyKeeper D disking) keeping} → IsStarted config keepers config' objects pass → seats_of pass ≡ root_pass 0 (cells_of objects)
-  root_started started = λ i. record { stores = started.store_roots i; ledgers = started.ledger_roots i; breakers = started.breaker_roots i; notes = started.notes_root i }
+  root_started {objects = objects} {pass = pass} started = λ i. record { stores = started.roots.each stores i; ledgers = started.roots.each ledgers i; breakers = started.roots.each breakers i; notes = head_same pass.notes (root_of objects.notes) (started.roots.each book) i }
 
   -- what was started over the configuration that was given
   pub started_of : {config config' : Config} {keepers : List (AnyKeeper D disking)} {objects : Objects (AnyKeeper D disking) keeping} {pass : Pass (AnyKeeper D disking) keeping}
@@ -109,12 +114,12 @@ module _ {D : Type 0} {disking : Keeps D} {keeping : Ghosts (AnyKeeper D disking
 -- a pass that is alone stays so
 pub lone_served : {D : Type 0} {disking : Keeps D} {keeping : Ghosts (AnyKeeper D disking)} {kinds : Kinds (Store (AnyKeeper D disking) keeping)} {config : Config} {objects : Objects (AnyKeeper D disking) keeping} {pass after : Pass (AnyKeeper D disking) keeping} {words : Stream} {world world' : WorldAt} {ended : Ended}
     → IsServed kinds config objects pass after words world world' ended → IsLone (cells_of objects) (seats_of pass) → IsLone (cells_of objects) (seats_of after)
-lone_served {kinds = kinds} {objects = objects} {pass = pass} {after = after} {words = words} {world = world} {world' = world'} served lone = lone_stays kinds (cells_of objects) (record { seats = seats_of pass; clock = world.clock; calls = world.link; words = words }) _ (record { seats = seats_of after; clock = world'.clock; calls = world'.link; words = served.rest }) served.served.acted lone
+lone_served {kinds = kinds} {objects = objects} {pass = pass} {after = after} {words = words} {world = world} {world' = world'} served lone = lone_stays kinds (cells_of objects) (record { seats = seats_of pass; clock = world.clock; link = world.link; words = words }) _ (record { seats = seats_of after; clock = world'.clock; link = world'.link; words = served.rest }) served.served.acted lone
 
 -- what holds of every seat goes on to hold
 pub sound_served : {D : Type 0} {disking : Keeps D} {keeping : Ghosts (AnyKeeper D disking)} {kinds : Kinds (Store (AnyKeeper D disking) keeping)} {config : Config} {objects : Objects (AnyKeeper D disking) keeping} {pass after : Pass (AnyKeeper D disking) keeping} {words : Stream} {world world' : WorldAt} {ended : Ended}
     → IsServed kinds config objects pass after words world world' ended → IsSoundPass kinds (cells_of objects) (seats_of pass) → IsSoundPass kinds (cells_of objects) (seats_of after)
-sound_served {kinds = kinds} {objects = objects} {pass = pass} {after = after} {words = words} {world = world} {world' = world'} served sound = sound_stays kinds (cells_of objects) (record { seats = seats_of pass; clock = world.clock; calls = world.link; words = words }) _ (record { seats = seats_of after; clock = world'.clock; calls = world'.link; words = served.rest }) served.served.acted sound
+sound_served {kinds = kinds} {objects = objects} {pass = pass} {after = after} {words = words} {world = world} {world' = world'} served sound = sound_stays kinds (cells_of objects) (record { seats = seats_of pass; clock = world.clock; link = world.link; words = words }) _ (record { seats = seats_of after; clock = world'.clock; link = world'.link; words = served.rest }) served.served.acted sound
 
 -- numbers were given, and the outside is as before but for them
 pub numbered : (world : WorldAt) (after : OutsideAt) → after.disks ≡ world.outside.disks → after.calls ≡ world.outside.calls → after.backs ≡ world.outside.backs → after.faults ≡ world.outside.faults

@@ -12,15 +12,15 @@ use Rattle.turn_cell.proofs.Growing.{each_none, each_on}
 use Rattle.ledger_core.specs.declared.reply.LedgerReply.{LedgerReply}
 use Rattle.ledger_core.specs.Message.{Step}
 use Rattle.resource_spec.specs.Component.{Loaded}
-use Rattle.sidecar_core.specs.declared.doing.Doing.{Doing}
+use Rattle.sidecar_objects.specs.declared.doing.Doing.{Doing}
 use Rattle.sidecar_core.specs.Delivery.{Counted}
 use Rattle.sidecar_core.specs.Delivery as delivery
-use Rattle.sidecar_core.specs.Did.{CellsAt, Kinds, SeatsAt}
-use Rattle.sidecar_core.specs.Doing.{entered_at}
+use Rattle.sidecar_objects.specs.Kind.{CellsAt, Kinds, SeatsAt, ledgers}
+use Rattle.sidecar_objects.specs.Doing.{steps_at}
 use Rattle.sidecar_core.specs.Sites.{pubsubs_of}
 use Rattle.sidecar_cli.specs.Counting.{AreCountedOf, line_told, none, more}
 use Rattle.sidecar_cli.specs.Lines.{HasCounted, HaveOwnLines, counted, exhausted}
-use Rattle.sidecar_cli.proofs.Countings.{silent, still}
+use Rattle.sidecar_cli.proofs.Countings.{silent, still, unasked}
 
 -- ---- one broker
 
@@ -35,15 +35,15 @@ other_place i k far = by (i == k) (Decides-eqb i k) where
 
 -- what was done for one broker: the ledger at its place made the step that counts, and the others none
 record OneCounted (place : ℕ) (events : List Doing) (result : Result LedgerReply Exhausted) : Type 0 where
-  pub here : HasCounted (flat_map (entered_at place) events) result
-  pub elsewhere : (k : ℕ) → (place ≡ k → ⊥) → flat_map (entered_at k) events ≡ []
+  pub here : HasCounted (flat_map (steps_at ledgers place) events) result
+  pub elsewhere : (k : ℕ) → (place ≡ k → ⊥) → flat_map (steps_at ledgers k) events ≡ []
 
 one_counted : (place : ℕ) (events : List Doing) (result : Result LedgerReply Exhausted) → Counted place events result → OneCounted place events result
 one_counted place events result (delivery.stepped step cmd did is) = record {
-  here = counted step cmd (ap (flat_map (entered_at place)) did ∙ ap (λ (b : Bool). (if b then step ∷ [] else []) ++ []) (same_place place)) is;
-  elsewhere = λ k far. ap (flat_map (entered_at k)) did ∙ ap (λ (b : Bool). (if b then step ∷ [] else []) ++ []) (other_place place k far);
+  here = counted step cmd (ap (flat_map (steps_at ledgers place)) did ∙ ap (λ (b : Bool). (if b then step ∷ [] else []) ++ []) (same_place place)) is;
+  elsewhere = λ k far. ap (flat_map (steps_at ledgers k)) did ∙ ap (λ (b : Bool). (if b then step ∷ [] else []) ++ []) (other_place place k far);
 }
-one_counted place events result (delivery.exhausted e did is) = record { here = exhausted e (ap (flat_map (entered_at place)) did) is; elsewhere = λ k far. ap (flat_map (entered_at k)) did }
+one_counted place events result (delivery.exhausted e did is) = record { here = exhausted e (ap (flat_map (steps_at ledgers place)) did) is; elsewhere = λ k far. ap (flat_map (steps_at ledgers k)) did }
 
 -- ---- brokers from a place on
 
@@ -57,7 +57,7 @@ record OwnAt (brokers : List Loaded) (texts : List (List ℕ)) (made : ℕ → L
 
 record OwnFrom {O : Type 0} (kinds : Kinds O) (cells : CellsAt O) (place : ℕ) (brokers : List Loaded) (seats seats' : SeatsAt O) (texts : List (List ℕ)) : Type 0 where
   pub made : ℕ → List Step
-  pub grew : EachGrew kinds.ledger cells.ledgers seats.ledgers made seats'.ledgers
+  pub grew : EachGrew (kinds ledgers) cells.ledgers seats.ledgers made seats'.ledgers
   pub wide : length texts ≡ length brokers
   pub own : (k at : ℕ) → k < length brokers → at ≡ place + k → OwnAt brokers texts made k at
   pub before : (k : ℕ) → k < place → made k ≡ []
@@ -65,12 +65,12 @@ record OwnFrom {O : Type 0} (kinds : Kinds O) (cells : CellsAt O) (place : ℕ) 
 
 module _ {O : Type 0} (kinds : Kinds O) (cells : CellsAt O) where
   module _ (place : ℕ) (c : Loaded) (cs : List Loaded) (seats between seats' : SeatsAt O) (text : List ℕ) (texts : List (List ℕ)) (result : Result LedgerReply Exhausted) (events : List Doing) (one : OneCounted place events result) (text_is : text ≡ line_told c.name result)
-      (grew : EachGrew kinds.ledger cells.ledgers seats.ledgers (λ k. flat_map (entered_at k) events) between.ledgers) (rest : OwnFrom kinds cells (suc place) cs between seats' texts) where
+      (grew : EachGrew (kinds ledgers) cells.ledgers seats.ledgers (λ k. flat_map (steps_at ledgers k) events) between.ledgers) (rest : OwnFrom kinds cells (suc place) cs between seats' texts) where
     abbrev all_made : ℕ → List Step
-    all_made k = flat_map (entered_at k) events ++ rest.made k
+    all_made k = flat_map (steps_at ledgers k) events ++ rest.made k
 
-    first_made : (at : ℕ) → at ≡ place → all_made at ≡ flat_map (entered_at place) events
-    first_made at same = ap all_made same ∙ (ap (λ (l : List Step). flat_map (entered_at place) events ++ l) (rest.before place (omega arith)) ∙ append-nil (flat_map (entered_at place) events))
+    first_made : (at : ℕ) → at ≡ place → all_made at ≡ flat_map (steps_at ledgers place) events
+    first_made at same = ap all_made same ∙ (ap (λ (l : List Step). flat_map (steps_at ledgers place) events ++ l) (rest.before place (omega arith)) ∙ append-nil (flat_map (steps_at ledgers place) events))
 
     later_made : (at : ℕ) → (place ≡ at → ⊥) → all_made at ≡ rest.made at
     later_made at far = ap (λ (l : List Step). l ++ rest.made at) (one.elsewhere at far)
@@ -96,7 +96,7 @@ module _ {O : Type 0} (kinds : Kinds O) (cells : CellsAt O) where
     own_more : OwnFrom kinds cells place (c ∷ cs) seats seats' (text ∷ texts)
     own_more = let wide = rest.wide in record {
       made = all_made;
-      grew = each_on kinds.ledger cells.ledgers seats.ledgers (λ k. flat_map (entered_at k) events) between.ledgers rest.made seats'.ledgers grew rest.grew;
+      grew = each_on (kinds ledgers) cells.ledgers seats.ledgers (λ k. flat_map (steps_at ledgers k) events) between.ledgers rest.made seats'.ledgers grew rest.grew;
       wide = omega (arith, wide);
       own = own_at;
       before = λ k low. later_made k (λ (same : place ≡ k). omega (arith, same, low)) ∙ rest.before k (omega (arith, low));
@@ -106,15 +106,15 @@ module _ {O : Type 0} (kinds : Kinds O) (cells : CellsAt O) where
   own_from : (place : ℕ) (cs : List Loaded) (seats seats' : SeatsAt O) (texts : List (List ℕ)) (spent : Option ℕ) → AreCountedOf kinds cells place cs seats texts spent seats' → OwnFrom kinds cells place cs seats seats' texts
   own_from _ _ _ _ _ _ (none place seats) = record {
     made = λ k. [];
-    grew = each_none kinds.ledger cells.ledgers seats.ledgers (λ k. []) (λ k. refl);
+    grew = each_none (kinds ledgers) cells.ledgers seats.ledgers (λ k. []) (λ k. refl);
     wide = refl;
     own = λ k at low is. absurd (omega (arith, low));
     before = λ k low. refl;
     behind = λ k high. refl;
   }
   own_from _ _ _ _ _ _ (more place c cs seats between seats' text texts spent later one rest) =
-      let d = one.does still None silent in
-      own_more place c cs seats between seats' text texts one.result d.events (one_counted place d.events one.result d.held) one.text_is d.went.ledgers (own_from (suc place) cs between seats' texts later rest)
+      let d = one.does still unasked silent in
+      own_more place c cs seats between seats' text texts one.result d.events (one_counted place d.events one.result d.held) one.text_is (d.went.grew ledgers) (own_from (suc place) cs between seats' texts later rest)
 
   -- each broker has its own line
   pub own_lines : (components : List Loaded) (seats seats' : SeatsAt O) (texts : List (List ℕ)) (spent : Option ℕ) → AreCountedOf kinds cells 0 (pubsubs_of components) seats texts spent seats' → HaveOwnLines kinds cells components seats seats' texts

@@ -14,10 +14,10 @@ use Rattle.sidecar_keepers.specs.declared.starting.KeepersErr.{KeepersErr}
 use Rattle.sidecar_keepers.specs.declared.starting.KeepersErr.TheVariants as lack
 use Rattle.sidecar_keepers.specs.Refused.{Counts, IsRefused}
 use Rattle.sidecar_core.specs.declared.config.Config.{Config}
-use Rattle.sidecar_core.specs.declared.objects.Objects.{Objects}
-use Rattle.sidecar_core.specs.declared.objects.Pass.{Pass}
-use Rattle.sidecar_core.specs.Did.{Kinds}
-use Rattle.sidecar_core.specs.Pass.{cells_of, seats_of}
+use Rattle.sidecar_objects.specs.declared.objects.Objects.{Objects}
+use Rattle.sidecar_objects.specs.declared.objects.Pass.{Pass}
+use Rattle.sidecar_objects.specs.Kind.{Kinds}
+use Rattle.sidecar_objects.specs.Pass.{cells_of, seats_of}
 use Rattle.sidecar_workers.specs.declared.exit.Exit.{Exit}
 use Rattle.sidecar_workers.specs.declared.exit.Exit.TheVariants as exits
 use Rattle.sidecar_serving.specs.declared.end.End.{End}
@@ -47,7 +47,7 @@ use Rattle.sidecar_cli.specs.declared.status.Device.TheVariants as device
 use Rattle.sidecar_cli.specs.declared.status.Status.{Status}
 use Rattle.sidecar_cli.specs.declared.status.Status.TheVariants as status
 use Rattle.sidecar_cli.proofs.Causes.{IsFiles, TellsMore, WhyUnread, full_of, met_of, none_is_none, same_count, why_unread}
-use Rattle.sidecar_cli.proofs.Countings.{silent, still}
+use Rattle.sidecar_cli.proofs.Countings.{silent, still, unasked}
 use Rattle.sidecar_cli.proofs.Fitting.{root_started}
 use Rattle.sidecar_cli.proofs.Serves.{served_sound}
 use Rattle.sidecar_cli.proofs.Shown.{AllWide, all_wide_worked, met_among, shown_after, wide_root}
@@ -202,7 +202,7 @@ module _ {D : Type 0} {disking : Keeps D} {keeping : Ghosts (AnyKeeper D disking
   why_spent_counting : (count : ℕ) → HasServing kinds world world' (Some count) → IsSpentInServing kinds world world' count
   why_spent_counting count serving =
       let cells = cells_of serving.objects in
-      let met = met_of kinds cells still None silent count _ (seats_of serving.after) _ serving.counted (seats_of serving.last) serving.told.counted serving.met.lone serving.sound (sym serving.spent_is) in
+      let met = met_of kinds cells still unasked silent count _ (seats_of serving.after) _ serving.counted (seats_of serving.last) serving.told.counted serving.met.lone serving.sound (sym serving.spent_is) in
       record {
         spent = Some count;
         serving = serving;

@@ -9,9 +9,10 @@ use Rattle.keeper_journal.specs.declared.any_keeper.AnyKeeper.{AnyKeeper}
 use Rattle.state_core.specs.declared.store.Store.{Store}
 use Rattle.conn_serve.specs.Ends.{SinkAt}
 use Rattle.sidecar_core.specs.declared.config.Config.{Config}
-use Rattle.sidecar_core.specs.declared.objects.Objects.{Objects}
-use Rattle.sidecar_core.specs.declared.objects.Pass.{Pass}
-use Rattle.sidecar_core.specs.Did.{CellsAt, IsSoundPass, Kinds}
+use Rattle.sidecar_objects.specs.declared.objects.Objects.{Objects}
+use Rattle.sidecar_objects.specs.declared.objects.Pass.{Pass}
+use Rattle.sidecar_objects.specs.Kind.{CellsAt, Kinds}
+use Rattle.sidecar_objects.specs.Passes.{IsSoundPass}
 use Rattle.sidecar_serving.specs.declared.end.End.{End}
 use Rattle.sidecar_serving.specs.Met.{AreMet, HubAt, nobody, one}
 use Rattle.sidecar_serving.specs.Opened.{WorkerAt}

@@ -8,11 +8,13 @@ use Rattle.turn_cell.specs.Passes.{EachMet}
 use Rattle.turn_cell.proofs.Lists.{in_range, there}
 use Rattle.rand_core.specs.Stream.{Stream}
 use Rattle.sidecar_core.specs.declared.config.Config.{Config}
-use Rattle.sidecar_core.specs.Did.{CellsAt, Kinds, SeatsAt, Shows, ShowsAt}
-use Rattle.sidecar_core.specs.Did as shown
+use Rattle.sidecar_objects.specs.Kind.{CellsAt, Kind, Kinds, SeatsAt, cells_in, seats_in}
+use Rattle.sidecar_objects.proofs.ByKind.{by_kind}
+use Rattle.sidecar_objects.specs.Shown.{Shows, ShowsAt}
 use Rattle.sidecar_serving.specs.Met.{AreMet, HubAt, IsMet, nobody, one}
 use Rattle.sidecar_serving.specs.Opened.{AreWorkers, HasWorked, WorkerAt}
-use Rattle.sidecar_serving.specs.Passes.{MetPass, root_pass, root_seat, worker_pass, worker_seat}
+use Rattle.sidecar_objects.specs.Passes.{MetPass}
+use Rattle.sidecar_serving.specs.Passes.{root_pass, root_seat, worker_pass, worker_seat}
 use Rattle.sidecar_cli.proofs.Serves.{met_nobody}
 
 either_later : (one other : Option ℕ) (count : ℕ) → other ≡ Some count → (shown : ℕ) × (either_count one other ≡ Some shown)
@@ -53,39 +55,37 @@ module _ {O C R : Type 0} (object : Ghosts O C R) where
 
 -- as many seats of each kind as cells
 pub record IsAsWide {O : Type 0} (cells : CellsAt O) (seats : SeatsAt O) : Type 0 where
-  pub stores : length seats.stores ≡ length cells.stores
-  pub ledgers : length seats.ledgers ≡ length cells.ledgers
-  pub breakers : length seats.breakers ≡ length cells.breakers
+  pub each : (kind : Kind) → length (seats_in seats kind) ≡ length (cells_in cells kind)
 
 module _ {O : Type 0} (kinds : Kinds O) (cells : CellsAt O) where
   pub wide_root : (out : ℕ) → IsAsWide cells (root_pass out cells)
-  wide_root out = record { stores = length-map cells.stores (root_seat out); ledgers = length-map cells.ledgers (root_seat out); breakers = length-map cells.breakers (root_seat out) }
+  wide_root out = record { each = by_kind _ (length-map cells.stores (root_seat out)) (length-map cells.ledgers (root_seat out)) (length-map cells.breakers (root_seat out)) refl }
 
   wide_worker : (number : ℕ) → IsAsWide cells (worker_pass number cells)
-  wide_worker number = record { stores = length-map cells.stores (worker_seat number); ledgers = length-map cells.ledgers (worker_seat number); breakers = length-map cells.breakers (worker_seat number) }
+  wide_worker number = record { each = by_kind _ (length-map cells.stores (worker_seat number)) (length-map cells.ledgers (worker_seat number)) (length-map cells.breakers (worker_seat number)) refl }
 
   wide_worked : (config : Config) (number : ℕ) (words : Stream) (w : WorkerAt O) → HasWorked config kinds cells number words w → IsAsWide cells w.reached.at.seats
   wide_worked config number words w worked =
       let start = subst (IsAsWide cells) (sym worked.pass) (wide_worker number) in
       let went = worked.done.went in
-      record { stores = went.stores.wide ∙ start.stores; ledgers = went.ledgers.wide ∙ start.ledgers; breakers = went.breakers.wide ∙ start.breakers }
+      record { each = λ kind. (went.grew kind).wide ∙ start.each kind }
 
   module _ (root other after : SeatsAt O) (met : MetPass kinds cells root other after) (wide : IsAsWide cells root) where
     wide_met : IsAsWide cells after
-    wide_met = record { stores = met.stores.wide ∙ wide.stores; ledgers = met.ledgers.wide ∙ wide.ledgers; breakers = met.breakers.wide ∙ wide.breakers }
+    wide_met = record { each = λ kind. (met.each kind).wide ∙ wide.each kind }
 
     module _ (also : IsAsWide cells other) where
       keeps : (count : ℕ) → Shows root count → Shows after count
-      keeps count (shown.store k shows) = shown.store k (keeps_shown kinds.store cells.stores root.stores other.stores after.stores met.stores wide.stores also.stores k count shows)
-      keeps count (shown.ledger k shows) = shown.ledger k (keeps_shown kinds.ledger cells.ledgers root.ledgers other.ledgers after.ledgers met.ledgers wide.ledgers also.ledgers k count shows)
-      keeps count (shown.breaker k shows) = shown.breaker k (keeps_shown kinds.breaker cells.breakers root.breakers other.breakers after.breakers met.breakers wide.breakers also.breakers k count shows)
-      keeps count (shown.notes shows) = shown.notes (keeps_one kinds.notes cells.notes.first root.notes other.notes after.notes met.notes count shows)
+      keeps count shows = record {
+        kind = shows.kind;
+        place = shows.place;
+        shown = keeps_shown (kinds shows.kind) (cells_in cells shows.kind) (seats_in root shows.kind) (seats_in other shows.kind) (seats_in after shows.kind) (met.each shows.kind) (wide.each shows.kind) (also.each shows.kind) shows.place count shows.shown;
+      }
 
       takes : (count : ℕ) → Shows other count → (read : ℕ) × Shows after read
-      takes count (shown.store k shows) = let t = takes_shown kinds.store cells.stores root.stores other.stores after.stores met.stores wide.stores also.stores k count shows in (t.0, shown.store k t.1)
-      takes count (shown.ledger k shows) = let t = takes_shown kinds.ledger cells.ledgers root.ledgers other.ledgers after.ledgers met.ledgers wide.ledgers also.ledgers k count shows in (t.0, shown.ledger k t.1)
-      takes count (shown.breaker k shows) = let t = takes_shown kinds.breaker cells.breakers root.breakers other.breakers after.breakers met.breakers wide.breakers also.breakers k count shows in (t.0, shown.breaker k t.1)
-      takes count (shown.notes shows) = let t = takes_one kinds.notes cells.notes.first root.notes other.notes after.notes met.notes count shows in (t.0, shown.notes t.1)
+      takes count shows =
+          let t = takes_shown (kinds shows.kind) (cells_in cells shows.kind) (seats_in root shows.kind) (seats_in other shows.kind) (seats_in after shows.kind) (met.each shows.kind) (wide.each shows.kind) (also.each shows.kind) shows.place count shows.shown in
+          (t.0, record { kind = shows.kind; place = shows.place; shown = t.1 })
 
   -- ---- workers that were met, one after the other
 

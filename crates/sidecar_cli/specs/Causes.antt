@@ -21,10 +21,12 @@ use Rattle.resource_files.specs.Refusals.{told_as}
 use Rattle.sidecar_keepers.specs.declared.starting.KeepersErr.TheVariants.{NotAJournal}
 use Rattle.sidecar_keepers.specs.Refused.{IsRefusedAtOne}
 use Rattle.sidecar_core.specs.declared.config.Config.{Config}
-use Rattle.sidecar_core.specs.declared.objects.Objects.{Objects}
-use Rattle.sidecar_core.specs.declared.objects.Pass.{Pass}
-use Rattle.sidecar_core.specs.Did.{IsLone, IsSoundPass, Kinds, SeatsAt, spent_of}
-use Rattle.sidecar_core.specs.Pass.{cells_of, seats_of}
+use Rattle.sidecar_objects.specs.declared.objects.Objects.{Objects}
+use Rattle.sidecar_objects.specs.declared.objects.Pass.{Pass}
+use Rattle.sidecar_objects.specs.Passes.{IsLone, IsSoundPass}
+use Rattle.sidecar_objects.specs.Kind.{Kind, Kinds, SeatsAt, seats_in}
+use Rattle.sidecar_objects.specs.Shown.{spent_of}
+use Rattle.sidecar_objects.specs.Pass.{cells_of, seats_of}
 use Rattle.sidecar_words.specs.declared.given.Words.{Words}
 use Rattle.sidecar_cli.specs.Configured.{IsConfigured}
 use Rattle.sidecar_cli.specs.Counting.{IsTold}
@@ -84,11 +86,10 @@ pub record IsFullAt {O C R : Type 0} (k count : ℕ) (seats : List (Sitting O C 
   pub long : length seat.seen ≡ 2 ^ 62
 
 -- a seat of the pass does
-pub data IsFull {O : Type 0} (seats : SeatsAt O) (count : ℕ) : Type 0 where
-  store : (k : ℕ) → IsFullAt k count seats.stores → IsFull seats count
-  ledger : (k : ℕ) → IsFullAt k count seats.ledgers → IsFull seats count
-  breaker : (k : ℕ) → IsFullAt k count seats.breakers → IsFull seats count
-  notes : seats.notes.count ≡ Some count → length seats.notes.seen ≡ 2 ^ 62 → IsFull seats count
+pub record IsFull {O : Type 0} (seats : SeatsAt O) (count : ℕ) : Type 0 where
+  pub kind : Kind
+  pub place : ℕ
+  pub full : IsFullAt place count (seats_in seats kind)
 
 module _ {D : Type 0} {disking : Keeps D} {keeping : Ghosts (AnyKeeper D disking)} (kinds : Kinds (Store (AnyKeeper D disking) keeping)) where
   -- A session was served, over objects that had just begun, and the ledgers were counted behind it: it ended so, and this is the first count that a seat of the

@@ -1,15 +1,17 @@
 -- The lines that tell the counts of the ledgers.
 use Rattle.std.specs.Prelude.{◌≡◌, ℕ, suc, List, [], ◌∷◌, ◌++◌, Option, Some, None, Result, Ok, Err, codes, decimal}
 use Rattle.std.specs.Option.{option_or}
-use Rattle.side_world.specs.declared.link.LinkCall.{LinkCall}
 use Rattle.rand_core.specs.Stream.{Stream}
 use Rattle.turn_cell.specs.declared.error.Exhausted.{Exhausted}
 use Rattle.ledger_core.specs.declared.reply.LedgerReply.{LedgerReply}
 use Rattle.ledger_core.specs.declared.reply.LedgerReply.TheVariants as says
 use Rattle.policy_run.specs.Effects.{Clocked}
+use Rattle.link_call.specs.LinkAt.{LinkAt}
 use Rattle.conn_serve.specs.Ends.{SinkAt}
 use Rattle.resource_spec.specs.Component.{Loaded}
-use Rattle.sidecar_core.specs.Did.{CellsAt, Does, Kinds, SeatsAt, ShowsAt}
+use Rattle.sidecar_objects.specs.Kind.{CellsAt, Kinds, SeatsAt}
+use Rattle.sidecar_objects.specs.Did.{Does}
+use Rattle.sidecar_objects.specs.Shown.{ShowsAt}
 use Rattle.sidecar_core.specs.Delivery.{Counted}
 use Rattle.sidecar_core.specs.Sites.{pubsubs_of}
 use Rattle.sidecar_cli.specs.Note.{AreNoted, IsNoted}
@@ -31,7 +33,7 @@ spent_told (Err e) = Some e.count
 -- the broker of this name, whose ledger stands at this place, was counted by a pass that did nothing else
 pub record IsCountedOf {O : Type 0} (kinds : Kinds O) (cells : CellsAt O) (name : List ℕ) (place : ℕ) (seats : SeatsAt O) (text : List ℕ) (spent : Option ℕ) (seats' : SeatsAt O) : Type 0 where
   pub result : Result LedgerReply Exhausted
-  pub does : (clock : Clocked) (calls : Option (List LinkCall)) (words : Stream) → Does kinds cells (record { seats = seats; clock = clock; calls = calls; words = words }) (record { seats = seats'; clock = clock; calls = calls; words = words }) (λ events. Counted place events result)
+  pub does : (clock : Clocked) (link : LinkAt) (words : Stream) → Does kinds cells (record { seats = seats; clock = clock; link = link; words = words }) (record { seats = seats'; clock = clock; link = link; words = words }) (λ events. Counted place events result)
   pub shows : (count : ℕ) → result ≡ Err (record { count = count }) → ShowsAt place count seats'.ledgers
   pub text_is : text ≡ line_told name result
   pub spent_is : spent ≡ spent_told result

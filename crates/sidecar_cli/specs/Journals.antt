@@ -14,9 +14,9 @@ use Rattle.state_core.specs.History.{commits_in}
 use Rattle.sidecar_keepers.specs.Runs.{AreApart, IsHeldAfter, TellAlways}
 use Rattle.sidecar_keepers.specs.Stores.{paths_of, stores_of}
 use Rattle.sidecar_core.specs.declared.config.Config.{Config}
-use Rattle.sidecar_core.specs.declared.objects.Objects.{Objects}
-use Rattle.sidecar_core.specs.declared.objects.Pass.{Pass}
-use Rattle.sidecar_core.specs.Did.{Kinds}
+use Rattle.sidecar_objects.specs.declared.objects.Objects.{Objects}
+use Rattle.sidecar_objects.specs.declared.objects.Pass.{Pass}
+use Rattle.sidecar_objects.specs.Kind.{Kinds}
 use Rattle.sidecar_cli.specs.Play.{IsClosed, IsUp}
 use Rattle.sidecar_cli.specs.World.{OutsideAt}
 

@@ -9,7 +9,7 @@ use Rattle.ledger_core.specs.declared.reply.LedgerReply.{LedgerReply}
 use Rattle.ledger_core.specs.Message.{Step}
 use Rattle.conn_serve.specs.Ends.{SinkAt}
 use Rattle.resource_spec.specs.Component.{Loaded}
-use Rattle.sidecar_core.specs.Did.{CellsAt, Kinds, SeatsAt}
+use Rattle.sidecar_objects.specs.Kind.{CellsAt, Kinds, SeatsAt, ledgers}
 use Rattle.sidecar_core.specs.Sites.{pubsubs_of}
 use Rattle.sidecar_cli.specs.Counting.{IsTold, line_told}
 
@@ -29,7 +29,7 @@ pub record HasOwnLine (brokers : List Loaded) (texts : List (List ℕ)) (made : 
 -- there are as many texts as brokers, each broker has its own, and no ledger made any other step
 pub record HaveOwnLines {O : Type 0} (kinds : Kinds O) (cells : CellsAt O) (components : List Loaded) (seats seats' : SeatsAt O) (texts : List (List ℕ)) : Type 0 where
   pub made : ℕ → List Step
-  pub grew : EachGrew kinds.ledger cells.ledgers seats.ledgers made seats'.ledgers
+  pub grew : EachGrew (kinds ledgers) cells.ledgers seats.ledgers made seats'.ledgers
   pub wide : length texts ≡ length (pubsubs_of components)
   pub own : (k : ℕ) → k < length (pubsubs_of components) → HasOwnLine (pubsubs_of components) texts made k
   pub others : (k : ℕ) → length (pubsubs_of components) ≤ k → made k ≡ []

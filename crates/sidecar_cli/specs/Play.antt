@@ -1,5 +1,5 @@
 -- A run on standard input: the random numbers, the resources, the keepers, the start, and one session.
-use Rattle.std.specs.Prelude.{◌≡◌, ℕ, List, [], ◌∷◌, ◌++◌, ◌⊎◌, Option, map, Ok, Err, codes, decimal}
+use Rattle.std.specs.Prelude.{◌≡◌, ℕ, List, [], ◌∷◌, ◌++◌, ◌⊎◌, Option, None, map, Ok, Err, codes, decimal}
 use Rattle.std.specs.Option.{option_or}
 use Rattle.side_world.specs.declared.disk.Disk.{Ghosts as Keeps}
 use Rattle.side_world.specs.Faults.{RoseWith}
@@ -22,12 +22,15 @@ use Rattle.sidecar_keepers.specs.Made.{AreMade}
 use Rattle.sidecar_keepers.specs.Given.{AreBack, faults_on_disks}
 use Rattle.sidecar_keepers.specs.Refused.{Counts, IsRefused}
 use Rattle.sidecar_core.specs.declared.config.Config.{Config}
-use Rattle.sidecar_core.specs.declared.objects.Objects.{Objects}
-use Rattle.sidecar_core.specs.declared.objects.Pass.{Pass}
+use Rattle.sidecar_objects.specs.declared.objects.Objects.{Objects}
+use Rattle.sidecar_objects.specs.declared.objects.Pass.{Pass}
 use Rattle.sidecar_core.specs.declared.shared.Shared.{Shared}
-use Rattle.sidecar_core.specs.Did.{IsSoundPass, Kinds, Standing, Went, spent_of}
+use Rattle.sidecar_objects.specs.Passes.{IsSoundPass}
+use Rattle.sidecar_objects.specs.Kind.{Kinds, stores}
+use Rattle.sidecar_objects.specs.Did.{Did, Standing}
+use Rattle.sidecar_objects.specs.Shown.{spent_of}
 use Rattle.sidecar_core.specs.Exchange.{Exchange}
-use Rattle.sidecar_core.specs.Pass.{cells_of, seats_of}
+use Rattle.sidecar_objects.specs.Pass.{cells_of, seats_of}
 use Rattle.sidecar_core.specs.Shown.{ShownFor}
 use Rattle.sidecar_core.specs.Started.{IsStarted}
 use Rattle.sidecar_words.specs.declared.given.Words.{Words}
@@ -68,12 +71,12 @@ pub data IsDown {D : Type 0} (disking : Keeps D) (config : Config) (outside outs
 module _ {D : Type 0} {disking : Keeps D} {keeping : Ghosts (AnyKeeper D disking)} (kinds : Kinds (Store (AnyKeeper D disking) keeping)) where
   -- what a pass and all that it works with show
   abbrev pub standing_at : Pass (AnyKeeper D disking) keeping → WorldAt → Stream → Standing (Store (AnyKeeper D disking) keeping)
-  standing_at pass world words = record { seats = seats_of pass; clock = world.clock; calls = world.link; words = words }
+  standing_at pass world words = record { seats = seats_of pass; clock = world.clock; link = world.link; words = words }
 
   -- one session over these objects was served by this pass, with random words from here on; files, the outside and the note were not asked
   pub record IsServed (config : Config) (objects : Objects (AnyKeeper D disking) keeping) (pass after : Pass (AnyKeeper D disking) keeping) (words : Stream) (world world' : WorldAt) (ended : Ended) : Type 0 where
     pub rest : Stream
-    pub served : Served (Exchange config) (λ events. Went kinds (cells_of objects) (standing_at pass world words) events (standing_at after world' rest)) (ShownFor config (seats_of after)) world.source world'.source world.sink world'.sink ended
+    pub served : Served (Exchange config) (λ events. Did kinds (cells_of objects) (standing_at pass world words) events (standing_at after world' rest)) (ShownFor config (seats_of after)) world.source world'.source world.sink world'.sink ended
     pub files : world'.files ≡ world.files
     pub outside : world'.outside ≡ world.outside
     pub note : world'.note ≡ world.note
@@ -85,7 +88,7 @@ module _ {D : Type 0} {disking : Keeps D} {keeping : Ghosts (AnyKeeper D disking
   -- the cells were closed by this pass, and the disks of the stores' keepers went back
   pub record IsClosed (config : Config) (objects : Objects (AnyKeeper D disking) keeping) (pass : Pass (AnyKeeper D disking) keeping) (outside outside' : OutsideAt) : Type 0 where
     pub stores : List (Store (AnyKeeper D disking) keeping)
-    pub closed : AreClosed kinds.store.stands objects.stores.items pass.stores.items stores
+    pub closed : AreClosed (kinds stores).stands objects.stores.items pass.stores.items stores
     pub back : AreBack disking (stores_of config.components) (map keeper_of stores) outside.disks outside'.disks
     pub faults : RoseWith (faults_on_disks disking (map keeper_of stores)) outside.faults outside'.faults
     pub calls : outside'.calls ≡ outside.calls
@@ -122,7 +125,7 @@ module _ {D : Type 0} {disking : Keeps D} {keeping : Ghosts (AnyKeeper D disking
   pub data IsBegun (given : Words) (words : Stream) (world world' : WorldAt) (status : Status) : Type 0 where
     refused : (e : ResourcesErr) → IsConfigured given.resources given.app world.files world'.files (Err e) → Says e status → world' ≡ record world { files = world'.files } → IsBegun given words world world' status
     read : (resources : Resources) (between : WorldAt) → IsConfigured given.resources given.app world.files between.files (Ok resources) → between ≡ record world { files = between.files }
-        → IsKept (record { app = given.app; components = resources.components; subs = []; policies = resources.policies }) words between world' status → IsBegun given words world world' status
+        → IsKept (record { app = given.app; app_port = None; peers = []; components = resources.components; subs = []; policies = resources.policies }) words between world' status → IsBegun given words world world' status
 
   -- three numbers were asked for: that of the random words, and two for the secret bytes
   pub record IsPlay (words_of : ℕ → Stream) (given : Words) (world world' : WorldAt) (status : Status) : Type 0 where

@@ -5,7 +5,7 @@ use Rattle.rand_core.specs.Stream.{Stream}
 use Rattle.keeper_core.specs.declared.keeper.Keeper.{Ghosts}
 use Rattle.keeper_journal.specs.declared.any_keeper.AnyKeeper.{AnyKeeper}
 use Rattle.state_core.specs.declared.store.Store.{Store}
-use Rattle.sidecar_core.specs.Did.{Kinds}
+use Rattle.sidecar_objects.specs.Kind.{Kinds}
 use Rattle.sidecar_words.specs.declared.given.Words.{Words}
 use Rattle.sidecar_words.specs.declared.given.Mode.{Mode}
 use Rattle.sidecar_words.specs.declared.given.Mode.TheVariants as mode

@@ -9,10 +9,12 @@ use Rattle.keeper_core.specs.declared.keeper.Keeper.{Ghosts}
 use Rattle.keeper_journal.specs.declared.any_keeper.AnyKeeper.{AnyKeeper}
 use Rattle.state_core.specs.declared.store.Store.{Store}
 use Rattle.sidecar_core.specs.declared.config.Config.{Config}
-use Rattle.sidecar_core.specs.declared.objects.Objects.{Objects}
-use Rattle.sidecar_core.specs.declared.objects.Pass.{Pass}
-use Rattle.sidecar_core.specs.Did.{IsLone, IsSoundPass, Kinds, SeatsAt, spent_of}
-use Rattle.sidecar_core.specs.Pass.{cells_of, seats_of}
+use Rattle.sidecar_objects.specs.declared.objects.Objects.{Objects}
+use Rattle.sidecar_objects.specs.declared.objects.Pass.{Pass}
+use Rattle.sidecar_objects.specs.Passes.{IsLone, IsSoundPass}
+use Rattle.sidecar_objects.specs.Kind.{Kinds, SeatsAt}
+use Rattle.sidecar_objects.specs.Shown.{spent_of}
+use Rattle.sidecar_objects.specs.Pass.{cells_of, seats_of}
 use Rattle.sidecar_core.specs.Started.{IsStarted}
 use Rattle.sidecar_workers.specs.declared.exit.Exit.{Exit}
 use Rattle.sidecar_workers.specs.declared.exit.Exit.TheVariants as exits

@@ -9,13 +9,13 @@ use Rattle.side_world.specs.declared.sink.Sink.{Ghosts as Takes}
 use Rattle.side_world.specs.declared.files.Files.{Ghosts as Holds}
 use Rattle.side_world.specs.declared.files.FilesCall.{FilesCall}
 use Rattle.side_world.specs.declared.link.Link.{Ghosts as Asks}
-use Rattle.side_world.specs.declared.link.LinkCall.{LinkCall}
 use Rattle.side_world.specs.declared.clock.Clock.{Ghosts as Times}
 use Rattle.side_world.specs.declared.outside.Outside.{Ghosts as Lends}
 use Rattle.side_world.specs.declared.outside.OutsideCall.{OutsideCall}
 use Rattle.side_world.specs.Files.{Folders}
 use Rattle.side_world.specs.Outside.{Backs, Disks}
 use Rattle.policy_run.specs.Effects.{Clocked, clocked}
+use Rattle.link_call.specs.LinkAt.{LinkAt, link_at}
 use Rattle.conn_serve.specs.Ends.{SourceAt, SinkAt, source_at, sink_at}
 use Rattle.sidecar_cli.specs.declared.world.World.{World}
 
@@ -45,7 +45,7 @@ pub record WorldAt : Type 0 where
   pub sink : SinkAt
   pub note : SinkAt
   pub files : FilesAt
-  pub link : Option (List LinkCall)
+  pub link : LinkAt
   pub clock : Clocked
   pub outside : OutsideAt
 
@@ -55,7 +55,7 @@ world_at gives takes notes holds asks times lends world = record {
   sink = sink_at takes world.sink;
   note = sink_at notes world.note;
   files = files_at holds world.files;
-  link = asks.calls world.link;
+  link = link_at asks world.link;
   clock = clocked times world.clock;
   outside = outside_at lends world.outside;
 }

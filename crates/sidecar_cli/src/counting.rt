@@ -2,8 +2,8 @@ ghost use Rattle.std.specs.Prelude.{◌≡◌, ◌≤◌, ◌<◌, length, OnOk,
 ghost use Rattle.conn_serve.specs.Ends.{Cut, Sent, sink_at};
 ghost use Rattle.ledger_core.specs.declared.reply.LedgerReply.TheVariants as says;
 ghost use Rattle.std.specs.Prelude.{◌++◌, decimal};
-ghost use Rattle.sidecar_core.specs.Did.{IsPassOf};
-ghost use Rattle.sidecar_core.specs.Pass.{cells_of, seats_of};
+ghost use Rattle.sidecar_objects.specs.Passes.{IsPassOf};
+ghost use Rattle.sidecar_objects.specs.Pass.{cells_of, seats_of};
 ghost use Rattle.sidecar_core.specs.Sites.{is_pubsub};
 ghost use Rattle.sidecar_cli.specs.Counting.{counts_line, IsTold, IsToldOf};
 ghost use Rattle.sidecar_cli.specs.Note.{IsNoted};

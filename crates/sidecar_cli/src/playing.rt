@@ -1,8 +1,8 @@
 ghost use Rattle.std.specs.Prelude.{◌≡◌, ◌∷◌, [], ℕ, length, map};
 ghost use Rattle.side_world.specs.Told.{Tells};
 ghost use Rattle.state_core.specs.Store.{keeper_of};
-ghost use Rattle.sidecar_core.specs.Did.{IsLone, IsPassOf, IsSoundPass};
-ghost use Rattle.sidecar_core.specs.Pass.{cells_of, seats_of};
+ghost use Rattle.sidecar_objects.specs.Passes.{IsLone, IsPassOf, IsSoundPass};
+ghost use Rattle.sidecar_objects.specs.Pass.{cells_of, seats_of};
 ghost use Rattle.sidecar_core.specs.Started.{IsRoomFor};
 ghost use Rattle.sidecar_keepers.specs.Kinds.{AllFit};
 ghost use Rattle.sidecar_keepers.specs.Stores.{stores_of};
@@ -18,6 +18,7 @@ use conn_serve::{Buffers, Ended};
 use keeper_journal::AnyKeeper;
 use rand_core::{Rng, SeedableRng};
 use rand_pcg::Pcg64;
+use app_peers::PeerList;
 use side_world::{Clock, Files, Link, Outside, Sink, Source};
 use sidecar_core::{Config, ObjectKinds, Pass, Room, Shared, serve_connection};
 use sidecar_keepers::give_back;
@@ -77,6 +78,8 @@ fn begin<S: Source, N: Sink, E: Sink, F: Files, L: Link, C: Clock, O: Outside, R
         Ok(resources) => {
             let config = Config {
                 app: given.app,
+                app_port: None,
+                peers: PeerList::new(alloc),
                 components: resources.components,
                 subs: Subs::new(alloc),
                 policies: resources.policies,

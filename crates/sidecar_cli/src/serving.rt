@@ -2,8 +2,8 @@ ghost use Rattle.std.specs.Prelude.{◌≡◌, ◌<◌, ℕ, List, IfOk, OnErr, 
 ghost use Rattle.rand_core.specs.Stream.{Stream};
 ghost use Rattle.side_world.specs.Told.{Tells};
 ghost use Rattle.state_core.specs.Store.{keeper_of};
-ghost use Rattle.sidecar_core.specs.Did.{IsLone, IsPassOf, IsSoundPass};
-ghost use Rattle.sidecar_core.specs.Pass.{cells_of, seats_of};
+ghost use Rattle.sidecar_objects.specs.Passes.{IsLone, IsPassOf, IsSoundPass};
+ghost use Rattle.sidecar_objects.specs.Pass.{cells_of, seats_of};
 ghost use Rattle.sidecar_core.specs.Started.{IsRoomFor};
 ghost use Rattle.sidecar_keepers.specs.Kinds.{AllFit};
 ghost use Rattle.sidecar_keepers.specs.Stores.{stores_of};
@@ -18,6 +18,7 @@ use crate::{Device, Status, World};
 use keeper_journal::AnyKeeper;
 use rand_core::{Rng, SeedableRng};
 use rand_pcg::Pcg64;
+use app_peers::PeerList;
 use side_base::NoMemory;
 use side_world::{Clock, Files, FreeGate, Link, Outside, Sink, Source};
 use sidecar_core::{Config, ObjectKinds, Pass, Room, Shared};
@@ -125,6 +126,8 @@ fn begin<
         Ok(resources) => {
             let config = Config {
                 app: given.app,
+                app_port: None,
+                peers: PeerList::new(alloc),
                 components: resources.components,
                 subs: Subs::new(alloc),
                 policies: resources.policies,

@@ -17,16 +17,14 @@ use Rattle.meta_api.specs.declared.command.NotesReply.{NotesReply}
 use Rattle.meta_api.specs.declared.command.NotesReply.TheVariants as told
 use Rattle.meta_api.specs.Body.{IsPutReply, put_response}
 use Rattle.sidecar_core.specs.declared.config.Config.{Config}
-use Rattle.sidecar_core.specs.declared.doing.Doing.{Doing}
+use Rattle.sidecar_objects.specs.declared.doing.Doing.{Doing}
 use Rattle.sidecar_core.specs.Site.{Site}
-use Rattle.sidecar_core.specs.Did.{Kinds, CellsAt, SeatsAt, Standing, Does}
-use Rattle.sidecar_core.specs.Exchange.{Answered, AtSite, AtStore, FaultGives, IsOr, PutReplies, store_in}
+use Rattle.sidecar_objects.specs.Kind.{Kinds, CellsAt, SeatsAt}
+use Rattle.sidecar_objects.specs.Did.{Standing, Does}
+use Rattle.link_call.specs.Came.{IsOr}
+use Rattle.sidecar_core.specs.Exchange.{Answered, AtSite, AtStore, FaultGives, PutReplies, store_in}
 use Rattle.sidecar_core.specs.Exchange as exchange
 use Rattle.sidecar_core.specs.Shown.{RouteShows, StoreShows}
-
--- what was done, said otherwise
-pub does_as : {O : Type 0} (kinds : Kinds O) (cells : CellsAt O) (at after : Standing O) (one other : List Doing → Type 0) → ((events : List Doing) → one events → other events) → Does kinds cells at after one → Does kinds cells at after other
-does_as kinds cells at after one other so d = record { events = d.events; held = so d.events d.held; went = d.went }
 
 -- a response, or the want of memory for it, is no exhausted cell
 pub not_exhausted : {A : Type 0} (response : Response) (reply : Result Response ApiErr) (count : ℕ) → IsOr response reply → reply ≡ Err (error.Exhausted count) → A

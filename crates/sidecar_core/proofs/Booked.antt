@@ -1,16 +1,15 @@
 -- One call of the book of metadata, or of one ledger, as what was done.
-use Rattle.std.proofs.Common.{◌≡◌, ℕ, List, [], ◌∷◌, ◌++◌, set, Option, Some, Result, Ok, Err, refl, sym, ap, ◌∙◌, subst, le_refl, flat_map}
+use Rattle.std.proofs.Common.{◌≡◌, ◌∙◌, ℕ, List, [], ◌∷◌, ◌++◌, set, Option, Some, Result, Ok, Err, refl, sym, ap, subst, le_refl, flat_map}
 use Rattle.std.specs.Prelude.{IfOk, IfErr}
 use mathlib.Core.Option.{some}
 use lib.ListN.{get_elem?}
 use Rattle.rand_core.specs.Stream.{Stream, next_u64}
-use Rattle.side_world.specs.declared.link.LinkCall.{LinkCall}
 use Rattle.side_world.proofs.Composed.{rises_nothing, tells_nothing, drawn_nothing}
 use Rattle.turn_cell.specs.declared.error.ApiErr.TheVariants as error
 use Rattle.turn_cell.specs.declared.error.Exhausted.{Exhausted}
 use Rattle.turn_cell.specs.declared.object.Object.{Ghosts}
 use Rattle.turn_cell.specs.Sitting.{Begun, Sitting, Extends, Exhausts, entry_by}
-use Rattle.turn_cell.specs.Growth.{Grew}
+use Rattle.turn_cell.specs.Growth.{Grew, EachGrew}
 use Rattle.turn_cell.proofs.Growing as growing
 use Rattle.ledger_core.specs.declared.ledger.Ledger.{Ledger}
 use Rattle.ledger_core.specs.declared.command.LedgerCmd.{LedgerCmd}
@@ -20,109 +19,85 @@ use Rattle.meta_api.specs.declared.notes.Notes.{Notes}
 use Rattle.meta_api.specs.declared.command.NotesCmd.{NotesCmd}
 use Rattle.meta_api.specs.declared.command.NotesReply.{NotesReply}
 use Rattle.policy_run.specs.Effects.{Clocked}
-use Rattle.sidecar_core.specs.declared.doing.Doing.TheVariants.{Noted, Entered}
-use Rattle.sidecar_core.specs.Doing.{entered_at}
-use Rattle.sidecar_core.specs.Did.{Kinds, CellsAt, SeatsAt, Standing, Does}
+use Rattle.link_call.specs.LinkAt.{LinkAt, asks_none}
+use Rattle.sidecar_objects.specs.declared.doing.Doing.{Doing}
+use Rattle.sidecar_objects.specs.declared.doing.Doing.TheVariants.{Stepped}
+use Rattle.sidecar_objects.specs.declared.doing.SlotStep.{SlotStep}
+use Rattle.sidecar_objects.specs.declared.doing.SlotStep.TheVariants as slot
+use Rattle.sidecar_objects.specs.Kind.{Kind, Kinds, CellsAt, SeatsAt, StepOf, stores, ledgers, breakers, book, cells_in, seats_in}
+use Rattle.sidecar_objects.specs.Doing.{steps_at}
+use Rattle.sidecar_objects.specs.Did.{Did, Does, Standing}
+use Rattle.sidecar_objects.proofs.ByKind.{by_kind}
+use Rattle.sidecar_objects.proofs.Laid.{here_at, elsewhere_at}
+use Rattle.sidecar_objects.proofs.Single.{one_grew}
 use Rattle.sidecar_core.specs.Exchange.{NotesRan}
 use Rattle.sidecar_core.specs.Exchange as exchange
 use Rattle.sidecar_core.specs.Delivery.{Counted}
 use Rattle.sidecar_core.specs.Delivery as delivery
-use Rattle.sidecar_core.proofs.Doings.{at_place}
 
-module _ {O : Type 0} (kinds : Kinds O) (cells : CellsAt O) (seats : SeatsAt O) (clock : Clocked) (calls : Option (List LinkCall)) (words : Stream) where
+module _ {O : Type 0} (kinds : Kinds O) (cells : CellsAt O) (seats : SeatsAt O) (clock : Clocked) (link : LinkAt) (words : Stream) where
   abbrev at_seats : SeatsAt O → Standing O
-  at_seats there = record { seats = there; clock = clock; calls = calls; words = words }
+  at_seats there = record { seats = there; clock = clock; link = link; words = words }
+
+  -- seats grew by at most one step, and nothing else was done
+  stepped : (after : SeatsAt O) (step : SlotStep) → ((kind : Kind) → EachGrew (kinds kind) (cells_in cells kind) (seats_in seats kind) (λ k. flat_map (steps_at kind k) (Stepped step ∷ [])) (seats_in after kind)) → Did kinds cells (at_seats seats) (Stepped step ∷ []) (at_seats after)
+  stepped after step grew = record { grew = grew; times = le_refl clock.last; pauses = rises_nothing clock.paused; ticks = tells_nothing clock.ticks; asked = asks_none link; words = drawn_nothing next_u64 words }
+
+  unstepped : (after : SeatsAt O) → ((kind : Kind) → EachGrew (kinds kind) (cells_in cells kind) (seats_in seats kind) (λ k. []) (seats_in after kind)) → Did kinds cells (at_seats seats) [] (at_seats after)
+  unstepped after grew = record { grew = grew; times = le_refl clock.last; pauses = rises_nothing clock.paused; ticks = tells_nothing clock.ticks; asked = asks_none link; words = drawn_nothing next_u64 words }
+
+  -- the seats of a kind are as they were
+  still : (kind : Kind) (made : ℕ → List (StepOf kind)) → ((k : ℕ) → made k ≡ []) → EachGrew (kinds kind) (cells_in cells kind) (seats_in seats kind) made (seats_in seats kind)
+  still kind made none-made = growing.each_none (kinds kind) (cells_in cells kind) (seats_in seats kind) made none-made
 
   -- ---- the book
 
   module _ (after : Sitting Notes NotesCmd NotesReply) (cmd : NotesCmd) where
     -- one step of it
-    pub booked : (reply : NotesReply) → Extends kinds.notes cells.notes.first seats.notes cmd reply after → Does kinds cells (at_seats seats) (at_seats (record seats { notes = after })) (λ events. NotesRan cmd events (Ok reply))
-    booked reply did = record {
-      events = Noted (entry_by seats.notes cmd reply did.mark) ∷ [];
-      held = exchange.stepped (entry_by seats.notes cmd reply did.mark) refl refl refl;
-      went = record {
-        stores = growing.each_none kinds.store cells.stores seats.stores (λ k. []) (λ k. refl);
-        ledgers = growing.each_none kinds.ledger cells.ledgers seats.ledgers (λ k. []) (λ k. refl);
-        breakers = growing.each_none kinds.breaker cells.breakers seats.breakers (λ k. []) (λ k. refl);
-        notes = growing.called kinds.notes cells.notes.first seats.notes cmd reply after did;
-        queued = refl;
-        rang = refl;
-        times = le_refl clock.last;
-        pauses = rises_nothing clock.paused;
-        ticks = tells_nothing clock.ticks;
-        asked = tells_nothing calls;
-        words = drawn_nothing next_u64 words;
-      };
+    pub booked : (reply : NotesReply) → Extends (kinds book) cells.notes.first seats.notes cmd reply after → Does kinds cells (at_seats seats) (at_seats (record seats { notes = after })) (λ events. NotesRan cmd events (Ok reply))
+    booked reply did = let step = entry_by seats.notes cmd reply did.mark in record {
+      events = Stepped (slot.Book step) ∷ [];
+      held = exchange.stepped step refl refl refl;
+      went = stepped (record seats { notes = after }) (slot.Book step) (by_kind _ (still stores _ (λ k. refl)) (still ledgers _ (λ k. refl)) (still breakers _ (λ k. refl))
+          (one_grew cells.notes seats.notes (kinds book) after (λ k. flat_map (steps_at book k) (Stepped (slot.Book step) ∷ [])) (growing.called (kinds book) cells.notes.first seats.notes cmd reply after did) (λ k far. (λ i. elsewhere_at 0 k far step i ++ []))));
     }
 
     -- or it is exhausted
-    pub unbooked : (count : ℕ) → Exhausts kinds.notes cells.notes.first seats.notes count after → Does kinds cells (at_seats seats) (at_seats (record seats { notes = after })) (λ events. NotesRan cmd events (Err (error.Exhausted count)))
+    pub unbooked : (count : ℕ) → Exhausts (kinds book) cells.notes.first seats.notes count after → Does kinds cells (at_seats seats) (at_seats (record seats { notes = after })) (λ events. NotesRan cmd events (Err (error.Exhausted count)))
     unbooked count did = record {
       events = [];
       held = exchange.exhausted count refl refl;
-      went = record {
-        stores = growing.each_none kinds.store cells.stores seats.stores (λ k. []) (λ k. refl);
-        ledgers = growing.each_none kinds.ledger cells.ledgers seats.ledgers (λ k. []) (λ k. refl);
-        breakers = growing.each_none kinds.breaker cells.breakers seats.breakers (λ k. []) (λ k. refl);
-        notes = growing.exhausted kinds.notes cells.notes.first seats.notes count after did;
-        queued = refl;
-        rang = refl;
-        times = le_refl clock.last;
-        pauses = rises_nothing clock.paused;
-        ticks = tells_nothing clock.ticks;
-        asked = tells_nothing calls;
-        words = drawn_nothing next_u64 words;
-      };
+      went = unstepped (record seats { notes = after }) (by_kind _ (still stores _ (λ k. refl)) (still ledgers _ (λ k. refl)) (still breakers _ (λ k. refl))
+          (one_grew cells.notes seats.notes (kinds book) after (λ k. []) (growing.exhausted (kinds book) cells.notes.first seats.notes count after did) (λ k far. refl)));
     }
 
   -- ---- the ledger at a place
 
   module _ (place : ℕ) (cell : Begun Ledger) (seat after : Sitting Ledger LedgerCmd LedgerReply) (at : get_elem? cells.ledgers place ≡ some cell) (here : get_elem? seats.ledgers place ≡ some seat) where
     -- one step of it
-    pub counted_by : (reply : LedgerReply) → Extends kinds.ledger cell.first seat Counts reply after → Does kinds cells (at_seats seats) (at_seats (record seats { ledgers = set seats.ledgers place after })) (λ events. Counted place events (Ok reply))
+    pub counted_by : (reply : LedgerReply) → Extends (kinds ledgers) cell.first seat Counts reply after → Does kinds cells (at_seats seats) (at_seats (record seats { ledgers = set seats.ledgers place after })) (λ events. Counted place events (Ok reply))
     counted_by reply did = let step = entry_by seat Counts reply did.mark in record {
-      events = Entered place step ∷ [];
+      events = Stepped (slot.Ledger place step) ∷ [];
       held = delivery.stepped step refl refl refl;
-      went = record {
-        stores = growing.each_none kinds.store cells.stores seats.stores (λ k. []) (λ k. refl);
-        ledgers = growing.each_one kinds.ledger cells.ledgers seats.ledgers (λ k. flat_map (entered_at k) (Entered place step ∷ [])) place cell seat after at here
-            (subst (λ l. Grew kinds.ledger cell.first seat l after) (sym (λ i. (at_place place place place step).0 refl i ++ [])) (growing.called kinds.ledger cell.first seat Counts reply after did))
-            (λ k far. (λ i. (at_place place place k step).1 far i ++ []));
-        breakers = growing.each_none kinds.breaker cells.breakers seats.breakers (λ k. []) (λ k. refl);
-        notes = growing.grew_none kinds.notes cells.notes.first seats.notes;
-        queued = refl;
-        rang = refl;
-        times = le_refl clock.last;
-        pauses = rises_nothing clock.paused;
-        ticks = tells_nothing clock.ticks;
-        asked = tells_nothing calls;
-        words = drawn_nothing next_u64 words;
-      };
+      went = stepped (record seats { ledgers = set seats.ledgers place after }) (slot.Ledger place step) (by_kind _ (still stores _ (λ k. refl))
+          (growing.each_one (kinds ledgers) cells.ledgers seats.ledgers (λ k. flat_map (steps_at ledgers k) (Stepped (slot.Ledger place step) ∷ [])) place cell seat after at here
+          (subst (λ l. Grew (kinds ledgers) cell.first seat l after) (sym (λ i. here_at place step i ++ [])) (growing.called (kinds ledgers) cell.first seat Counts reply after did))
+          (λ k far. (λ i. elsewhere_at place k far step i ++ [])))
+          (still breakers _ (λ k. refl)) (still book _ (λ k. refl)));
     }
 
     -- or it is exhausted
-    pub uncounted : (e : Exhausted) → Exhausts kinds.ledger cell.first seat e.count after → Does kinds cells (at_seats seats) (at_seats (record seats { ledgers = set seats.ledgers place after })) (λ events. Counted place events (Err e))
+    pub uncounted : (e : Exhausted) → Exhausts (kinds ledgers) cell.first seat e.count after → Does kinds cells (at_seats seats) (at_seats (record seats { ledgers = set seats.ledgers place after })) (λ events. Counted place events (Err e))
     uncounted e did = record {
       events = [];
       held = delivery.exhausted e refl refl;
-      went = record {
-        stores = growing.each_none kinds.store cells.stores seats.stores (λ k. []) (λ k. refl);
-        ledgers = growing.each_one kinds.ledger cells.ledgers seats.ledgers (λ k. []) place cell seat after at here (growing.exhausted kinds.ledger cell.first seat e.count after did) (λ k far. refl);
-        breakers = growing.each_none kinds.breaker cells.breakers seats.breakers (λ k. []) (λ k. refl);
-        notes = growing.grew_none kinds.notes cells.notes.first seats.notes;
-        queued = refl;
-        rang = refl;
-        times = le_refl clock.last;
-        pauses = rises_nothing clock.paused;
-        ticks = tells_nothing clock.ticks;
-        asked = tells_nothing calls;
-        words = drawn_nothing next_u64 words;
-      };
+      went = unstepped (record seats { ledgers = set seats.ledgers place after }) (by_kind _ (still stores _ (λ k. refl))
+          (growing.each_one (kinds ledgers) cells.ledgers seats.ledgers (λ k. []) place cell seat after at here (growing.exhausted (kinds ledgers) cell.first seat e.count after did) (λ k far. refl))
+          (still breakers _ (λ k. refl)) (still book _ (λ k. refl)));
     }
 
     -- whatever it answers
-    pub counted : (result : Result LedgerReply Exhausted) → IfOk result (λ reply. Extends kinds.ledger cell.first seat Counts reply after) → IfErr result (λ e. Exhausts kinds.ledger cell.first seat e.count after)
+    pub counted : (result : Result LedgerReply Exhausted) → IfOk result (λ reply. Extends (kinds ledgers) cell.first seat Counts reply after) → IfErr result (λ e. Exhausts (kinds ledgers) cell.first seat e.count after)
         → Does kinds cells (at_seats seats) (at_seats (record seats { ledgers = set seats.ledgers place after })) (λ events. Counted place events result)
     counted (Ok reply) ok err = counted_by reply ok
     counted (Err e) ok err = uncounted e err

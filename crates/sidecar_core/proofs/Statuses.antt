@@ -19,8 +19,9 @@ use Rattle.meta_api.specs.declared.command.NotesReply.{NotesReply}
 use Rattle.meta_api.specs.declared.command.NotesReply.TheVariants as told
 use Rattle.sidecar_core.specs.declared.config.Config.{Config}
 use Rattle.sidecar_core.specs.Site.{Site}
-use Rattle.sidecar_core.specs.declared.doing.Doing.{Doing}
-use Rattle.sidecar_core.specs.Exchange.{Answered, AtSite, AtStore, IsOr, ListReplies, NotesReplies, PutReplies, Replies, SetsNote}
+use Rattle.sidecar_objects.specs.declared.doing.Doing.{Doing}
+use Rattle.link_call.specs.Came.{IsOr}
+use Rattle.sidecar_core.specs.Exchange.{Answered, AtSite, AtStore, ListReplies, NotesReplies, PutReplies, Replies, SetsNote}
 use Rattle.sidecar_core.specs.Exchange as exchange
 
 of_two : (given response : Response) → IsStatusCode given.status → IsOr given (Ok response) → IsStatusCode response.status

@@ -16,10 +16,13 @@ use Rattle.meta_api.specs.declared.command.NotesReply.{NotesReply}
 use Rattle.meta_api.specs.declared.command.NotesReply.TheVariants as told
 use Rattle.sidecar_core.specs.declared.config.Config.{Config}
 use Rattle.sidecar_core.specs.Site.{Site}
-use Rattle.sidecar_core.specs.declared.doing.Doing.{Doing}
-use Rattle.sidecar_core.specs.Did.{Kinds, CellsAt, Standing, Went, IsPassOf}
-use Rattle.sidecar_core.specs.Composed.{went_nowhere, went_on, pass_stays}
-use Rattle.sidecar_core.specs.Exchange.{Answered, AtNotes, AtSite, AtStore, Exchange, Gives, ListReplies, NotesReplies, PutReplies, Replies, SetsNote, lacks, refused, called, unknown, found, noted}
+use Rattle.sidecar_objects.specs.declared.doing.Doing.{Doing}
+use Rattle.sidecar_objects.specs.Kind.{Kinds, CellsAt}
+use Rattle.sidecar_objects.specs.Did.{Standing, Did}
+use Rattle.sidecar_objects.specs.Passes.{IsPassOf}
+use Rattle.sidecar_objects.specs.Composed.{did_nothing, did_on, pass_stays}
+use Rattle.link_call.specs.Came.{Gives}
+use Rattle.sidecar_core.specs.Exchange.{Answered, AtNotes, AtSite, AtStore, Exchange, ListReplies, NotesReplies, PutReplies, Replies, SetsNote, lacks, refused, called, unknown, found, noted}
 
 -- which borrows a desk holds
 pub record Borrowed : Type 0 where
@@ -35,11 +38,11 @@ pub record Goes {S O : Type 0} (kinds : Kinds O) (cells_at : S → CellsAt O) (s
   pub same_link : held'.link ≡ held.link
   pub same_clock : held'.clock ≡ held.clock
   pub same_rng : held'.rng ≡ held.rng
-  pub went : Went kinds (cells_at shared) at events after
+  pub went : Did kinds (cells_at shared) at events after
 
 module _ {S O : Type 0} (kinds : Kinds O) (cells_at : S → CellsAt O) where
   pub goes_nowhere : (shared : S) (held : Borrowed) (at : Standing O) → Goes kinds cells_at shared held at [] shared held at
-  goes_nowhere shared held at = record { same = refl; same_pass = refl; same_link = refl; same_clock = refl; same_rng = refl; went = went_nowhere kinds (cells_at shared) at }
+  goes_nowhere shared held at = record { same = refl; same_pass = refl; same_link = refl; same_clock = refl; same_rng = refl; went = did_nothing kinds (cells_at shared) at }
 
   pub goes_on : (shared : S) (held : Borrowed) (at : Standing O) (first : List Doing) (shared' : S) (held' : Borrowed) (between : Standing O) (second : List Doing) (shared'' : S) (held'' : Borrowed) (after : Standing O)
       → Goes kinds cells_at shared held at first shared' held' between → Goes kinds cells_at shared' held' between second shared'' held'' after → Goes kinds cells_at shared held at (first ++ second) shared'' held'' after
@@ -49,7 +52,7 @@ module _ {S O : Type 0} (kinds : Kinds O) (cells_at : S → CellsAt O) where
     same_link = two.same_link ∙ one.same_link;
     same_clock = two.same_clock ∙ one.same_clock;
     same_rng = two.same_rng ∙ one.same_rng;
-    went = went_on kinds (cells_at shared) at first between second after one.went (subst (λ s. Went kinds (cells_at s) between second after) one.same two.went);
+    went = did_on kinds (cells_at shared) at first between second after one.went (subst (λ s. Did kinds (cells_at s) between second after) one.same two.went);
   }
 
   pub stays_there : (shared : S) (held : Borrowed) (at : Standing O) (events : List Doing) (shared' : S) (held' : Borrowed) (after : Standing O) → IsPassOf (cells_at shared) at.seats

@@ -1,5 +1,5 @@
 -- An exchange: what is done for a request, and what is answered.
-use Rattle.std.specs.Prelude.{◌≡◌, ◌⊎◌, ℕ, List, [], ◌∷◌, Result, Ok, Err, Option, Some, None, IsUtf8}
+use Rattle.std.specs.Prelude.{◌≡◌, ℕ, List, [], ◌∷◌, Result, Ok, Err, Option, Some, None, IsUtf8}
 use Rattle.side_base.specs.declared.message.Request.{Request}
 use Rattle.side_base.specs.declared.message.Response.{Response}
 use Rattle.turn_cell.specs.declared.error.ApiErr.{ApiErr}
@@ -27,23 +27,13 @@ use Rattle.meta_api.specs.History.{Step}
 use Rattle.meta_api.specs.Body.{metadata_response, put_response}
 use Rattle.sidecar_core.specs.declared.config.Config.{Config}
 use Rattle.sidecar_core.specs.Site.{Site}
-use Rattle.sidecar_core.specs.declared.doing.Doing.{Doing}
-use Rattle.sidecar_core.specs.declared.doing.Doing.TheVariants.{Noted}
+use Rattle.sidecar_objects.specs.declared.doing.Doing.{Doing}
+use Rattle.sidecar_objects.specs.declared.doing.Doing.TheVariants.{Stepped}
+use Rattle.sidecar_objects.specs.declared.doing.SlotStep.TheVariants.{Book}
+use Rattle.link_call.specs.Came.{IsOr, Lacks, Gives}
 use Rattle.sidecar_core.specs.Ran.{StoreRan}
 use Rattle.sidecar_core.specs.Responses.{no_route, not_allowed, bad_escape, not_yet, no_store}
 use Rattle.sidecar_core.specs.Sites.{sites_of, place_named, IsSite, notes_of, sub_notes_of}
-
--- this response, or there is no memory for it
-abbrev pub IsOr : Response → Result Response ApiErr → Type 0
-IsOr response reply = (reply ≡ Ok response) ⊎ (reply ≡ Err error.NoMemory)
-
--- nothing is done, and there is no memory
-abbrev pub Lacks : List Doing → Result Response ApiErr → Type 0
-Lacks events reply = (events ≡ []) × (reply ≡ Err error.NoMemory)
-
--- nothing is done, and this is answered
-abbrev pub Gives : Response → List Doing → Result Response ApiErr → Type 0
-Gives response events reply = (events ≡ []) × IsOr response reply
 
 -- ---- state
 
@@ -96,7 +86,7 @@ pub data AtStore (config : Config) (request : Request) (asked : Route) (name : L
 
 -- one step of the book with this command, and its reply; or the book's cell is exhausted, and there is no step
 pub data NotesRan (cmd : NotesCmd) (events : List Doing) (result : Result NotesReply ApiErr) : Type 0 where
-  stepped : (step : Step) → step.cmd ≡ cmd → events ≡ Noted step ∷ [] → result ≡ Ok step.reply → NotesRan cmd events result
+  stepped : (step : Step) → step.cmd ≡ cmd → events ≡ Stepped (Book step) ∷ [] → result ≡ Ok step.reply → NotesRan cmd events result
   exhausted : (count : ℕ) → events ≡ [] → result ≡ Err (error.Exhausted count) → NotesRan cmd events result
 
 -- the response to a value that was to be noted
@@ -132,7 +122,7 @@ pub data SetsNote (name value : List ℕ) (events : List Doing) (reply : Result 
 
 -- ---- all routes
 
--- What a route's request is answered. Calls of apps, messages, requests to output bindings and requests for actors are not served yet; what calls of apps and requests to bindings will do stands in Invoking.antt and Binding.antt
+-- What a route's request is answered. Calls of apps, messages, requests to output bindings and requests for actors are not served yet
 abbrev pub Answered : Config → Request → Result Route RouteErr → List Doing → Result Response ApiErr → Type 0
 Answered config request (Ok (route.Save store)) events reply = AtStore config request (route.Save store) store events reply
 Answered config request (Ok (route.Get store key)) events reply = AtStore config request (route.Get store key) store events reply

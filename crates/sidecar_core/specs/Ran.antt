@@ -12,9 +12,9 @@ use Rattle.state_api.specs.declared.call.StateAnswer.{StateAnswer}
 use Rattle.state_api.specs.declared.running.Ran.{Ran}
 use Rattle.state_api.specs.Call.{Makes}
 use Rattle.state_api.specs.Ran.{ran_of}
-use Rattle.sidecar_core.specs.declared.doing.Doing.{Doing}
-use Rattle.sidecar_core.specs.Did.{ShowsAt}
-use Rattle.sidecar_core.specs.Doing.{placed}
+use Rattle.sidecar_objects.specs.declared.doing.Doing.{Doing}
+use Rattle.sidecar_objects.specs.Shown.{ShowsAt}
+use Rattle.sidecar_objects.specs.Doing.{placed}
 
 -- the attempts of a command at the store of this place, under what is bound to it
 pub record StoreRan (place : ℕ) (bound : Bound) (cmd : Cmd) (events : List Doing) (result : Result Ran ApiErr) : Type 0 where

@@ -8,8 +8,9 @@ use Rattle.api_routes.specs.Route.{Answers}
 use Rattle.sidecar_core.specs.declared.config.Config.{Config}
 use Rattle.sidecar_core.specs.Site.{Site}
 use Rattle.sidecar_core.specs.Sites.{IsSite}
-use Rattle.sidecar_core.specs.Did.{SeatsAt, Shows}
-use Rattle.sidecar_core.specs.Did as did
+use Rattle.sidecar_objects.specs.Kind.{SeatsAt}
+use Rattle.sidecar_objects.specs.Shown.{Shows, book_shows}
+use Rattle.sidecar_objects.specs.Kind as kind
 use Rattle.sidecar_core.specs.Ran.{IsShown}
 
 -- the seat of the store of this name shows the count, or that of the breaker that is bound to what is sent to it
@@ -46,7 +47,7 @@ pub record ShownFor {O : Type 0} (config : Config) (seats : SeatsAt O) (request 
 
 module _ {O : Type 0} (config : Config) (seats : SeatsAt O) (count : ℕ) where
   of_store : (name : List ℕ) → StoreShows config seats name count → Shows seats count
-  of_store name shows = ⊎_elim (λ here. did.store shows.place here) (λ there. did.breaker there.0 there.2) shows.shown
+  of_store name shows = ⊎_elim (λ here. record { kind = kind.stores; place = shows.place; shown = here }) (λ there. record { kind = kind.breakers; place = there.0; shown = there.2 }) shows.shown
 
   of_route : (asked : Route) → RouteShows config seats asked count → Shows seats count
   of_route (route.Save s) shows = of_store s shows
@@ -61,8 +62,8 @@ module _ {O : Type 0} (config : Config) (seats : SeatsAt O) (count : ℕ) where
   of_route (route.ActorGet actor id key) shows = absurd shows
   of_route (route.ActorChange actor id) shows = absurd shows
   of_route route.Health shows = absurd shows
-  of_route route.Metadata shows = did.notes shows
-  of_route (route.SetMetadata name) shows = did.notes shows
+  of_route route.Metadata shows = book_shows seats count shows
+  of_route (route.SetMetadata name) shows = book_shows seats count shows
   of_route route.Shutdown shows = absurd shows
 
   -- then a seat of the pass shows it

@@ -3,14 +3,15 @@ use Rattle.std.specs.Prelude.{◌≡◌, ◌≤◌, ℕ, List, [], length, map}
 use Rattle.std.specs.List.{All}
 use Rattle.std.specs.Vec.{vec_capacity}
 use Rattle.keeper_core.specs.declared.keeper.Keeper.{Ghosts}
-use Rattle.turn_cell.specs.Sitting.{root_of}
 use Rattle.state_core.specs.Store.{keeper_of}
 use Rattle.ledger_core.specs.Ledger.{plans_of}
 use Rattle.breaker_core.specs.Breaker.{policy_of}
 use Rattle.meta_api.specs.Notes.{pairs_of}
 use Rattle.sidecar_core.specs.declared.config.Config.{Config}
-use Rattle.sidecar_core.specs.declared.objects.Objects.{Objects}
-use Rattle.sidecar_core.specs.declared.objects.Pass.{Pass}
+use Rattle.sidecar_objects.specs.declared.objects.Objects.{Objects}
+use Rattle.sidecar_objects.specs.declared.objects.Pass.{Pass}
+use Rattle.sidecar_objects.specs.Passes.{AreRoots}
+use Rattle.sidecar_objects.specs.Pass.{cells_of, seats_of}
 use Rattle.sidecar_core.specs.declared.room.Room.{Room}
 use Rattle.sidecar_core.specs.Plans.{plans_in}
 use Rattle.sidecar_core.specs.Sites.{pubsubs_of}
@@ -24,10 +25,7 @@ pub record IsStarted {K : Type 0} {keeper : Ghosts K} (config : Config) (keepers
   pub plans : All (λ cell. plans_of cell.first ≡ plans_in config) objects.ledgers.items
   pub breakers : map (λ cell. policy_of cell.first) objects.breakers.items ≡ config.policies.breakers
   pub notes : pairs_of objects.notes.first ≡ []
-  pub store_roots : pass.stores.items ≡ map root_of objects.stores.items
-  pub ledger_roots : pass.ledgers.items ≡ map root_of objects.ledgers.items
-  pub breaker_roots : pass.breakers.items ≡ map root_of objects.breakers.items
-  pub notes_root : pass.notes ≡ root_of objects.notes
+  pub roots : AreRoots (cells_of objects) (seats_of pass)
 
 -- room for so many stores and their keepers
 pub record IsRoomFor {K : Type 0} {keeper : Ghosts K} (stores : ℕ) (room : Room K keeper) : Type 0 where

@@ -6,8 +6,9 @@ ghost use Rattle.state_core.specs.declared.store.Store.{Store as StoreRecord};
 ghost use Rattle.state_core.specs.Store.{keeper_of};
 ghost use Rattle.sidecar_core.specs.Started.{IsRoomFor};
 
-use crate::{Config, Pass, Room, Shared};
+use crate::{Config, Room, Shared};
 use keeper_core::Keeper;
+use sidecar_objects::Pass;
 use state_core::Store;
 use turn_cell::Object;
 

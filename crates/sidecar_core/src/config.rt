@@ -1,3 +1,4 @@
+use app_peers::PeerList;
 use policy_spec::Policies;
 use resource_spec::Components;
 use side_base::Text;
@@ -8,6 +9,10 @@ use topic_spec::Subs;
 pub struct Config {
     /// The id of the app that the sidecar stands beside.
     pub app: Text,
+    /// The port where the app takes calls; without one it takes none.
+    pub app_port: Option<u16>,
+    /// The other apps that may be called.
+    pub peers: PeerList,
     /// The loaded components, in their order.
     pub components: Components,
     /// The subscriptions of the app, in their order; those of a sidecar without an app port are none.

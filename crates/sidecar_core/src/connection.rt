@@ -1,14 +1,14 @@
 ghost use Rattle.sidecar_core.specs.Connection.{Serves};
-ghost use Rattle.sidecar_core.specs.Did.{IsPassOf};
-ghost use Rattle.sidecar_core.specs.Pass.{cells_of, seats_of};
+ghost use Rattle.sidecar_objects.specs.Passes.{IsPassOf};
+ghost use Rattle.sidecar_objects.specs.Pass.{cells_of, seats_of};
 
+use crate::Shared;
 use crate::desk::Desk;
-use crate::kinds::ObjectKinds;
-use crate::{Pass, Shared};
 use conn_serve::{Buffers, Ended, serve};
 use keeper_core::Keeper;
 use rand_core::Rng;
 use side_world::{Clock, Link, Sink, Source};
+use sidecar_objects::{ObjectKinds, Pass};
 use state_core::Store;
 use std::sync::Wait;
 

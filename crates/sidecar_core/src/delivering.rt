@@ -1,14 +1,15 @@
 ghost use Rattle.std.specs.Prelude.{◌≡◌, ◌<◌, ℕ, length, Err};
-ghost use Rattle.sidecar_core.specs.Did.{IsPassOf, ShowsAt};
-ghost use Rattle.sidecar_core.specs.Pass.{DoesAlone, DoesBy, cells_of, seats_of};
+ghost use Rattle.sidecar_objects.specs.Passes.{IsPassOf};
+ghost use Rattle.sidecar_objects.specs.Shown.{ShowsAt};
+ghost use Rattle.sidecar_objects.specs.Pass.{DoesAlone, DoesBy, cells_of, seats_of};
 ghost use Rattle.sidecar_core.specs.Delivery.{Counted, Delivers};
 
-use crate::kinds::ObjectKinds;
-use crate::{Pass, Shared};
+use crate::Shared;
 use keeper_core::Keeper;
 use ledger_core::{LedgerCmd, LedgerReply};
 use rand_core::Rng;
 use side_world::{Clock, Link};
+use sidecar_objects::{ObjectKinds, Pass};
 use state_core::Store;
 use std::sync::Wait;
 use turn_cell::Exhausted;

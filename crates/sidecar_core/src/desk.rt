@@ -1,10 +1,10 @@
-use crate::kinds::ObjectKinds;
-use crate::{Doing, Pass, Shared, respond};
+use crate::{Shared, respond};
 use conn_serve::Handler;
 use keeper_core::Keeper;
 use rand_core::Rng;
 use side_base::{Request, Response};
 use side_world::{Clock, Link};
+use sidecar_objects::{Doing, ObjectKinds, Pass};
 use state_core::Store;
 use std::sync::Wait;
 use turn_cell::ApiErr;
@@ -22,8 +22,8 @@ pub(crate) struct Desk<'s, 'p, 'l, 'c, 'r, K: Keeper, L: Link, C: Clock, R: Rng>
 impl<K: Keeper, L: Link, C: Clock, R: Rng> Handler for Desk<'_, '_, '_, '_, '_, K, L, C, R> {
     ghost use Rattle.std.specs.Prelude.{◌≡◌};
     ghost use Rattle.std.proofs.Common.{subst};
-    ghost use Rattle.sidecar_core.specs.Did.{IsPassOf};
-    ghost use Rattle.sidecar_core.specs.Pass.{cells_of, seats_of, standing};
+    ghost use Rattle.sidecar_objects.specs.Passes.{IsPassOf};
+    ghost use Rattle.sidecar_objects.specs.Pass.{cells_of, seats_of, standing};
     ghost use Rattle.sidecar_core.specs.Exchange.{Exchange};
     ghost use Rattle.sidecar_core.specs.Shown.{ShownFor};
     ghost use Rattle.sidecar_core.specs.Desk.{Goes, goes_nowhere, goes_on, stays_there, unsaid};

@@ -1,6 +1,6 @@
 ghost use Rattle.std.specs.Prelude.{◌≡◌, IfOk, Ok, Err, ◌⊎◌};
 ghost use Rattle.side_base.specs.declared.message.Response.{Response as ResponseRecord};
-ghost use Rattle.sidecar_core.specs.Exchange.{IsOr};
+ghost use Rattle.link_call.specs.Came.{IsOr};
 
 use side_base::{NoMemory, Response};
 use turn_cell::ApiErr;

@@ -2,24 +2,24 @@ ghost use Rattle.std.specs.Prelude.{◌≡◌, ℕ, [], None, Ok, Err, IfOk, opt
 ghost use Rattle.http.specs.StatusCode.{IsStatusCode};
 ghost use Rattle.side_base.specs.declared.message.Request.{Request as RequestRecord};
 ghost use Rattle.turn_cell.specs.declared.error.ApiErr.TheVariants as error;
-ghost use Rattle.sidecar_core.specs.Did.{IsPassOf};
+ghost use Rattle.sidecar_objects.specs.Passes.{IsPassOf};
 ghost use Rattle.sidecar_core.specs.declared.config.Config.{Config as ConfigRecord};
-ghost use Rattle.sidecar_core.specs.Pass.{DoesAlone, DoesBy, DoesUncalled, cells_of, seats_of};
+ghost use Rattle.sidecar_objects.specs.Pass.{DoesAlone, DoesBy, cells_of, seats_of};
 ghost use Rattle.sidecar_core.specs.Exchange.{Answered, Exchange, store_in};
 ghost use Rattle.sidecar_core.specs.Shown.{RouteShows, ShownFor};
 
+use crate::Shared;
 use crate::given::given;
-use crate::kinds::ObjectKinds;
 use crate::note_request::{list, put};
 use crate::refusing::{bad_escape, no_route, not_allowed, not_yet};
 use crate::state_request::at_store;
-use crate::{Pass, Shared};
 use api_routes::{Route, RouteErr};
 use keeper_core::Keeper;
 use meta_api::health;
 use rand_core::Rng;
 use side_base::{Request, Response, Text};
 use side_world::{Clock, Link};
+use sidecar_objects::{ObjectKinds, Pass};
 use state_core::Store;
 use std::alloc::Global;
 use std::sync::Wait;
@@ -45,25 +45,27 @@ pub fn respond<K: Keeper, L: Link, C: Clock, R: Rng, W: Wait>(
     ensures status { IfOk result (λ response. IsStatusCode response.status) }
 {
     match shared.route(request) {
-        Ok(route) => answer(rt, shared, pass, request, &route, clock, rng),
+        Ok(route) => answer(rt, shared, pass, request, &route, link, clock, rng),
         Err(error) => given_refusal(shared.alloc, error),
     }
 }
 
 /// Answers a request of this route.
-fn answer<K: Keeper, C: Clock, R: Rng, W: Wait>(
+fn answer<K: Keeper, L: Link, C: Clock, R: Rng, W: Wait>(
     rt: &W,
     shared: &Shared<K>,
     pass: &mut Pass<K>,
     request: &Request,
     route: &Route,
+    link: &mut L,
     clock: &mut C,
     rng: &mut R,
 ) -> Result<Response, ApiErr>
     requires pass { IsPassOf (cells_of shared.now.objects) (seats_of pass.old) }
-    ensures does { DoesUncalled ⟦<Store<K> as ObjectKinds>⟧.kinds C.Clock R.stream shared.now.objects pass.old pass.new clock.old clock.new rng.old rng.new (Answered shared.now.config request.now (Ok route.now)) result }
+    ensures does { DoesBy ⟦<Store<K> as ObjectKinds>⟧.kinds L.Link C.Clock R.stream shared.now.objects pass.old pass.new link.old link.new clock.old clock.new rng.old rng.new (Answered shared.now.config request.now (Ok route.now)) result }
     ensures shows { (count : ℕ) → result ≡ Err (error.Exhausted count) → RouteShows shared.now.config (seats_of pass.new) route.now count }
 {
+    let _ = link;
     match store_in(route) {
         Some(name) => at_store(rt, shared, pass, request, route, name, clock, rng),
         None => answer_plainly(rt, shared, pass, request, route),

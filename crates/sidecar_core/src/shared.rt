@@ -4,11 +4,12 @@ ghost use lib.ListN.{get_elem?};
 ghost use Rattle.sidecar_core.specs.Site.{Site};
 ghost use Rattle.sidecar_core.specs.Sites.{sites_of, notes_of, pubsubs_of, sub_notes_of, HasBreakerOf};
 
-use crate::{Config, Objects, StoreSite};
+use crate::{Config, StoreSite};
 use api_routes::{Route, RouteErr, Routers};
 use keeper_core::Keeper;
 use meta_api::{ComponentNotes, SubscriptionNotes};
 use side_base::{Request, Text};
+use sidecar_objects::Objects;
 use std::alloc::Global;
 
 /// What all passes share: the configuration, and a cell for each store, each ledger, each breaker and for the book of metadata.

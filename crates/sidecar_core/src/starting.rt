@@ -10,12 +10,11 @@ ghost use Rattle.breaker_core.specs.Breaker.{policy_of};
 ghost use Rattle.meta_api.specs.Notes.{pairs_of};
 ghost use Rattle.sidecar_core.specs.Plans.{plan_of, plans_in};
 ghost use Rattle.sidecar_core.specs.Sites.{HasBreakerOf, HaveBreakers, is_store, is_pubsub, notes_of, note_of, pubsubs_of, site_of, sites_of, stores_of, sub_note_of, sub_notes_of};
-ghost use Rattle.sidecar_core.specs.Did.{IsPassOf, IsLone, IsSoundPass};
-ghost use Rattle.sidecar_core.specs.Pass.{cells_of, seats_of};
+ghost use Rattle.sidecar_objects.specs.Passes.{IsPassOf, IsLone, IsSoundPass};
+ghost use Rattle.sidecar_objects.specs.Pass.{cells_of, seats_of};
 ghost use Rattle.sidecar_core.specs.Started.{IsStarted, IsRoomFor};
 
-use crate::kinds::ObjectKinds;
-use crate::{Config, Objects, Pass, Room, Shared, StoreSite};
+use crate::{Config, Room, Shared, StoreSite};
 use api_routes::Routers;
 use breaker_core::Breaker;
 use keeper_core::Keeper;
@@ -24,6 +23,7 @@ use meta_api::{ComponentNote, ComponentNotes, Notes, SubscriptionNote, Subscript
 use policy_spec::{BreakerPolicies, Policies, Target, bind, breakers};
 use resource_spec::{Component, ComponentKind, Components};
 use side_base::{NoMemory, Text};
+use sidecar_objects::{ObjectKinds, Objects, Pass};
 use state_core::{Prefix, Store};
 use std::alloc::Global;
 use topic_spec::{Sub, Subs};

@@ -21,8 +21,8 @@ use Rattle.breaker_core.proofs.breaker.Breaker.TheSendSync as breaker
 use Rattle.meta_api.proofs.notes.Notes.TheSendSync as notes
 use Rattle.sidecar_core.proofs.config.Config.TheSendSync as config
 use Rattle.sidecar_core.proofs.site.StoreSite.TheSendSync as site
-use Rattle.sidecar_core.specs.contracts.objects.Objects as Objects
-use Rattle.sidecar_core.specs.contracts.objects.Pass as Pass
+use Rattle.sidecar_objects.specs.contracts.objects.Objects as Objects
+use Rattle.sidecar_objects.specs.contracts.objects.Pass as Pass
 use Rattle.sidecar_core.specs.contracts.shared.Shared as Shared
 use Rattle.sidecar_workers.proofs.exit.Exit.TheSendSync as exit
 use Rattle.sidecar_serving.proofs.due.Due.TheSendSync as due

@@ -17,10 +17,11 @@ use Rattle.conn_serve.specs.Session.{Session, trace_of}
 use Rattle.conn_serve.specs.Served.{Served}
 use Rattle.sidecar_core.specs.declared.config.Config.{Config}
 use Rattle.sidecar_core.specs.declared.delivering.Turn.{Turn}
-use Rattle.sidecar_core.specs.declared.doing.Doing.{Doing}
-use Rattle.sidecar_core.specs.Composed.{went_on}
+use Rattle.sidecar_objects.specs.declared.doing.Doing.{Doing}
+use Rattle.sidecar_objects.specs.Composed.{did_on}
 use Rattle.sidecar_core.specs.Delivery.{Delivers}
-use Rattle.sidecar_core.specs.Did.{CellsAt, Does, Kinds, Standing, Went}
+use Rattle.sidecar_objects.specs.Kind.{CellsAt, Kinds}
+use Rattle.sidecar_objects.specs.Did.{Did, Does, Standing}
 use Rattle.sidecar_core.specs.Exchange.{Exchange}
 use Rattle.sidecar_core.specs.Shown.{ShownFor, some_seat}
 use Rattle.sidecar_workers.specs.declared.exit.Exit.{Exit}
@@ -96,19 +97,19 @@ module _ {O S N : Type 0} (config : Config) (kinds : Kinds O) (cells : CellsAt O
 
   -- the connection was served
   pub served_on : (due due' : Due S N) (source source' : S) (sink sink' : N) (told told' : Option (List Answer)) (exit exit' : Option Exit) (ended : Ended) (after : Standing O) → due ≡ dues.Serve source sink → due' ≡ dues.Nothing → exit' ≡ exit_of_served (served_of ended)
-      → Served (Exchange config) (λ events. Went kinds cells at events after) (ShownFor config after.seats) (source_at reads source) (source_at reads source') (sink_at writes sink) (sink_at writes sink') ended → Returns told told' (ComesBack reads writes source' sink')
+      → Served (Exchange config) (λ events. Did kinds cells at events after) (ShownFor config after.seats) (source_at reads source) (source_at reads source') (sink_at writes sink) (sink_at writes sink') ended → Returns told told' (ComesBack reads writes source' sink')
       → HasDone config kinds cells start (owed_of due) (IsNewDue reads writes due) (record { at = at; told = told; exit = exit }) → HasDone config kinds cells start (owed_of due') (IsNewDue reads writes due') (record { at = after; told = told'; exit = exit' })
   served_on due due' source source' sink sink' told told' exit exit' ended after was is ends-so served returns before =
       let done = subst (λ d. HasDone config kinds cells start (owed_of d) (IsNewDue reads writes d) (record { at = at; told = told; exit = exit })) was before in
       subst (λ d. HasDone config kinds cells start (owed_of d) (IsNewDue reads writes d) (record { at = after; told = told'; exit = exit' })) (sym is)
       (subst (λ e. HasDone config kinds cells start owed.Nothing (Unit {0}) (record { at = after; told = told'; exit = e })) (sym ends-so) record {
         events = done.events ++ trace_of served.done served.more;
-        went = went_on kinds cells start done.events at (trace_of served.done served.more) after done.went served.acted;
+        went = did_on kinds cells start done.events at (trace_of served.done served.more) after done.went served.acted;
         worked = λ answers is'. let r = returns answers is' in let w = done.worked (r.0 ++ conn None ∷ []) r.2 in
             subst (λ l. Worked config l (done.events ++ trace_of served.done served.more) (exit_of_served (served_of ended))) (ap (λ l. l ++ conn (Some r.1) ∷ []) (sym (append_cancel_right r.0 w.0 (conn None ∷ []) w.1)) ∙ sym r.3)
             (further w.0 done.events (trace_of served.done served.more) (conn (Some r.1)) (exit_of_served (served_of ended)) w.3 (connected done.new r.1 r.4));
         new = tt;
-        shown = λ count shows. let by = shown_by (Exchange config) (λ events. Went kinds cells at events after) (ShownFor config after.seats) (source_at reads source) (source_at reads source') (sink_at writes sink) (sink_at writes sink') ended count served shows in some_seat config after.seats count by.0 by.1;
+        shown = λ count shows. let by = shown_by (Exchange config) (λ events. Did kinds cells at events after) (ShownFor config after.seats) (source_at reads source) (source_at reads source') (sink_at writes sink) (sink_at writes sink') ended count served shows in some_seat config after.seats count by.0 by.1;
       })
     where
       connected : IsNew reads writes source sink → (back : Back) → ComesBack reads writes source' sink' back → Connected config back (trace_of served.done served.more) (exit_of_served (served_of ended))
@@ -132,7 +133,7 @@ module _ {O S N : Type 0} (config : Config) (kinds : Kinds O) (cells : CellsAt O
       subst (λ d. HasDone config kinds cells start (owed_of d) (IsNewDue reads writes d) (record { at = after; told = told; exit = exit' })) (sym is)
       (subst (λ e. HasDone config kinds cells start owed.Nothing (Unit {0}) (record { at = after; told = told; exit = e })) (sym ends-so) record {
         events = done.events ++ does.events;
-        went = went_on kinds cells start done.events at does.events after done.went does.went;
+        went = did_on kinds cells start done.events at does.events after done.went does.went;
         worked = λ answers is'. let w = done.worked answers is' in subst (λ l. Worked config l (done.events ++ does.events) (exit_of_turned (turned_of turn))) (sym w.1)
             (further w.0 done.events does.events idle (exit_of_turned (turned_of turn)) w.3 (record { turn = turn; delivers = does.held; exit_is = refl }));
         new = tt;

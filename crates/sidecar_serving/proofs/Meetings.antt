@@ -6,12 +6,13 @@ use Rattle.std.proofs.lemmas.List.{append-nil, length-map, map-append}
 use Rattle.std.proofs.lemmas.List.Elements.{All-pop}
 use Rattle.atomic_table.specs.Seated.{TableId}
 use Rattle.sidecar_workers.specs.declared.exit.Exit.{Exit}
-use Rattle.sidecar_core.specs.Did.{CellsAt, IsSoundPass, Kinds}
+use Rattle.sidecar_objects.specs.Kind.{CellsAt, Kinds}
+use Rattle.sidecar_objects.specs.Passes.{IsSoundPass}
 use Rattle.sidecar_workers.specs.StopSeat.{HasEnded, HasFound, HasMet, Standing, joined, looked_as, root_of}
 use Rattle.sidecar_serving.specs.Ending.{has_reason, is_failed, is_stopped, spent_by}
 use Rattle.sidecar_serving.specs.Met.{AreMet, HubAt, IsMet, failed_in, nobody, one, reason_in, spent_in, stopped_in}
 use Rattle.sidecar_serving.specs.Opened.{WorkerAt}
-use Rattle.sidecar_serving.specs.Passes.{IsRootPass, IsSplitOffPass, MayMeet}
+use Rattle.sidecar_objects.specs.Passes.{IsRootPass, IsSplitOffPass, MayMeet}
 use Rattle.sidecar_serving.proofs.Passes.{may_meet, root_met}
 
 or_false : (a : Bool) → (a || false) ≡ a

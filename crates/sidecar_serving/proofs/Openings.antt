@@ -8,7 +8,7 @@ use Rattle.side_world.specs.declared.outside.OutsideCall.{OutsideCall}
 use Rattle.side_world.specs.declared.outside.OutsideCall.TheVariants as call
 use Rattle.side_world.specs.Told.{Tells}
 use Rattle.side_world.proofs.Composed.{tells_on, tells_nothing}
-use Rattle.sidecar_core.specs.Did.{CellsAt, SeatsAt}
+use Rattle.sidecar_objects.specs.Kind.{CellsAt, SeatsAt}
 use Rattle.sidecar_workers.specs.StopSeat.{Standing, parent_of, root_of}
 use Rattle.sidecar_serving.specs.Opened.{AreWorkers, IsAskedUpTo, worker_calls}
 use Rattle.sidecar_serving.specs.Passes.{root_pass}

@@ -16,9 +16,10 @@ use Rattle.side_world.specs.Told.{IsFresh}
 use Rattle.state_core.specs.declared.store.Store.{Store}
 use Rattle.sidecar_core.specs.declared.config.Config.{Config}
 use Rattle.sidecar_core.specs.declared.shared.Shared.{Shared}
-use Rattle.sidecar_core.specs.Composed.{went_nowhere}
-use Rattle.sidecar_core.specs.Did.{CellsAt, Kinds, Standing}
-use Rattle.sidecar_core.specs.Pass.{cells_of}
+use Rattle.sidecar_objects.specs.Composed.{did_nothing, split_off_stays}
+use Rattle.sidecar_objects.specs.Kind.{CellsAt, Kinds}
+use Rattle.sidecar_objects.specs.Did.{Standing}
+use Rattle.sidecar_objects.specs.Pass.{cells_of}
 use Rattle.sidecar_workers.specs.declared.exit.Exit.{Exit}
 use Rattle.sidecar_workers.specs.declared.exit.Exit.TheVariants as exits
 use Rattle.sidecar_workers.specs.declared.slot.Slot.{Slot}
@@ -32,10 +33,10 @@ use Rattle.sidecar_serving.specs.declared.due.Due.TheVariants as dues
 use Rattle.sidecar_serving.specs.declared.serving.Serving.{Serving}
 use Rattle.sidecar_serving.specs.Ending.{has_reason, is_stopped}
 use Rattle.sidecar_serving.specs.Opened.{AreWorkers, HasWorked, IsOpened, WorkerAt}
-use Rattle.sidecar_serving.specs.Passes.{IsSplitOffPass}
+use Rattle.sidecar_objects.specs.Passes.{IsSplitOffPass}
 use Rattle.sidecar_serving.specs.Slots.{IsOpenedSlot, IsReadySlot, worker_at}
 use Rattle.sidecar_serving.specs.Worker.{HasDone, HasExit, IsNewDue, Reached, Worked, nothing, owed_of}
-use Rattle.sidecar_serving.proofs.Passes.{split_off_stays, worker_pass_is}
+use Rattle.sidecar_serving.proofs.Passes.{worker_pass_is}
 
 -- a list that tells nothing but was told is empty
 told_nothing : {X : Type 0} (told : Option (List X)) (all : List X) → IsFresh told → told ≡ Some all → all ≡ []
@@ -49,7 +50,7 @@ told_nothing (Some held) all fresh is = same is ∙ fresh
 pub has_begun : {O : Type 0} (config : Config) (kinds : Kinds O) (cells : CellsAt O) (fresh : Type 0) (reached : Reached O) → fresh → IsFresh reached.told → reached.exit ≡ None → HasDone config kinds cells reached.at owed.Nothing fresh reached
 has_begun config kinds cells fresh reached new unaccepted goes_on = record {
   events = [];
-  went = went_nowhere kinds cells reached.at;
+  went = did_nothing kinds cells reached.at;
   worked = λ answers is. subst (λ l. Worked config l [] reached.exit) (sym (told_nothing reached.told answers unaccepted is)) (subst (λ e. Worked config [] [] e) (sym goes_on) nothing);
   new = new;
   shown = λ count is. absurd (none_ended count (sym goes_on ∙ is));
@@ -98,7 +99,7 @@ module _ {K A L C R S N : Type 0} {keeping : Keeps K} {accepts : Accepts A S N} 
       let begun = subst (λ o. HasDone old.work.shared.now.config kinds (cells_of old.work.shared.now.objects) (worker_at old).reached.at o (IsNewDue reads writes old.work.due) (worker_at old).reached) (sym (ap owed_of opened.due))
       (has_begun old.work.shared.now.config kinds (cells_of old.work.shared.now.objects) (IsNewDue reads writes old.work.due) (worker_at old).reached waits opened.worker.unaccepted opened.worker.goes_on) in
       let done = done_free shared.config new.work.shared.now.config kinds (cells_of shared.objects) (cells_of new.work.shared.now.objects) (worker_at old).reached.at (owed_of new.work.due) (IsNewDue reads writes new.work.due) (worker_at new).reached free (ap (λ s. s.config) over) (ap (λ s. cells_of s.objects) over) (kept (worker_at old).reached.at begun) in
-      let off = split_off_stays (cells_of shared.objects) kinds (worker_at old).reached.at done.events (worker_at new).reached.at done.went (subst (λ p. IsSplitOffPass (cells_of shared.objects) p) (sym opened.worker.pass) (worker_pass_is (cells_of shared.objects) number)) in (
+      let off = split_off_stays kinds (cells_of shared.objects) (worker_at old).reached.at done.events (worker_at new).reached.at done.went (subst (λ p. IsSplitOffPass (cells_of shared.objects) p) (sym opened.worker.pass) (worker_pass_is (cells_of shared.objects) number)) in (
         record {
           start = (worker_at old).reached.at;
           numbered = numbered ∙ opened.worker.numbered;

@@ -10,7 +10,8 @@ use Rattle.side_world.specs.Faults.{Rose}
 use Rattle.side_world.specs.Told.{Tells}
 use Rattle.side_world.proofs.Composed.{tells_nothing}
 use Rattle.sidecar_core.specs.declared.config.Config.{Config}
-use Rattle.sidecar_core.specs.Did.{CellsAt, IsSoundPass, Kinds}
+use Rattle.sidecar_objects.specs.Kind.{CellsAt, Kinds}
+use Rattle.sidecar_objects.specs.Passes.{IsSoundPass}
 use Rattle.sidecar_serving.specs.declared.end.End.{End}
 use Rattle.sidecar_serving.specs.declared.end.End.TheVariants as ended
 use Rattle.sidecar_serving.specs.declared.opening.Unopened.{Unopened}
@@ -18,9 +19,10 @@ use Rattle.sidecar_serving.specs.declared.opening.Unopened.TheVariants as lack
 use Rattle.sidecar_serving.specs.Ending.{end_of, end_without}
 use Rattle.sidecar_serving.specs.Met.{AreMet, HubAt, failed_in, nobody, reason_in, spent_in, stopped_in}
 use Rattle.sidecar_serving.specs.Opened.{AreWorkers, HasWorked, IsAskedUpTo, IsOpened, WorkerAt, worker_calls}
-use Rattle.sidecar_serving.specs.Passes.{IsRootPass, root_pass}
+use Rattle.sidecar_objects.specs.Passes.{IsRootPass}
+use Rattle.sidecar_serving.specs.Passes.{root_pass}
 use Rattle.sidecar_serving.specs.Served.{IsServed, IsUnopened, WereMet, unopened, went}
-use Rattle.sidecar_serving.proofs.Passes.{lone_root, root_pass_is}
+use Rattle.sidecar_serving.proofs.Passes.{root_pass_is}
 
 -- what holds of each item holds of what it becomes
 all_mapped : {X Y : Type 0} (f : X → Y) (P : Y → Type 0) (xs : List X) → All (λ x. P (f x)) xs → All P (map f xs)
@@ -34,7 +36,7 @@ were_met config kinds cells words worker opened slots at mid after wide root bac
     let count : length opened ≡ length (map worker slots) = sym wide ∙ sym (length-map slots worker) in record {
       each = each;
       met = subst (λ hub. AreMet kinds cells (map worker slots) hub after) (λ i. record { seats = (root ∙ ap (λ n. root_pass n cells) count) i; backs = backs i; faults = faults i }) met;
-      lone = lone_root cells after.seats lone;
+      lone = lone;
       sound = λ low. sound (subst (λ n. 0 < n) (length-map slots worker) low);
     }
 
@@ -77,6 +79,6 @@ pub none_served : {O : Type 0} (config : Config) (kinds : Kinds O) (cells : Cell
 none_served config kinds cells port words calls at root = unopened [] 0 at (omega arith) (omega arith, omega arith, omega arith) (record {
   each = tt;
   met = subst (λ s. AreMet kinds cells [] (record at { seats = s }) at) root (nobody at);
-  lone = lone_root cells at.seats (subst (λ s. IsRootPass 0 cells s) (sym root) (root_pass_is cells 0));
+  lone = (subst (λ s. IsRootPass 0 cells s) (sym root) (root_pass_is cells 0));
   sound = λ low. absurd (omega (arith, low));
 }) tt (tells_nothing calls) (λ e. absurd (cc)) (inr refl)

@@ -6,12 +6,12 @@ use Rattle.side_world.specs.Outside.{Backs}
 use Rattle.side_world.specs.declared.outside.Outside.{Ghosts as Lends}
 use Rattle.keeper_core.specs.declared.keeper.Keeper.{Ghosts}
 use Rattle.state_core.specs.declared.store.Store.{Store}
-use Rattle.sidecar_core.specs.declared.objects.Pass.{Pass}
-use Rattle.sidecar_core.specs.Did.{CellsAt, Kinds, SeatsAt}
-use Rattle.sidecar_core.specs.Pass.{seats_of}
+use Rattle.sidecar_objects.specs.declared.objects.Pass.{Pass}
+use Rattle.sidecar_objects.specs.Kind.{CellsAt, Kinds, SeatsAt}
+use Rattle.sidecar_objects.specs.Pass.{seats_of}
 use Rattle.sidecar_serving.specs.Ending.{has_reason, is_failed, is_stopped, spent_by}
 use Rattle.sidecar_serving.specs.Opened.{WorkerAt}
-use Rattle.sidecar_serving.specs.Passes.{MetPass}
+use Rattle.sidecar_objects.specs.Passes.{MetPass}
 
 -- where workers are met: the pass of the root seats, what has come back of workers, where that is told, and how often the outside has failed
 pub record HubAt (O : Type 0) : Type 0 where
@@ -27,7 +27,7 @@ abbrev pub IsReturned : {O : Type 0} → WorkerAt O → Option Backs → Option 
 IsReturned w before after =
     (backs' : Backs) → after ≡ Some backs'
     → (backs : Backs) × (before ≡ Some backs)
-    × (backs' w.number ≡ Some (record { answers = w.reached.told; calls = w.reached.at.calls }))
+    × (backs' w.number ≡ Some (record { answers = w.reached.told; calls = w.reached.at.link.calls }))
     × ((other : ℕ) → other ≢ w.number → backs' other ≡ backs other)
 
 -- a worker was met, and its parts went back

@@ -5,7 +5,8 @@ use Rattle.side_world.specs.declared.outside.OutsideCall.{OutsideCall}
 use Rattle.side_world.specs.declared.outside.OutsideCall.TheVariants as call
 use Rattle.side_world.specs.Told.{IsFresh}
 use Rattle.sidecar_core.specs.declared.config.Config.{Config}
-use Rattle.sidecar_core.specs.Did.{CellsAt, Kinds, Standing}
+use Rattle.sidecar_objects.specs.Kind.{CellsAt, Kinds}
+use Rattle.sidecar_objects.specs.Did.{Standing}
 use Rattle.sidecar_workers.specs.declared.exit.Exit.{Exit}
 use Rattle.sidecar_workers.specs.declared.work.Owed.TheVariants as owed
 use Rattle.sidecar_serving.specs.Passes.{worker_pass}
@@ -32,7 +33,7 @@ pub record IsOpened {O : Type 0} (cells : CellsAt O) (number : ℕ) (words : Str
   pub numbered : w.number ≡ number
   pub pass : w.reached.at.seats ≡ worker_pass number cells
   pub drawn : w.reached.at.words ≡ words
-  pub unasked : IsFresh w.reached.at.calls
+  pub unasked : IsFresh w.reached.at.link.calls
   pub unaccepted : IsFresh w.reached.told
   pub goes_on : w.reached.exit ≡ None
   pub no_faults : w.faults ≡ 0
@@ -45,7 +46,7 @@ pub record HasWorked {O : Type 0} (config : Config) (kinds : Kinds O) (cells : C
   pub numbered : w.number ≡ number
   pub pass : start.seats ≡ worker_pass number cells
   pub drawn : start.words ≡ words
-  pub unasked : IsFresh start.calls
+  pub unasked : IsFresh start.link.calls
   pub done : HasDone config kinds cells start owed.Nothing (Unit {0}) w.reached
   pub exit : (e : Exit) → w.ended ≡ Some e → HasExit e w.reached.told w.faults w.reached.exit
 

@@ -1,9 +1,8 @@
--- Whole passes of all objects: what workers begin with, and what meeting them does to the pass of the root seats.
-use Rattle.std.specs.Prelude.{◌≡◌, ◌+◌, ℕ, true, false, [], map, Some, None}
-use Rattle.turn_cell.specs.Sitting.{Begun, IsSeatOf, Meets, Sitting}
-use Rattle.turn_cell.specs.Passes.{EachMet, EachRoot, EachSplitOff, IsRootOf, IsSplitOff}
-use Rattle.turn_pass.specs.Pass.{EachMayMeet}
-use Rattle.sidecar_core.specs.Did.{CellsAt, Kinds, SeatsAt}
+-- The passes of all objects that workers begin with.
+use Rattle.std.specs.Prelude.{◌+◌, ℕ, true, false, [], map, Some, None}
+use Rattle.turn_cell.specs.Sitting.{Begun, IsSeatOf, Sitting}
+use Rattle.turn_cell.specs.Passes.{EachSeated}
+use Rattle.sidecar_objects.specs.Kind.{CellsAt, SeatsAt}
 
 module _ {O C R : Type 0} where
   -- the root seat of a cell of which so many others were split off, and which has neither seen nor done anything
@@ -21,30 +20,9 @@ module _ {O : Type 0} where
   abbrev pub worker_pass : ℕ → CellsAt O → SeatsAt O
   worker_pass number cells = record { stores = map (worker_seat number) cells.stores; ledgers = map (worker_seat number) cells.ledgers; breakers = map (worker_seat number) cells.breakers; notes = worker_seat number cells.notes }
 
--- each is the root of its cell, with `out` seats that are split off and not met
-pub record IsRootPass {O : Type 0} (out : ℕ) (cells : CellsAt O) (seats : SeatsAt O) : Type 0 where
-  pub stores : EachRoot out cells.stores seats.stores
-  pub ledgers : EachRoot out cells.ledgers seats.ledgers
-  pub breakers : EachRoot out cells.breakers seats.breakers
-  pub notes : IsRootOf out cells.notes seats.notes
-
--- each is the root of its cell
-pub record MayMeet {O : Type 0} (cells : CellsAt O) (seats : SeatsAt O) : Type 0 where
-  pub stores : EachMayMeet cells.stores seats.stores
-  pub ledgers : EachMayMeet cells.ledgers seats.ledgers
-  pub breakers : EachMayMeet cells.breakers seats.breakers
-  pub notes : IsSeatOf cells.notes seats.notes × (seats.notes.is_root ≡ true)
-
--- each was split off the root of its cell
-pub record IsSplitOffPass {O : Type 0} (cells : CellsAt O) (seats : SeatsAt O) : Type 0 where
-  pub stores : EachSplitOff cells.stores seats.stores
-  pub ledgers : EachSplitOff cells.ledgers seats.ledgers
-  pub breakers : EachSplitOff cells.breakers seats.breakers
-  pub notes : IsSplitOff cells.notes seats.notes
-
--- each root met the seat at its place
-pub record MetPass {O : Type 0} (kinds : Kinds O) (cells : CellsAt O) (root other after : SeatsAt O) : Type 0 where
-  pub stores : EachMet kinds.store cells.stores root.stores other.stores after.stores
-  pub ledgers : EachMet kinds.ledger cells.ledgers root.ledgers other.ledgers after.ledgers
-  pub breakers : EachMet kinds.breaker cells.breakers root.breakers other.breakers after.breakers
-  pub notes : Meets kinds.notes cells.notes.first root.notes other.notes after.notes
+-- a pass of these cells, kind by kind: so it is a fact of a value of a type, which has at most one proof
+pub record IsOwnPass {O : Type 0} (cells : CellsAt O) (seats : SeatsAt O) : Type 0 where
+  pub stores : EachSeated cells.stores seats.stores
+  pub ledgers : EachSeated cells.ledgers seats.ledgers
+  pub breakers : EachSeated cells.breakers seats.breakers
+  pub notes : IsSeatOf cells.notes seats.notes

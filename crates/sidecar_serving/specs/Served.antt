@@ -8,10 +8,11 @@ use Rattle.side_world.specs.Told.{Tells}
 use Rattle.keeper_core.specs.declared.keeper.Keeper.{Ghosts}
 use Rattle.state_core.specs.declared.store.Store.{Store}
 use Rattle.sidecar_core.specs.declared.config.Config.{Config}
-use Rattle.sidecar_core.specs.declared.objects.Pass.{Pass}
+use Rattle.sidecar_objects.specs.declared.objects.Pass.{Pass}
 use Rattle.sidecar_core.specs.declared.shared.Shared.{Shared}
-use Rattle.sidecar_core.specs.Did.{CellsAt, IsLone, IsSoundPass, Kinds}
-use Rattle.sidecar_core.specs.Pass.{cells_of}
+use Rattle.sidecar_objects.specs.Kind.{CellsAt, Kinds}
+use Rattle.sidecar_objects.specs.Passes.{IsLone, IsSoundPass}
+use Rattle.sidecar_objects.specs.Pass.{cells_of}
 use Rattle.sidecar_serving.specs.declared.end.End.{End}
 use Rattle.sidecar_serving.specs.declared.end.End.TheVariants as ended
 use Rattle.sidecar_serving.specs.Ending.{end_of}

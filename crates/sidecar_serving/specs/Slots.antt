@@ -11,14 +11,14 @@ use Rattle.side_world.specs.declared.sink.Sink.{Ghosts as Writes}
 use Rattle.side_world.specs.declared.source.Source.{Ghosts as Reads}
 use Rattle.state_core.specs.declared.store.Store.{Store}
 use Rattle.sidecar_core.specs.declared.shared.Shared.{Shared}
-use Rattle.sidecar_core.specs.Pass.{cells_of, seats_of, standing}
+use Rattle.sidecar_objects.specs.Pass.{cells_of, seats_of, standing}
 use Rattle.sidecar_workers.specs.declared.slot.Slot.{Slot}
 use Rattle.sidecar_workers.specs.StopSeat.{child_of}
 use Rattle.sidecar_serving.specs.declared.due.Due.TheVariants as dues
 use Rattle.sidecar_serving.specs.declared.serving.Serving.{Serving}
 use Rattle.sidecar_serving.specs.Ending.{has_reason, is_stopped}
 use Rattle.sidecar_serving.specs.Opened.{IsOpened, WorkerAt}
-use Rattle.sidecar_serving.specs.Passes.{IsSplitOffPass}
+use Rattle.sidecar_objects.specs.Passes.{IsSplitOffPass}
 
 module _ {K A L C R S N : Type 0} {keeping : Keeps K} {accepts : Accepts A S N} {reads : Reads S} {writes : Writes N} {asks : Asks L} {times : Times C} {draws : Draws R} where
   -- the worker in a slot

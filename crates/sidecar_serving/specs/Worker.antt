@@ -9,9 +9,11 @@ use Rattle.conn_serve.specs.Exchanged.{Exchanged, Unanswered}
 use Rattle.conn_serve.specs.Session.{Session, trace_of}
 use Rattle.sidecar_core.specs.declared.config.Config.{Config}
 use Rattle.sidecar_core.specs.declared.delivering.Turn.{Turn}
-use Rattle.sidecar_core.specs.declared.doing.Doing.{Doing}
+use Rattle.sidecar_objects.specs.declared.doing.Doing.{Doing}
 use Rattle.sidecar_core.specs.Delivery.{Delivers}
-use Rattle.sidecar_core.specs.Did.{CellsAt, Kinds, Shows, Standing, Went}
+use Rattle.sidecar_objects.specs.Kind.{CellsAt, Kinds}
+use Rattle.sidecar_objects.specs.Shown.{Shows}
+use Rattle.sidecar_objects.specs.Did.{Did, Standing}
 use Rattle.sidecar_core.specs.Exchange.{Exchange}
 use Rattle.sidecar_workers.specs.declared.exit.Exit.{Exit}
 use Rattle.sidecar_workers.specs.declared.exit.Exit.TheVariants as exits
@@ -109,7 +111,7 @@ HasExit exits.Stopped told faults exit = Unit {0}
 -- shows the count
 pub record HasDone {O : Type 0} (config : Config) (kinds : Kinds O) (cells : CellsAt O) (start : Standing O) (owes : Owed) (fresh : Type 0) (reached : Reached O) : Type 0 where
   pub events : List Doing
-  pub went : Went kinds cells start events reached.at
+  pub went : Did kinds cells start events reached.at
   pub worked : (answers : List Answer) → reached.told ≡ Some answers → WorkedSoFar config owes answers events reached.exit
   pub new : fresh
   pub shown : (count : ℕ) → reached.exit ≡ Some (exits.Spent count) → Shows reached.at.seats count

@@ -1,12 +1,12 @@
 ghost use Rattle.std.specs.Prelude.{◌≡◌, ◌<◌, ◌≤◌, true, All, length, map};
 ghost use Rattle.side_world.specs.Outside.{IsBack};
 ghost use Rattle.side_world.specs.Faults.{RoseWith};
-ghost use Rattle.sidecar_core.specs.Did.{IsSoundPass};
-ghost use Rattle.sidecar_core.specs.Pass.{cells_of, seats_of};
+ghost use Rattle.sidecar_objects.specs.Passes.{IsSoundPass};
+ghost use Rattle.sidecar_objects.specs.Pass.{cells_of, seats_of};
 ghost use Rattle.sidecar_workers.specs.StopSeat.{HasMet, root_of};
 ghost use Rattle.sidecar_serving.specs.Ending.{end_of};
 ghost use Rattle.sidecar_serving.specs.Met.{AreMet, hub_at, failed_in, reason_in, spent_in, stopped_in, IsReturned};
-ghost use Rattle.sidecar_serving.specs.Passes.{IsRootPass, IsSplitOffPass, MayMeet, MetPass};
+ghost use Rattle.sidecar_objects.specs.Passes.{IsRootPass, IsSplitOffPass, MayMeet, MetPass};
 ghost use Rattle.sidecar_serving.specs.Slots.{IsReadySlot, worker_at};
 
 use crate::End;

@@ -3,7 +3,7 @@ ghost use Rattle.std.specs.Vec.{vec_capacity};
 ghost use Rattle.side_world.specs.declared.outside.OutsideCall.TheVariants as call;
 ghost use Rattle.side_world.specs.Faults.{Rose};
 ghost use Rattle.side_world.specs.Told.{Tells};
-ghost use Rattle.sidecar_core.specs.Pass.{cells_of, seats_of};
+ghost use Rattle.sidecar_objects.specs.Pass.{cells_of, seats_of};
 ghost use Rattle.sidecar_workers.specs.StopSeat.{parent_of, root_of};
 ghost use Rattle.sidecar_serving.specs.Opened.{AreWorkers, IsAskedUpTo, worker_calls};
 ghost use Rattle.sidecar_serving.specs.Passes.{root_pass, worker_pass};

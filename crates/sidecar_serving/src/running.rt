@@ -1,6 +1,6 @@
 ghost use Rattle.std.specs.Prelude.{◌≡◌, List, All, IsSome, length, map};
 ghost use Rattle.rand_core.specs.Stream.{Stream};
-ghost use Rattle.sidecar_core.specs.Pass.{cells_of};
+ghost use Rattle.sidecar_objects.specs.Pass.{cells_of};
 ghost use Rattle.sidecar_serving.specs.Opened.{AreWorkers, HaveWorked};
 ghost use Rattle.sidecar_serving.specs.Slots.{IsOpenedSlot, IsReadySlot, worker_at};
 

@@ -1,8 +1,8 @@
 ghost use Rattle.std.specs.Prelude.{◌≡◌, ◌<◌, ◌≤◌, [], length};
 ghost use Rattle.std.specs.Vec.{vec_capacity};
 ghost use Rattle.sidecar_workers.specs.StopSeat.{root_of};
-ghost use Rattle.sidecar_core.specs.Did.{IsLone, IsPassOf};
-ghost use Rattle.sidecar_core.specs.Pass.{cells_of, seats_of};
+ghost use Rattle.sidecar_objects.specs.Passes.{IsLone, IsPassOf};
+ghost use Rattle.sidecar_objects.specs.Pass.{cells_of, seats_of};
 ghost use Rattle.sidecar_serving.specs.Passes.{root_pass};
 ghost use Rattle.sidecar_serving.specs.Served.{ServesBy};
 ghost use Rattle.sidecar_serving.specs.Ending.{end_without};

@@ -1,5 +1,5 @@
-ghost use Rattle.sidecar_core.specs.Did.{IsPassOf};
-ghost use Rattle.sidecar_core.specs.Pass.{cells_of, seats_of};
+ghost use Rattle.sidecar_objects.specs.Pass.{cells_of, seats_of};
+ghost use Rattle.sidecar_serving.specs.Passes.{IsOwnPass};
 
 use crate::due::Due;
 use conn_serve::Buffers;
@@ -22,5 +22,5 @@ pub(crate) struct Serving<'a, K: Keeper, A: Acceptor, L: Link, C: Clock, R: Rng>
     pub(crate) due: Due<A::From, A::Into>,
     /// How it ended, if a connection or a turn of its own ended it.
     pub(crate) exit: Option<Exit>,
-    ghost of: { IsPassOf (cells_of shared.now.objects) (seats_of pass) },
+    ghost of: { IsOwnPass (cells_of shared.now.objects) (seats_of pass) },
 }

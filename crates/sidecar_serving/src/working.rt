@@ -1,4 +1,4 @@
-ghost use Rattle.sidecar_core.specs.Did.{Standing};
+ghost use Rattle.sidecar_objects.specs.Did.{Standing};
 ghost use Rattle.state_core.specs.declared.store.Store.{Store as StoreRecord};
 
 use crate::due::{Due, set, take};
@@ -15,7 +15,7 @@ use std::sync::Wait;
 impl<K: Keeper, A: Acceptor, L: Link, C: Clock, R: Rng> Work for Serving<'_, K, A, L, C, R> {
     ghost use Rattle.std.specs.Prelude.{◌≡◌, is_some, None};
     ghost use Rattle.std.proofs.Common.{◌∙◌, refl};
-    ghost use Rattle.sidecar_core.specs.Pass.{cells_of, standing};
+    ghost use Rattle.sidecar_objects.specs.Pass.{cells_of, standing};
     ghost use Rattle.sidecar_serving.specs.Worker.{HasDone, HasExit, owed_of, IsNewDue};
 
     ghost owes = { λ w. owed_of w.due };

@@ -1,5 +1,5 @@
-use Rattle.sidecar_core.specs.Did.{IsPassOf}
-use Rattle.sidecar_core.specs.Pass.{cells_of, seats_of}
+use Rattle.sidecar_objects.specs.Passes.{IsPassOf}
+use Rattle.sidecar_objects.specs.Pass.{cells_of, seats_of}
 use Rattle.conn_speed.proofs.measures.serve_all.Given as goal
 
 abbrev pub invariant-loop : goal.invariant-loop

@@ -1,7 +1,7 @@
 use Rattle.std.proofs.Common.{◌∙◌, ◌≡◌, ◌<◌, length, true, sym, ap, arith}
 use Rattle.conn_serve.specs.Ends.{sink_at}
-use Rattle.sidecar_core.specs.contracts.kinds.StoreObjectKinds.TheImpl.{ghosts}
-use Rattle.sidecar_core.specs.Pass.{cells_of, seats_of}
+use Rattle.sidecar_objects.specs.contracts.kinds.StoreObjectKinds.TheImpl.{ghosts}
+use Rattle.sidecar_objects.specs.Pass.{cells_of, seats_of}
 use Rattle.sidecar_core.specs.Sites.{is_pubsub, pubsubs_of}
 use Rattle.sidecar_cli.proofs.Countings.{few, none_counted, place_within, one_counted, passed_over, so_far_by, all_counted}
 use Rattle.sidecar_cli.proofs.counting.tell_ledgers.Goals as goal

@@ -1,6 +1,6 @@
 use Rattle.conn_serve.specs.Ends.{sink_at}
-use Rattle.sidecar_core.specs.contracts.kinds.StoreObjectKinds.TheImpl.{ghosts}
-use Rattle.sidecar_core.specs.Pass.{cells_of, seats_of}
+use Rattle.sidecar_objects.specs.contracts.kinds.StoreObjectKinds.TheImpl.{ghosts}
+use Rattle.sidecar_objects.specs.Pass.{cells_of, seats_of}
 use Rattle.sidecar_cli.proofs.Countings.{CountedSoFar}
 use Rattle.sidecar_cli.proofs.counting.tell_ledgers.Given as goal
 

@@ -1,8 +1,8 @@
 use Rattle.std.proofs.Common.{◌≡◌, subst, rules}
 use Rattle.conn_serve.specs.Served.{IsShown}
-use Rattle.sidecar_core.specs.Composed.{pass_stays}
-use Rattle.sidecar_core.specs.Did.{IsPassOf}
-use Rattle.sidecar_core.specs.Pass.{cells_of, seats_of}
+use Rattle.sidecar_objects.specs.Composed.{pass_stays}
+use Rattle.sidecar_objects.specs.Passes.{IsPassOf}
+use Rattle.sidecar_objects.specs.Pass.{cells_of, seats_of}
 use Rattle.sidecar_core.specs.Shown.{ShownFor}
 use Rattle.sidecar_core.proofs.Moved.{served_at}
 use Rattle.sidecar_core.proofs.connection.serve_connection.Goals as goal

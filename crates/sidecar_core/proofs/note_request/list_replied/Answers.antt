@@ -1,6 +1,6 @@
 use Rattle.std.proofs.Common.{subst}
 use Rattle.meta_api.specs.Body.{metadata_response}
-use Rattle.sidecar_core.specs.Exchange.{IsOr}
+use Rattle.link_call.specs.Came.{IsOr}
 use Rattle.sidecar_core.proofs.note_request.list_replied.Goals as goal
 
 pub returns-in-Listed : goal.returns-in-Listed

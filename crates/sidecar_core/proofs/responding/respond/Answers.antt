@@ -1,19 +1,19 @@
 use Rattle.std.proofs.Common.{Ok, Err, subst}
 use Rattle.api_routes.specs.Route.{Answers}
-use Rattle.sidecar_core.specs.Composed.{does_nothing, pass_stays}
-use Rattle.sidecar_core.proofs.Answering.{does_as, refusal_shows_nothing}
+use Rattle.sidecar_objects.specs.Composed.{does_nothing, pass_stays, does_as}
+use Rattle.sidecar_core.proofs.Answering.{refusal_shows_nothing}
 use Rattle.sidecar_core.proofs.Statuses.{fine_reply}
 use Rattle.sidecar_core.proofs.responding.respond.Goals as goal
 
 pub returns-in-Ok-clause-exchange : goal.returns-in-Ok-clause-exchange
 returns-in-Ok-clause-exchange g c = does_as _ _ _ _ _ _
-    (λ events at. record { routed = Ok c.in-Ok.route; routes = subst (Answers c.args.request.now.method c.args.request.now.target) c.in-Ok.is c.route.ensures; answered = at }) (c.answer.ensures.does _)
+    (λ events at. record { routed = Ok c.in-Ok.route; routes = subst (Answers c.args.request.now.method c.args.request.now.target) c.in-Ok.is c.route.ensures; answered = at }) c.answer.ensures.does
 
 pub returns-in-Ok-clause-pass : goal.returns-in-Ok-clause-pass
-returns-in-Ok-clause-pass g c = let d = c.answer.ensures.does (g.L.Link.calls c.args.link.now) in pass_stays _ _ _ d.events _ d.went c.requires.pass
+returns-in-Ok-clause-pass g c = let d = c.answer.ensures.does in pass_stays _ _ _ d.events _ d.went c.requires.pass
 
 pub returns-in-Ok-clause-status : goal.returns-in-Ok-clause-status
-returns-in-Ok-clause-status g c = let d = c.answer.ensures.does (g.L.Link.calls c.args.link.now) in fine_reply c.args.shared.now.config c.args.request.now (Ok c.in-Ok.route) d.events c.answer.result d.held
+returns-in-Ok-clause-status g c = let d = c.answer.ensures.does in fine_reply c.args.shared.now.config c.args.request.now (Ok c.in-Ok.route) d.events c.answer.result d.held
 
 pub returns-in-Ok-clause-shows : goal.returns-in-Ok-clause-shows
 returns-in-Ok-clause-shows g c = λ count is. record { asked = c.in-Ok.route; means = subst (Answers c.args.request.now.method c.args.request.now.target) c.in-Ok.is c.route.ensures; shown = c.answer.ensures.shows count is }

@@ -3,8 +3,8 @@ use mathlib.Core.Option.{some}
 use lib.ListN.{get_elem?}
 use Rattle.atomic_table.proofs.Lists.{at_index}
 use Rattle.sidecar_core.specs.Exchange.{unknown, found}
-use Rattle.sidecar_core.specs.Composed.{does_nothing}
-use Rattle.sidecar_core.proofs.Answering.{does_as, has_store, not_exhausted}
+use Rattle.sidecar_objects.specs.Composed.{does_nothing, does_as}
+use Rattle.sidecar_core.proofs.Answering.{has_store, not_exhausted}
 use Rattle.sidecar_core.proofs.state_request.at_store.Goals as goal
 
 pub at_site-requires-clause-breaker : goal.at_site-requires-clause-breaker
@@ -17,16 +17,16 @@ pub at_site-requires-clause-state : goal.at_site-requires-clause-state
 at_site-requires-clause-state g c = has_store c.args.route.now c.args.name.now c.requires.store
 
 pub returns-in-None-clause-does : goal.returns-in-None-clause-does
-returns-in-None-clause-does g c = λ calls. does_nothing _ _ _ _ (unknown (sym c.place_of.ensures ∙ c.in-None.is) (refl, c.given.ensures _ c.no_store.ensures))
+returns-in-None-clause-does g c = λ link. does_nothing _ _ _ _ (unknown (sym c.place_of.ensures ∙ c.in-None.is) (refl, c.given.ensures _ c.no_store.ensures))
 
 pub returns-in-None-clause-shows : goal.returns-in-None-clause-shows
 returns-in-None-clause-shows g c = λ count is. not_exhausted _ c.given.result count (c.given.ensures _ c.no_store.ensures) is
 
 pub returns-in-Some-clause-does : goal.returns-in-Some-clause-does
-returns-in-Some-clause-does g c = λ calls.
+returns-in-Some-clause-does g c = λ link.
     let low : c.in-Some.place < length c.args.shared.now.sites.items = search rules in
     let here = at_index c.args.shared.now.sites.items c.in-Some.place c.index.result.now low c.index.ensures in
-    does_as _ _ _ _ _ _ (λ events at. found c.in-Some.place c.index.result.now (record { named = sym c.place_of.ensures ∙ c.in-Some.is; there = subst (λ l. get_elem? l c.in-Some.place ≡ some c.index.result.now) c.args.shared.now.has_sites here }) at) (c.at_site.ensures.does calls)
+    does_as _ _ _ _ _ _ (λ events at. found c.in-Some.place c.index.result.now (record { named = sym c.place_of.ensures ∙ c.in-Some.is; there = subst (λ l. get_elem? l c.in-Some.place ≡ some c.index.result.now) c.args.shared.now.has_sites here }) at) (c.at_site.ensures.does link)
 
 pub returns-in-Some-clause-shows : goal.returns-in-Some-clause-shows
 returns-in-Some-clause-shows g c = λ count is.

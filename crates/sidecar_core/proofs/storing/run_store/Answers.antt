@@ -23,7 +23,7 @@ pub returns-in-None-clause-ran : goal.returns-in-None-clause-ran
 returns-in-None-clause-ran g c = let r = c.plain.ensures.ran in (
   _,
   placed_as c.args.place c.args.bound.now c.args.cmd.now c.plain.result r.0 r.1 r.2 r.3,
-  λ calls. did_plainly _ _ _ c.args.place _ c.index.result.now c.index_mut.result.now c.plain.new.seat _ _ calls _
+  λ link. did_plainly _ _ _ c.args.place _ c.index.result.now c.index_mut.result.now c.plain.new.seat _ _ link _ _
       (at_index c.args.objects.now.stores.items c.args.place c.index.result.now c.requires.place c.index.ensures)
       (at_index c.args.pass.now.stores.items c.args.place c.index_mut.result.now (omega (arith, c.requires.place, c.requires.stores.wide)) c.index_mut.ensures.value)
       r.0 r.4,
@@ -33,7 +33,7 @@ pub returns-in-Some-clause-ran : goal.returns-in-Some-clause-ran
 returns-in-Some-clause-ran g c = let r = c.gated.ensures.ran in let low = within c.args.bound.now.breaker c.in-Some.k c.in-Some.is c.requires.breaker in (
   _,
   placed_as c.args.place c.args.bound.now c.args.cmd.now c.gated.result r.0 r.1 r.2 r.3,
-  λ calls. did_gated_at _ _ _ c.args.place c.in-Some.k c.args.bound.now c.in-Some.is c.index-in-Some.result.now c.index_mut-in-Some.result.now c.gated.new.seat _ _ calls _
+  λ link. did_gated_at _ _ _ c.args.place c.in-Some.k c.args.bound.now c.in-Some.is c.index-in-Some.result.now c.index_mut-in-Some.result.now c.gated.new.seat _ _ link _ _
       (at_index c.args.objects.now.stores.items c.args.place c.index-in-Some.result.now c.requires.place c.index-in-Some.ensures)
       (at_index c.args.pass.now.stores.items c.args.place c.index_mut-in-Some.result.now (omega (arith, c.requires.place, c.requires.stores.wide)) c.index_mut-in-Some.ensures.value)
       c.index-in-Some-2.result.now c.index_mut-in-Some-2.result.now c.gated.new.key

@@ -1,6 +1,6 @@
 use Rattle.std.proofs.Common.{◌≡◌, ◌≤◌, vec_len}
-use Rattle.sidecar_core.specs.contracts.kinds.StoreObjectKinds.TheImpl.{ghosts}
-use Rattle.sidecar_core.specs.Pass.{cells_of, seats_of}
+use Rattle.sidecar_objects.specs.contracts.kinds.StoreObjectKinds.TheImpl.{ghosts}
+use Rattle.sidecar_objects.specs.Pass.{cells_of, seats_of}
 use Rattle.sidecar_serving.specs.Slots.{IsReadySlot, worker_at}
 use Rattle.sidecar_serving.proofs.Meetings.{MeetingSoFar}
 use Rattle.sidecar_serving.proofs.meeting.meet_all.Given as goal

@@ -1,6 +1,6 @@
 use Rattle.std.proofs.Common.{◌≡◌, ◌≤◌, length}
 use Rattle.std.specs.Vec.{vec_capacity}
-use Rattle.sidecar_core.specs.Pass.{cells_of, seats_of}
+use Rattle.sidecar_objects.specs.Pass.{cells_of, seats_of}
 use Rattle.sidecar_serving.specs.Slots.{IsOpenedSlot}
 use Rattle.sidecar_serving.proofs.Openings.{OpeningSoFar}
 use Rattle.sidecar_serving.proofs.opening.open_all.Given as goal

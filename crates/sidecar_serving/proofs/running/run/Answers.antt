@@ -3,8 +3,8 @@ use Rattle.std.specs.Prelude.{List, IsSome}
 use Rattle.rand_core.specs.Stream.{Stream}
 use denote.Param.Send.{arg_send, param_send}
 use Rattle.sidecar_serving.proofs.Crossings.{serving_send}
-use Rattle.sidecar_core.specs.contracts.kinds.StoreObjectKinds.TheImpl.{ghosts}
-use Rattle.sidecar_core.specs.Pass.{cells_of}
+use Rattle.sidecar_objects.specs.contracts.kinds.StoreObjectKinds.TheImpl.{ghosts}
+use Rattle.sidecar_objects.specs.Pass.{cells_of}
 use Rattle.sidecar_serving.specs.Opened.{AreWorkers, HasWorked}
 use Rattle.sidecar_serving.specs.Slots.{IsOpenedSlot, IsReadySlot, worker_at}
 use Rattle.sidecar_serving.proofs.Ran.{all_of, mapped_of, ran_one, ran_slots, ready_of}

@@ -3,9 +3,9 @@ use Rattle.sidecar_serving.specs.Opened.{AreWorkers, IsAskedUpTo}
 use Rattle.std.proofs.Common.{◌∙◌, ◌≡◌, ◌++◌, All, arith, ap, drop, length, map, sym, subst, take}
 use Rattle.std.proofs.Math.Seq.{take-append_seam}
 use Rattle.std.proofs.lemmas.List.{length-map}
-use Rattle.sidecar_core.specs.Pass.{cells_of, seats_of}
+use Rattle.sidecar_objects.specs.Pass.{cells_of, seats_of}
 use Rattle.sidecar_workers.specs.StopSeat.{root_of}
-use Rattle.sidecar_serving.specs.Passes.{IsRootPass}
+use Rattle.sidecar_objects.specs.Passes.{IsRootPass}
 use Rattle.sidecar_serving.specs.Slots.{IsOpenedSlot, IsReadySlot, worker_at}
 use Rattle.sidecar_serving.proofs.Passes.{root_pass_is}
 use Rattle.sidecar_serving.proofs.Ran.{mapped_of, opened_ready, opened_worked}

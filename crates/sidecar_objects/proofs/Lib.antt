@@ -1,0 +1,4 @@
+pub mod ByKind
+pub mod Single
+pub mod Laid
+mod Rewritten
