@@ -19,8 +19,7 @@ use Rattle.meta_api.specs.Body.{IsPutReply, put_response}
 use Rattle.sidecar_core.specs.declared.config.Config.{Config}
 use Rattle.sidecar_objects.specs.declared.doing.Doing.{Doing}
 use Rattle.sidecar_core.specs.Site.{Site}
-use Rattle.sidecar_objects.specs.Kind.{Kinds, CellsAt, SeatsAt}
-use Rattle.sidecar_objects.specs.Did.{Standing, Does}
+use Rattle.sidecar_objects.specs.Kind.{SeatsAt}
 use Rattle.link_call.specs.Came.{IsOr}
 use Rattle.sidecar_core.specs.Exchange.{Answered, AtSite, AtStore, FaultGives, PutReplies, store_in}
 use Rattle.sidecar_core.specs.Exchange as exchange

@@ -20,7 +20,6 @@ use Rattle.meta_api.specs.declared.command.NotesCmd.{NotesCmd}
 use Rattle.meta_api.specs.declared.command.NotesReply.{NotesReply}
 use Rattle.policy_run.specs.Effects.{Clocked}
 use Rattle.link_call.specs.LinkAt.{LinkAt, asks_none}
-use Rattle.sidecar_objects.specs.declared.doing.Doing.{Doing}
 use Rattle.sidecar_objects.specs.declared.doing.Doing.TheVariants.{Stepped}
 use Rattle.sidecar_objects.specs.declared.doing.SlotStep.{SlotStep}
 use Rattle.sidecar_objects.specs.declared.doing.SlotStep.TheVariants as slot

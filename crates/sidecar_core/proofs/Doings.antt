@@ -31,8 +31,8 @@ use Rattle.state_api.specs.Ran.{ran_of}
 use Rattle.sidecar_objects.specs.declared.doing.Doing.{Doing}
 use Rattle.sidecar_objects.specs.declared.doing.Doing.TheVariants.{Stepped}
 use Rattle.sidecar_objects.specs.declared.doing.SlotStep.TheVariants.{Store}
-use Rattle.sidecar_objects.specs.Kind.{Kind, Kinds, CellsAt, SeatsAt, StepOf, stores, ledgers, breakers, book, cells_in, seats_in}
-use Rattle.sidecar_objects.specs.Doing.{placed, steps_at, asked_in, word_in, moment_in, pause_in, tick_in}
+use Rattle.sidecar_objects.specs.Kind.{Kinds, CellsAt, SeatsAt, stores, ledgers, breakers, book, cells_in, seats_in}
+use Rattle.sidecar_objects.specs.Doing.{placed, steps_at, asked_in}
 use Rattle.sidecar_objects.specs.Did.{Did, Standing}
 use Rattle.sidecar_objects.proofs.ByKind.{by_kind}
 use Rattle.sidecar_objects.proofs.Laid.{all_here, none_elsewhere, none_of_each, laid_own, laid_steps, laid_words, laid_moments, laid_pauses, laid_ticks}

@@ -46,18 +46,15 @@ impl<K: Keeper> Shared<K> {
         ensures sound { IfOk result (λ made. IsSoundPass ⟦<Store<K> as ObjectKinds>⟧.kinds (cells_of made.0.objects) (seats_of made.1)) }
         ensures room { IfOk result (λ made. IsRoomFor (length made.0.objects.stores.items) made.2) }
     {
-        let sites = sites_for(alloc, &config)?;
-        let notes = notes_for(alloc, &config.components)?;
-        let sub_notes = sub_notes_for(alloc, &config.subs)?;
-        let ledgers = ledgers_for(alloc, &config)?;
-        let breakers = breakers_for(alloc, breakers(&config.policies))?;
-        let room = Room {
-            closed: Vec::with_capacity(alloc, keepers.len())?,
-            kept: Vec::with_capacity(alloc, keepers.len())?,
-        };
-        let routers = Routers::new(alloc)?;
-        let stores = stores_for(alloc, keepers)?;
-        let (objects, pass) = Objects::start(alloc, stores, ledgers, breakers, Notes::new(alloc))?;
+        let room = room_for(alloc, keepers.len())?;
+        let tables = tables_for(alloc, &config)?;
+        let (objects, pass) = objects_for(alloc, &config, keepers)?;
+        let Tables {
+            routers,
+            sites,
+            notes,
+            sub_notes,
+        } = tables;
         let shared = Shared {
             config,
             objects,
@@ -69,6 +66,59 @@ impl<K: Keeper> Shared<K> {
         };
         Ok((shared, pass, room))
     }
+}
+
+/// What requests find of a configuration.
+#[derive(Drop)]
+struct Tables {
+    routers: Routers,
+    sites: Vec<StoreSite>,
+    notes: ComponentNotes,
+    sub_notes: SubscriptionNotes,
+}
+
+/// What requests find of a configuration, made of it.
+fn tables_for(alloc: Global, config: &Config) -> Result<Tables, NoMemory>
+    ensures sites { IfOk result (λ tables. tables.sites.items ≡ sites_of config.now) }
+    ensures bounds { IfOk result (λ tables. HaveBreakers config.now tables.sites.items) }
+    ensures notes { IfOk result (λ tables. tables.notes ≡ notes_of config.now) }
+    ensures sub_notes { IfOk result (λ tables. tables.sub_notes ≡ sub_notes_of config.now) }
+{
+    let sites = sites_for(alloc, config)?;
+    let notes = notes_for(alloc, &config.components)?;
+    let sub_notes = sub_notes_for(alloc, &config.subs)?;
+    let routers = Routers::new(alloc)?;
+    Ok(Tables {
+        routers,
+        sites,
+        notes,
+        sub_notes,
+    })
+}
+
+/// The cells of all objects of a configuration, and the pass of their root seats.
+fn objects_for<K: Keeper>(
+    alloc: Global,
+    config: &Config,
+    keepers: Vec<K>,
+) -> Result<(Objects<K>, Pass<K>), NoMemory>
+    ensures started { IfOk result (λ made. IsStarted config.now keepers.items config.now made.0 made.1) }
+    ensures sound { IfOk result (λ made. IsSoundPass ⟦<Store<K> as ObjectKinds>⟧.kinds (cells_of made.0) (seats_of made.1)) }
+{
+    let ledgers = ledgers_for(alloc, config)?;
+    let breakers = breakers_for(alloc, breakers(&config.policies))?;
+    let stores = stores_for(alloc, keepers)?;
+    let (objects, pass) = Objects::start(alloc, stores, ledgers, breakers, Notes::new(alloc))?;
+    Ok((objects, pass))
+}
+
+/// Room for the end of so many stores.
+fn room_for<K: Keeper>(alloc: Global, stores: usize) -> Result<Room<K>, NoMemory>
+    ensures { IfOk result (IsRoomFor stores) }
+{
+    let closed = Vec::with_capacity(alloc, stores)?;
+    let kept = Vec::with_capacity(alloc, stores)?;
+    Ok(Room { closed, kept })
 }
 
 /// How many state components there are: as many keepers as `Shared::start` takes. Takes no memory.

@@ -1,4 +1,4 @@
-use Rattle.std.proofs.Common.{◌≡◌, ◌∙◌, ◌+◌, ◌∷◌, [], ℕ, length, length-append, take, sym, ap, arith}
+use Rattle.std.proofs.Common.{◌∙◌, ◌+◌, ◌∷◌, [], ℕ, length, length-append, take, sym, ap, arith}
 use Rattle.sidecar_core.specs.Sites.{is_store, stores_of}
 use Rattle.sidecar_core.proofs.Gathered.{more_chosen}
 use Rattle.sidecar_core.proofs.starting.count_of_stores.Goals as goal
