@@ -21,3 +21,4 @@ pub mod Sorted
 pub mod Stays
 pub mod Steps
 pub mod TakeSteps
+mod Ways

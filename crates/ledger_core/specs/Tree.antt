@@ -1,5 +1,5 @@
 -- What a tree of rows holds.
-use Rattle.std.specs.Prelude.{◌≡◌, ◌≤◌, ◌+◌, ◌*◌, ◌^◌, ℕ, not, List, [], ◌∷◌, ◌++◌, length, Option, Some, None, Box}
+use Rattle.std.specs.Prelude.{◌≡◌, ◌≤◌, ◌+◌, ◌*◌, ◌^◌, ℕ, suc, not, List, [], ◌∷◌, ◌++◌, length, Option, Some, None, Box}
 use Rattle.std.specs.List.{filter}
 use Rattle.std.specs.Ordering.{eq_by_cmp}
 use Rattle.std.specs.Arc.{arc_value}
@@ -44,6 +44,13 @@ pub record IsBalanced (root : Option (Box Node Global)) (len : ℕ) : Type 0 whe
   pub even : IsEven root
   pub len_is : len ≡ length (listed_in root)
   pub most : len ≤ 2 ^ 126
+
+-- A way down a tree of so many rows, of so many nodes, from its root on: the sides of each node are alike, as `IsBalanced` has it of every
+-- tree, and the way goes on in one of them.
+pub data IsWayDown : ℕ → ℕ → Type 0 where
+  ends : {rows : ℕ} → IsWayDown rows 0
+  goes_left : {left right nodes : ℕ} → AreAlike left right → IsWayDown left nodes → IsWayDown (left + right + 1) (suc nodes)
+  goes_right : {left right nodes : ℕ} → AreAlike left right → IsWayDown right nodes → IsWayDown (left + right + 1) (suc nodes)
 
 -- the entries of the other places
 abbrev pub without : Place → List Entry → List Entry

@@ -1,9 +1,10 @@
 //! What holds of every history of a ledger, as functions whose contract is the law.
-ghost use Rattle.std.specs.Prelude.{List};
+ghost use Rattle.std.specs.Prelude.{ℕ, suc, ◌+◌, ◌*◌, ◌^◌, ◌≤◌, List};
 ghost use Rattle.turn_cell.specs.History.{IsLegal};
 ghost use Rattle.ledger_core.specs.declared.ledger.Ledger.{Ledger};
 ghost use Rattle.ledger_core.specs.Message.{Step};
 ghost use Rattle.ledger_core.specs.Ledger.{Stands, plans_of, books_of};
+ghost use Rattle.ledger_core.specs.Tree.{IsWayDown};
 ghost use Rattle.ledger_core.specs.Laws.{AreCountedOnce, StaysSettled, IsSettledOnce, AreLetters, RowsAreOwed, AreFitting, ArePlanned, ClaimsRise, IsSettledBetween, IsLetGo, CountsAddUp};
 
 use crate::Ledger;
@@ -52,4 +53,10 @@ pub fn a_claim_is_one_holder()
     ensures rise { (first : Ledger) (history : List Step) → IsLegal ⟦<Ledger as Object>⟧ first history → ClaimsRise history }
     ensures between { (first : Ledger) (history : List Step) → IsLegal ⟦<Ledger as Object>⟧ first history → IsSettledBetween history }
     ensures ends { (first : Ledger) (history : List Step) → IsLegal ⟦<Ledger as Object>⟧ first history → IsLetGo history }
+{}
+
+/// No way down a tree of rows is long: each node more takes a quarter of the places at least. Of 65,536 rows it has at most 37 nodes.
+pub fn ways_down_are_short()
+    ensures each { (rows nodes : ℕ) → IsWayDown rows (suc nodes) → 2 * 4 ^ nodes ≤ 3 ^ nodes * (rows + 1) }
+    ensures most { (rows nodes : ℕ) → IsWayDown rows nodes → rows ≤ 65536 → nodes ≤ 37 }
 {}

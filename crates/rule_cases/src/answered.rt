@@ -31,11 +31,19 @@ fn add_truth(alloc: Global, rule: &Expr, event: &[u8], lines: &mut Lines) {
 }
 
 // What the rule of this text answers over an event, or why it is refused, as sections of this word tell it.
-fn add_answer(alloc: Global, word: &str, event: &[u8], text: &[u8], lines: &mut Lines) {
+fn add_answer(alloc: Global, word: &str, event: &[u8], text: &str, lines: &mut Lines) {
     match parse(alloc, text) {
         Ok(rule) => add_truth(alloc, &rule, event, lines),
         Err(error) if word == "told" => lines.add_told(alloc, &error),
         Err(error) => add_refusal(error, lines),
+    }
+}
+
+// The same of bytes, which are no rule where they are no text.
+fn add_of_bytes(alloc: Global, word: &str, event: &[u8], bytes: &[u8], lines: &mut Lines) {
+    match str::from_utf8(bytes) {
+        Ok(text) => add_answer(alloc, word, event, text, lines),
+        Err(_) => lines.add("no text"),
     }
 }
 
@@ -48,7 +56,7 @@ pub(crate) fn answer(
 ) -> Result<Text, NoMemory> {
     let mut lines = Lines::new(alloc);
     match word {
-        "rules" | "told" => add_answer(alloc, word, event, text, &mut lines),
+        "rules" | "told" => add_of_bytes(alloc, word, event, text, &mut lines),
         _ => lines.add("no such section"),
     }
     lines.done()

@@ -5,3 +5,4 @@ mod Quotations
 mod Ruling
 mod Walking
 mod WalkingOperands
+mod Texts

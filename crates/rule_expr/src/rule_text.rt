@@ -13,12 +13,12 @@ use std::alloc::Global;
 
 /// Reads a rule, in which at most 32 brackets stand within one another. A refusal is of the first place where the text leaves the
 /// grammar.
-#[tactic(auto, using(crate::proofs::Producing::ruled, crate::proofs::Producing::ruled_fits))]
-pub fn parse(alloc: Global, text: &[u8]) -> Result<Expr, RuleErr>
+#[tactic(auto, using(crate::proofs::Producing::ruled, crate::proofs::Producing::ruled_fits, crate::proofs::Texts::ruled_utf8))]
+pub fn parse(alloc: Global, text: &str) -> Result<Expr, RuleErr>
     ensures ok { IfOk result (λ expr. (tree : Tree or) × IsRule text.now tree × IsExpr expr.ops.items tree) }
     ensures err { IfErr result (λ why. why ≢ NoMemory → IsRefused text.now why) }
 {
-    let mut parser = Parser::new(alloc, text);
+    let mut parser = Parser::new(alloc, text.as_bytes());
     match parser.either(32) {
         Ok(()) => {}
         Err(stop) => return Err(error_at(text.len(), stop)),

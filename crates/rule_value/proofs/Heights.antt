@@ -6,7 +6,7 @@ use Rattle.rule_value.specs.declared.op.Op.TheVariants as ops
 use Rattle.rule_value.specs.Trees
 use Rattle.rule_value.specs.Trees.{Level, Tree, levels}
 use Rattle.rule_value.specs.Values.{names_of, path_names}
-use Rattle.rule_value.specs.Codes.{code, taken, left, fits}
+use Rattle.rule_value.specs.Codes.{code, taken, left, fits, has_utf8, are_utf8}
 
 -- one step from a height to the next
 pub record Steps (op : Op) (height next : ℕ) : Type 0 where
@@ -129,3 +129,11 @@ pub fits_next : (height : ℕ) (op : Op) (later : List Op) → fits height (op �
 fits_next height op later h =
     let parts = all_of (nat_le (taken op) height) (nat_le (height - taken op + left op) 132) (fits (height - taken op + left op) later) h in
     (le_from (taken op) height parts.0, le_from (height - taken op + left op) 132 parts.1, parts.2)
+
+both_true : (a b : Bool) → (a && b) ≡ true → (a ≡ true) × (b ≡ true)
+both_true true b h = (refl, h)
+both_true false b h = let bad : ⊥ = cc in absurd bad
+
+-- the first of steps whose texts are UTF-8, and those behind it
+pub utf8_next : (op : Op) (later : List Op) → are_utf8 (op ∷ later) ≡ true → (has_utf8 op ≡ true) × (are_utf8 later ≡ true)
+utf8_next op later h = both_true (has_utf8 op) (are_utf8 later) h

@@ -5,3 +5,4 @@ pub mod Membership
 pub mod Inside
 mod Numbers
 mod Stacks
+mod Texts

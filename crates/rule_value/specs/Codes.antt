@@ -1,5 +1,6 @@
 -- A rule in the order in which it is computed.
-use Rattle.std.specs.Prelude.{◌≡◌, ℕ, ◌+◌, ◌-◌, Bool, false, ◌&&◌, ◌==◌, nat_le, List, [], ◌∷◌, ◌++◌, is_some}
+use Rattle.std.specs.Prelude.{◌≡◌, ℕ, ◌+◌, ◌-◌, Bool, true, false, ◌&&◌, ◌==◌, nat_le, List, [], ◌∷◌, ◌++◌, is_some}
+use Rattle.std.specs.Str.{is_utf8}
 use Rattle.rule_value.specs.declared.op.Op.{Op}
 use Rattle.rule_value.specs.declared.op.Op.TheVariants as ops
 use Rattle.rule_value.specs.Trees
@@ -109,6 +110,16 @@ left op = 1
 abbrev pub fits : ℕ → List Op → Bool
 fits height [] = height == 1
 fits height (op ∷ later) = nat_le (taken op) height && nat_le (height - taken op + left op) 132 && fits (height - taken op + left op) later
+
+-- the text of a step, if it has one, is UTF-8
+abbrev pub has_utf8 : Op → Bool
+has_utf8 (ops.Text held) = is_utf8 held
+has_utf8 op = true
+
+-- those of all steps are
+abbrev pub are_utf8 : List Op → Bool
+are_utf8 [] = true
+are_utf8 (op ∷ later) = has_utf8 op && are_utf8 later
 
 -- these steps compute the rule
 abbrev pub IsExpr : List Op → Tree Trees.or → Type 0

@@ -1,5 +1,6 @@
 -- Values of the code, and those that they stand for.
-use Rattle.std.specs.Prelude.{◌≡◌, ⊤, List, [], ◌∷◌, Option, Some, None}
+use Rattle.std.specs.Prelude.{◌≡◌, ⊤, true, List, [], ◌∷◌, Option, Some, None}
+use Rattle.std.specs.Str.{is_utf8}
 use Rattle.json_text.specs.declared.doc.Doc.{Doc}
 use Rattle.json_text.specs.declared.doc.Node.{Node}
 use Rattle.json_text.specs.declared.spot.Spot.{Spot}
@@ -60,8 +61,9 @@ IsFound doc None (Some values) = ⊥
 IsFound doc (Some node) None = ⊥
 IsFound doc (Some node) (Some values) = IsAt doc node values
 
--- a text of the event is one of the document's
+-- a text of the rule is UTF-8, and one of the event is one of the document's
 abbrev pub IsReadable : Doc → Held → Type 0
+IsReadable doc (held.Own own) = is_utf8 own.now ≡ true
 IsReadable doc (held.Told node) = IsNode doc node
 IsReadable doc value = ⊤
 

@@ -1,8 +1,8 @@
-ghost use Rattle.std.specs.Prelude.{◌≡◌, ◌<◌, ◌≤◌, ◌+◌, ◌-◌, List, ◌∷◌, length, ℕ};
+ghost use Rattle.std.specs.Prelude.{◌≡◌, ◌<◌, ◌≤◌, ◌+◌, ◌-◌, true, List, ◌∷◌, length, ℕ};
 ghost use Rattle.json_text.specs.declared.doc.Doc.{Doc as JsonDoc};
 ghost use Rattle.rule_value.specs.Trees.{Tree, or};
 ghost use Rattle.rule_value.specs.Values.{Event, Value as Meant, truth, value};
-ghost use Rattle.rule_value.specs.Codes.{IsExpr, taken, left, after_step, on_item, verdict};
+ghost use Rattle.rule_value.specs.Codes.{IsExpr, has_utf8, taken, left, after_step, on_item, verdict};
 ghost use Rattle.rule_value.specs.Stacks.{stacked};
 ghost use Rattle.rule_value.specs.Standing.{IsEvent, Is, Are, AreReadable};
 
@@ -48,6 +48,7 @@ fn step<'r>(doc: &Doc<'_>, op: &'r Op, stack: &mut Stack<'r>)
     requires some { taken op.now ≤ stack.old.height }
     requires most { stack.old.height ≤ 132 }
     requires room { stack.old.height - taken op.now + left op.now ≤ 132 }
+    requires utf8 { has_utf8 op.now ≡ true }
     ensures readable { AreReadable doc.now (stacked stack.new) }
     ensures height { stack.new.height ≡ stack.old.height - taken op.now + left op.now }
     ensures values { (event : Event) → IsEvent doc.now event → (meant : List Meant) → Are doc.now (stacked stack.old) meant → Are doc.now (stacked stack.new) (after_step event op.now meant) }

@@ -1,5 +1,5 @@
 // Comparisons and calls.
-ghost use Rattle.std.specs.Prelude.{◌≡◌, List, ℕ, option_map};
+ghost use Rattle.std.specs.Prelude.{◌≡◌, List, ℕ, option_map, IfSome, IsUtf8};
 ghost use Rattle.json_text.specs.declared.doc.Doc.{Doc as JsonDoc};
 ghost use Rattle.rule_value.specs.Values.{Value as Meant, text, number, flag, null, unless_error, equal, below, compared, called, text_in, as_number, number_or_error};
 ghost use Rattle.rule_value.specs.Standing.{Is, IsReadable};
@@ -147,7 +147,8 @@ pub(crate) fn compared(
 /// The text that a value is, if it is one.
 fn text_in<'r>(doc: &'r Doc<'_>, value: Value<'r>) -> Option<&'r [u8]>
     requires { IsReadable doc.now value }
-    ensures { (meant : Meant) → Is doc.now value.entry meant → option_map (λ text. text.now) result ≡ text_in meant }
+    ensures text { (meant : Meant) → Is doc.now value.entry meant → option_map (λ text. text.now) result ≡ text_in meant }
+    ensures utf8 { IfSome result (λ text. IsUtf8 text.now) }
 {
     match value {
         Value::Own { text } => Some(text),

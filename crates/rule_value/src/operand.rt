@@ -1,6 +1,6 @@
 // Texts that are compared byte by byte, wherever they stand.
 ghost use Rattle.std.specs.Prelude.{◌+◌, ◌<◌, MatchOption, ◌≡◌, ◌↔◌, ◌++◌, ◌-◌, ◌^◌, min, ℕ, List, [], ◌∷◌, length, drop, IsNone, IfSome, IfNone, nat_eq};
-ghost use Rattle.std.specs.Str.{bytes_eq};
+ghost use Rattle.std.specs.Str.{bytes_eq, IsUtf8};
 ghost use Rattle.std.specs.List.{starts_with};
 ghost use Rattle.rule_value.specs.Values.{comes_before, ends_with, is_inside, holds};
 ghost use Rattle.rule_value.specs.Wholes.{whole_of, of_digits, if_within};
@@ -188,34 +188,31 @@ fn ends_with(all: Bytes<'_>, end: Bytes<'_>) -> bool
     }
 }
 
-/// Whether the other stands somewhere in the text, in time that grows with both as their lengths do.
-#[tactic(auto, using(crate::proofs::Inside::inside_text))]
-fn is_inside(all: &[u8], inner: &[u8]) -> bool
-    ensures { result ≡ is_inside all.now inner.now }
+// The bytes as a text.
+fn as_text(bytes: &[u8]) -> &str
+    requires { IsUtf8 bytes.now }
+    ensures { result.now ≡ bytes.now }
 {
-    match (str::from_utf8(all), str::from_utf8(inner)) {
-        (Ok(all), Ok(inner)) => all.contains(inner),
-        _ => is_inside_by_bytes(Bytes::own(all), Bytes::own(inner)),
+    match str::from_utf8(bytes) {
+        Ok(text) => text,
+        Err(_) => unreachable!(),
     }
 }
 
-// The same of texts that are no UTF-8, of which a rule and an event that were read have none: at each place it is tried anew.
-fn is_inside_by_bytes(all: Bytes<'_>, inner: Bytes<'_>) -> bool
-    ensures { result ≡ is_inside all.entry inner.entry }
+/// Whether the other stands somewhere in the text, in time that grows with both as their lengths do.
+#[tactic(auto, using(crate::proofs::Inside::inside_text))]
+fn is_inside(all: &[u8], inner: &[u8]) -> bool
+    requires all { IsUtf8 all.now }
+    requires inner { IsUtf8 inner.now }
+    ensures { result ≡ is_inside all.now inner.now }
 {
-    let mut all = all;
-    loop {
-        if begins_with(all.copy(), inner.copy()) {
-            return true;
-        }
-        if all.next().is_none() {
-            return false;
-        }
-    }
+    as_text(all).contains(as_text(inner))
 }
 
 /// What a call answers of two texts.
 pub(crate) fn holds(call: Call, all: &[u8], part: &[u8]) -> bool
+    requires all { IsUtf8 all.now }
+    requires part { IsUtf8 part.now }
     ensures { result ≡ holds call all.now part.now }
 {
     match call {

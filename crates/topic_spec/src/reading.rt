@@ -24,7 +24,7 @@ fn rule_refused(doc: usize, why: RuleErr) -> SubErr
 fn expr_of(alloc: Global, doc: usize, text: &Text) -> Result<Expr, SubErr>
     ensures { IsReadAs doc text.now result }
 {
-    match parse(alloc, text.bytes()) {
+    match parse(alloc, text.as_str()) {
         Ok(expr) => Ok(expr),
         Err(why) => Err(rule_refused(doc, why)),
     }

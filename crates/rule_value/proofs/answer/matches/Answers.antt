@@ -1,10 +1,10 @@
 use Rattle.std.proofs.Common.{rules, ◌≡◌, ◌∙◌, ap, sym, subst, ◌+◌, [], ◌∷◌, drop, true, arith}
 use Rattle.std.proofs.lemmas.List.{drop_more, drop_all}
-use Rattle.rule_value.specs.Codes.{fits, after_step, top_of}
+use Rattle.rule_value.specs.Codes.{fits, are_utf8, after_step, top_of}
 use Rattle.rule_value.specs.Stacks.{stacked}
 use Rattle.rule_value.proofs.Answering.{top_is, at_end, step_on}
 use Rattle.rule_value.proofs.Computing.{answers}
-use Rattle.rule_value.proofs.Heights.{fits_next}
+use Rattle.rule_value.proofs.Heights.{fits_next, utf8_next}
 use Rattle.rule_value.proofs.answer.matches.Goals as goal
 
 pub loop-op-preserved : goal.loop-op-preserved
@@ -18,6 +18,7 @@ loop-op-preserved c =
       readable = c.step.ensures.readable;
       most = omega (arith, c.step.ensures.height, next.1);
       fits = subst (λ height. fits height (drop (i + 1) all) ≡ true) (sym c.step.ensures.height) next.2;
+      utf8 = (utf8_next op (drop (i + 1) all) (subst (λ own. are_utf8 own ≡ true) at c.loop-op.invariant.utf8)).1;
       values = λ shown is. (let before = c.loop-op.invariant.values shown is in
           (after_step shown op before.0, c.step.ensures.values shown is before.0 before.1, step_on shown all (drop i all) (drop (i + 1) all) op before.0 at before.2));
     }
