@@ -1,6 +1,6 @@
 -- One step of a ledger's cell, and what is answered by it.
-use Rattle.std.proofs.Common.{◌≡◌, ◌≤◌, refl, ap, sym, subst, ◌∙◌, arith, ℕ, List, [], ◌∷◌, ◌++◌, inl, inr, ⊤}
-use Rattle.std.specs.Prelude.{◌⊎◌, Result, Ok, Err, IfOk, IfErr, Some}
+use Rattle.std.proofs.Common.{◌≡◌, ◌≤◌, refl, ap, sym, subst, ◌∙◌, arith, ℕ, List, [], ◌++◌, inl, inr}
+use Rattle.std.specs.Prelude.{Result, Ok, Err, IfOk, IfErr}
 use Rattle.side_base.specs.declared.message.Response.{Response}
 use Rattle.turn_cell.specs.declared.error.ApiErr.{ApiErr}
 use Rattle.turn_cell.specs.declared.error.ApiErr.TheVariants as error

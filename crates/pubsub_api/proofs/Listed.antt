@@ -1,5 +1,5 @@
 -- The subscriptions of a body, as it was read or not.
-use Rattle.std.proofs.Common.{◌≡◌, ◌≢◌, ap, refl, sym, subst, ℕ, List, []}
+use Rattle.std.proofs.Common.{◌≡◌, ◌≢◌, refl, sym, subst, ℕ, List, []}
 use Rattle.std.specs.Prelude.{Result, Ok, Err, IsErrOf, codes}
 use Rattle.json_text.specs.declared.doc.Doc.{Doc}
 use Rattle.json_text.specs.declared.error.JsonErr.{JsonErr}

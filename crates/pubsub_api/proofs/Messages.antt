@@ -1,6 +1,6 @@
 -- An event, and the command that gives it to its ledger.
-use Rattle.std.proofs.Common.{◌≡◌, ◌≢◌, refl, sym, subst, ℕ, List}
-use Rattle.std.specs.Prelude.{Result, Ok, Err}
+use Rattle.std.proofs.Common.{◌≡◌, sym, subst, ℕ, List}
+use Rattle.std.specs.Prelude.{Ok, Err}
 use Rattle.json_text.specs.Forest.{Forest}
 use Rattle.json_text.specs.MapTexts.{map_of}
 use Rattle.ledger_core.specs.declared.plan.Aim.{Aim}

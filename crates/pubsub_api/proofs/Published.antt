@@ -1,5 +1,5 @@
 -- A request to publish, from what was prepared to what is answered.
-use Rattle.std.proofs.Common.{◌≡◌, refl, ap, sym, subst, ◌∙◌, arith, ℕ, List, [], ◌∷◌, ◌++◌, flat_map}
+use Rattle.std.proofs.Common.{refl, ap, sym, subst, ◌∙◌, arith, ℕ, List, [], ◌∷◌, ◌++◌}
 use Rattle.std.specs.Prelude.{Result, Ok, Err}
 use Rattle.side_base.specs.declared.message.Response.{Response}
 use Rattle.turn_cell.specs.declared.error.ApiErr.{ApiErr}
@@ -21,8 +21,8 @@ use Rattle.pubsub_api.specs.Stepping.{Accepts, Grows, IsAcceptCmd, LedgerGhosts,
 
 -- what is prepared gives an event
 pub prepared_accepts : (p : Publication) (events : List (Event Step)) (cmd : LedgerCmd) → Prepares p events (Ok cmd) → IsAcceptCmd cmd
-prepared_accepts p events cmd (publishing.denied no none-there came) = (let bad : ⊥ = cc in absurd bad)
-prepared_accepts p events cmd (publishing.stamped stamp yes is commands) = subst IsAcceptCmd (sym commands.3) tt
+prepared_accepts p events cmd (publishing.denied denies none-there came) = (let bad : ⊥ = cc in absurd bad)
+prepared_accepts p events cmd (publishing.stamped stamp allows is commands) = subst IsAcceptCmd (sym commands.3) tt
 
 module _ (object : LedgerGhosts) (cell : Begun Ledger) (seat seat' : LedgerSeat) (drawn : List ℕ → Type 0) where
   one_step : (clock : Clocked) (step : Step) → Grows object cell seat seat' (step ∷ []) → Effects (own step ∷ []) (Grows object cell seat seat') AreNone clock clock AreNone
@@ -42,15 +42,15 @@ module _ (object : LedgerGhosts) (cell : Begun Ledger) (seat seat' : LedgerSeat)
     Done = Made (λ events. Publishes p events reply) (Grows object cell seat seat') AreNone (record { before = clock; after = clock' }) drawn
 
     after_step : (cmd : LedgerCmd) (events : List (Event Step)) → Prepares p events (Ok cmd) → Effects events AreNone AreNone clock clock' drawn → Accepts object cell seat seat' cmd reply → Done
-    after_step cmd events (publishing.denied no none-there came) effects accepts = (let bad : ⊥ = cc in absurd bad)
-    after_step cmd events (publishing.stamped stamp yes is commands) effects (stepped step does replies) = (
+    after_step cmd events (publishing.denied denies none-there came) effects accepts = (let bad : ⊥ = cc in absurd bad)
+    after_step cmd events (publishing.stamped stamp allows is commands) effects (stepped step does replies) = (
       events ++ own step ∷ [],
-      publishing.accepted stamp step yes (record { event = commands.0; values = commands.1; message = commands.2; told = does.told ∙ commands.3 }) (ap (λ es. es ++ own step ∷ []) is) replies,
+      publishing.accepted stamp step allows (record { event = commands.0; values = commands.1; message = commands.2; told = does.told ∙ commands.3 }) (ap (λ es. es ++ own step ∷ []) is) replies,
       with_step clock clock' events step does.grows effects,
     )
-    after_step cmd events (publishing.stamped stamp yes is commands) effects (exhausted count out told) = (
+    after_step cmd events (publishing.stamped stamp allows is commands) effects (exhausted count out told) = (
       events,
-      publishing.exhausted stamp commands.0 commands.1 count yes commands.2 is told,
+      publishing.exhausted stamp commands.0 commands.1 count allows commands.2 is told,
       without_step clock clock' events out.grows effects,
     )
 
@@ -60,12 +60,12 @@ module _ (object : LedgerGhosts) (cell : Begun Ledger) (seat seat' : LedgerSeat)
 -- where nothing is given to the ledger
 module _ (object : LedgerGhosts) (cell : Begun Ledger) (seat : LedgerSeat) (drawn : List ℕ → Type 0) (p : Publication) (reply : Result Response ApiErr) where
   unpublishes : (why : PubErr) (events : List (Event Step)) → Prepares p events (Err why) → RefusalReplies p.topic.now why reply → Publishes p events reply
-  unpublishes refusal.Forbidden events (publishing.denied no none-there came) replies = publishing.denied no (none-there, replies)
-  unpublishes (refusal.Event why) events (publishing.denied no none-there came) replies = (let bad : ⊥ = cc in absurd bad)
-  unpublishes refusal.NoMemory events (publishing.denied no none-there came) replies = (let bad : ⊥ = cc in absurd bad)
-  unpublishes refusal.Forbidden events (publishing.stamped stamp yes is commands) replies = absurd commands
-  unpublishes (refusal.Event why) events (publishing.stamped stamp yes is commands) replies = publishing.refused stamp why yes commands.1 commands.0 is replies
-  unpublishes refusal.NoMemory events (publishing.stamped stamp yes is commands) replies = publishing.lacks stamp yes is replies
+  unpublishes refusal.Forbidden events (publishing.denied denies none-there came) replies = publishing.denied denies (none-there, replies)
+  unpublishes (refusal.Event why) events (publishing.denied denies none-there came) replies = (let bad : ⊥ = cc in absurd bad)
+  unpublishes refusal.NoMemory events (publishing.denied denies none-there came) replies = (let bad : ⊥ = cc in absurd bad)
+  unpublishes refusal.Forbidden events (publishing.stamped stamp allows is commands) replies = absurd commands
+  unpublishes (refusal.Event why) events (publishing.stamped stamp allows is commands) replies = publishing.refused stamp why allows commands.1 commands.0 is replies
+  unpublishes refusal.NoMemory events (publishing.stamped stamp allows is commands) replies = publishing.lacks stamp allows is replies
 
   pub unpublished : (clock clock' : Clocked) (why : PubErr) → Made (λ events. Prepares p events (Err why)) AreNone AreNone (record { before = clock; after = clock' }) drawn → RefusalReplies p.topic.now why reply
       → Made (λ events. Publishes p events reply) (Grows object cell seat seat) AreNone (record { before = clock; after = clock' }) drawn

@@ -43,11 +43,7 @@ pub fn prepare<C: Clock, R: Rng>(
 }
 
 /// The command of a publication that is stamped.
-fn command_of(
-    alloc: Global,
-    what: &Publication<'_>,
-    stamp: &Stamp,
-) -> Result<LedgerCmd, PubErr>
+fn command_of(alloc: Global, what: &Publication<'_>, stamp: &Stamp) -> Result<LedgerCmd, PubErr>
     ensures commands { Commands what.now.subs.now (sent_of what.now) stamp.now result }
     ensures given { IfOk result (IsGiven (length what.now.subs.now)) }
 {

@@ -109,12 +109,7 @@ fn full_text(alloc: Global, rows: u128, bytes: u128) -> Result<Text, NoMemory>
 }
 
 /// A text between two others.
-fn around(
-    alloc: Global,
-    before: &str,
-    text: &Text,
-    behind: &str,
-) -> Result<Text, NoMemory>
+fn around(alloc: Global, before: &str, text: &Text, behind: &str) -> Result<Text, NoMemory>
     ensures { IfOk result (λ whole. whole ≡ before.now ++ text.now ++ behind.now) }
 {
     let mut whole = Text::from_str(alloc, before)?;

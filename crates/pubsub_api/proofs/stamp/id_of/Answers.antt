@@ -1,4 +1,4 @@
-use Rattle.std.proofs.Common.{◌≡◌, ◌∙◌, ap, ℕ, List}
+use Rattle.std.proofs.Common.{◌≡◌, ◌∙◌, ap}
 use Rattle.uuid.specs.Text.{hyphenated_text, lower}
 use Rattle.pubsub_api.specs.Publishing.{id_of}
 use Rattle.pubsub_api.proofs.Results.{if_ok}
