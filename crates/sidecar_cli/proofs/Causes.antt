@@ -226,8 +226,8 @@ module _ {D : Type 0} {disking : Keeps D} {keeping : Ghosts (AnyKeeper D disking
     spent_then : {ended : Ended} {spent : Option ℕ} (count : ℕ) → spent ≡ Some count → HasSession kinds world world' ended spent → IsSpent kinds world world' count
     spent_then {ended} {spent} count e s =
         let went = s.served.served.acted in
-        let before : Standing (Store (AnyKeeper D disking) keeping) = record { seats = seats_of s.pass; clock = s.started.clock; calls = s.started.link; words = s.words } in
-        let behind : Standing (Store (AnyKeeper D disking) keeping) = record { seats = seats_of s.after; clock = s.over.clock; calls = s.over.link; words = s.served.rest } in
+        let before : Standing (Store (AnyKeeper D disking) keeping) = record { seats = seats_of s.pass; clock = s.started.clock; link = s.started.link; words = s.words } in
+        let behind : Standing (Store (AnyKeeper D disking) keeping) = record { seats = seats_of s.after; clock = s.over.clock; link = s.over.link; words = s.served.rest } in
         let lone = lone_stays kinds (cells_of s.objects) before _ behind went s.lone in
         let sound = sound_stays kinds (cells_of s.objects) before _ behind went s.sound in
         let met = met_of kinds (cells_of s.objects) s.over.clock s.over.link s.served.rest count _ (seats_of s.after) _ s.counted (seats_of s.last) s.told.counted lone sound (sym s.spent_is ∙ e) in
@@ -237,8 +237,8 @@ module _ {D : Type 0} {disking : Keeps D} {keeping : Ghosts (AnyKeeper D disking
     spent_in {spent} count s =
         let end = s.served.served.session.ends in
         let went = s.served.served.acted in
-        let before : Standing (Store (AnyKeeper D disking) keeping) = record { seats = seats_of s.pass; clock = s.started.clock; calls = s.started.link; words = s.words } in
-        let behind : Standing (Store (AnyKeeper D disking) keeping) = record { seats = seats_of s.after; clock = s.over.clock; calls = s.over.link; words = s.served.rest } in
+        let before : Standing (Store (AnyKeeper D disking) keeping) = record { seats = seats_of s.pass; clock = s.started.clock; link = s.started.link; words = s.words } in
+        let behind : Standing (Store (AnyKeeper D disking) keeping) = record { seats = seats_of s.after; clock = s.over.clock; link = s.over.link; words = s.served.rest } in
         let lone = lone_stays kinds (cells_of s.objects) before _ behind went s.lone in
         let sound = sound_stays kinds (cells_of s.objects) before _ behind went s.sound in
         record { ended = ends.Spent count; spent = spent; session = s; seats = seats_of s.after; lone = lone; sound = sound; full = full_of kinds (cells_of s.objects) (seats_of s.after) count lone sound (some_seat s.config (seats_of s.after) count (request_in end.next.whole) (s.served.served.shown end.next count end.this end.why)) }

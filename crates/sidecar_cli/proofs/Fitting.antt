@@ -1,6 +1,6 @@
 -- Keepers stay of the kinds of their components, and there is one for each store.
 use Rattle.std.specs.Prelude.{◌≡◌, Bool, List, [], ◌∷◌, length, map, Option, Result, Ok, Err, IfErr, refl}
-use Rattle.std.proofs.Common.{◌∙◌, suc, ap, sym, subst}
+use Rattle.std.proofs.Common.{◌∙◌, suc, ap, get_or, sym, subst}
 use Rattle.std.specs.List.{filter}
 use Rattle.side_world.specs.declared.disk.Disk.{Ghosts as Keeps}
 use Rattle.keeper_core.specs.declared.changes.Changes.{Changes}
@@ -11,7 +11,7 @@ use Rattle.keeper_journal.specs.declared.any_keeper.AnyKeeper.TheVariants.{Memor
 use Rattle.resource_spec.specs.Component.{Loaded}
 use Rattle.resource_spec.specs.declared.component.ComponentKind.{ComponentKind}
 use Rattle.resource_spec.specs.declared.component.ComponentKind.TheVariants as kind
-use Rattle.turn_cell.specs.Sitting.{Begun, Sitting}
+use Rattle.turn_cell.specs.Sitting.{Begun, Sitting, root_of}
 use Rattle.turn_pass.specs.Pass.{AreClosed}
 use Rattle.state_core.specs.declared.command.Cmd.{Cmd}
 use Rattle.state_core.specs.declared.reply.Reply.{Reply}
@@ -24,7 +24,8 @@ use Rattle.sidecar_objects.specs.declared.objects.Pass.{Pass}
 use Rattle.conn_serve.specs.declared.ended.Ended.{Ended}
 use Rattle.sidecar_objects.specs.Composed.{lone_stays, sound_stays}
 use Rattle.sidecar_objects.specs.Passes.{IsLone, IsSoundPass}
-use Rattle.sidecar_objects.specs.Kind.{Kinds, SeatsAt, book, breakers, ledgers, stores}
+use Rattle.sidecar_objects.specs.Kind.{Kinds, SeatsAt}
+use Rattle.sidecar_objects.specs.Kind as group
 use Rattle.sidecar_objects.specs.Pass.{cells_of, seats_of}
 use Rattle.sidecar_core.specs.Sites as sites
 use Rattle.sidecar_core.specs.Started.{IsStarted}
@@ -92,7 +93,7 @@ module _ {D : Type 0} {disking : Keeps D} {keeping : Ghosts (AnyKeeper D disking
 
   -- the pass that was started has neither seen nor done anything
   pub root_started : {config config' : Config} {keepers : List (AnyKeeper D disking)} {objects : Objects (AnyKeeper D disking) keeping} {pass : Pass (AnyKeeper D disking) keeping} → IsStarted config keepers config' objects pass → seats_of pass ≡ root_pass 0 (cells_of objects)
-  root_started {objects = objects} {pass = pass} started = λ i. record { stores = started.roots.each stores i; ledgers = started.roots.each ledgers i; breakers = started.roots.each breakers i; notes = head_same pass.notes (root_of objects.notes) (started.roots.each book) i }
+  root_started {objects = objects} {pass = pass} started = λ i. record { stores = started.roots.each group.stores i; ledgers = started.roots.each group.ledgers i; breakers = started.roots.each group.breakers i; notes = head_same pass.notes (root_of objects.notes) (started.roots.each group.book) i }
 
   -- what was started over the configuration that was given
   pub started_of : {config config' : Config} {keepers : List (AnyKeeper D disking)} {objects : Objects (AnyKeeper D disking) keeping} {pass : Pass (AnyKeeper D disking) keeping}

@@ -26,7 +26,8 @@ use Rattle.sidecar_objects.specs.declared.objects.Objects.{Objects}
 use Rattle.sidecar_objects.specs.declared.objects.Pass.{Pass}
 use Rattle.sidecar_core.specs.declared.shared.Shared.{Shared}
 use Rattle.sidecar_objects.specs.Passes.{IsSoundPass}
-use Rattle.sidecar_objects.specs.Kind.{Kinds, stores}
+use Rattle.sidecar_objects.specs.Kind.{Kinds}
+use Rattle.sidecar_objects.specs.Kind as kind
 use Rattle.sidecar_objects.specs.Did.{Did, Standing}
 use Rattle.sidecar_objects.specs.Shown.{spent_of}
 use Rattle.sidecar_core.specs.Exchange.{Exchange}
@@ -88,7 +89,7 @@ module _ {D : Type 0} {disking : Keeps D} {keeping : Ghosts (AnyKeeper D disking
   -- the cells were closed by this pass, and the disks of the stores' keepers went back
   pub record IsClosed (config : Config) (objects : Objects (AnyKeeper D disking) keeping) (pass : Pass (AnyKeeper D disking) keeping) (outside outside' : OutsideAt) : Type 0 where
     pub stores : List (Store (AnyKeeper D disking) keeping)
-    pub closed : AreClosed (kinds stores).stands objects.stores.items pass.stores.items stores
+    pub closed : AreClosed (kinds kind.stores).stands objects.stores.items pass.stores.items stores
     pub back : AreBack disking (stores_of config.components) (map keeper_of stores) outside.disks outside'.disks
     pub faults : RoseWith (faults_on_disks disking (map keeper_of stores)) outside.faults outside'.faults
     pub calls : outside'.calls ≡ outside.calls
