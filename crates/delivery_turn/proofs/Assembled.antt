@@ -1,6 +1,5 @@
 -- A turn, put together from its parts.
-use Rattle.std.proofs.Common.{◌≡◌, ◌≢◌, refl, ap, sym, subst, ◌∙◌, ℕ, List, [], ◌∷◌, ◌++◌, flat_map, append-nil, inl, inr}
-use Rattle.std.specs.Prelude.{◌⊎◌, Some}
+use Rattle.std.proofs.Common.{◌≡◌, refl, ap, sym, subst, ◌∙◌, ℕ, List, [], ◌++◌, flat_map, append-nil, inl, inr}
 use Rattle.std.proofs.lemmas.Grind.{flat_map-append}
 use Rattle.rand_core.specs.Stream.{Stream, next_u64}
 use Rattle.side_base.specs.declared.message.Response.{Response}
@@ -20,16 +19,15 @@ use Rattle.policy_run.specs.declared.outcome.Outcome.TheVariants as outcome
 use Rattle.policy_run.specs.Event.{Event}
 use Rattle.policy_run.specs.Effects.{AreNone, Clocked, Effects, Made}
 use Rattle.policy_run.proofs.Composed.{effects_on, nothing_before, nothing_after, nothing_at_all}
-use Rattle.topic_spec.specs.declared.sub.Sub.{Sub}
 use Rattle.delivery_turn.specs.declared.row.Row.{Row}
 use Rattle.delivery_turn.specs.declared.settling.Early.TheVariants as early
 use Rattle.delivery_turn.specs.declared.settling.Settling.{Settling}
-use Rattle.delivery_turn.specs.declared.settling.Settling.TheVariants.{Concluded, Postponed, LetGo}
+use Rattle.delivery_turn.specs.declared.settling.Settling.TheVariants.{LetGo}
+use Rattle.delivery_turn.specs.declared.taking.Taking.{Taking}
 use Rattle.delivery_turn.specs.declared.taking.Taking.TheVariants as taking
 use Rattle.delivery_turn.specs.declared.ending.Turn.{Turn}
-use Rattle.delivery_turn.specs.declared.ending.Turn.TheVariants as turn
 use Rattle.delivery_turn.specs.Settling.{Own}
-use Rattle.delivery_turn.specs.Posting.{Heard, replied, missed, lacked, IsFinish, Draws}
+use Rattle.delivery_turn.specs.Posting.{Heard, replied, missed, lacked}
 use Rattle.delivery_turn.specs.Delivery.{Setting, Delivery, Delivers, Tried}
 use Rattle.delivery_turn.specs.Delivery as delivery
 use Rattle.delivery_turn.specs.Stepping.{AsksApp, AsksLedger, Did, Enters, LedgerGhosts, LedgerSeat, asked_in, entered_in}
@@ -139,3 +137,15 @@ module _ (object : LedgerGhosts) (cell : Begun Ledger) where
         delivery.taken row takes.1.0 takes.0 (posts.0 ++ (chosen.0 ++ settles.0)) takes.1.1 (delivers setting row settling came posts.0 chosen.0 settles.0 settles.1 outcome posts.1 chosen.1) refl,
         effects_all takes.0 posts.0 chosen.0 settles.0 takes.2 posts.2 chosen.2 settles.2,
       )
+
+      -- the same, of what came of taking a row
+      pub turned_from : (took : Taking) (row : Row) (outcome : Outcome Response Miss) (settling : Settling) (came : Turn) → took ≡ taking.Row row → AsksLedger object cell seat between clock one (TakesBy took)
+          → Made (λ events. PostsBy setting row outcome events) (AsksApp link link') held (record { before = one; after = two }) (λ words. Drawn next_u64 stream words stream')
+          → Made (λ events. Settled setting.subs row outcome settling events) AreNone AreNone (record { before = two; after = two }) (λ words. Drawn next_u64 stream' words stream'')
+          → AsksLedger object cell between seat' two clock' (λ events. SettlesSo row settling came events)
+          → Made (λ events. Delivery setting events came) (Did object cell seat seat' link link') held (record { before = clock; after = clock' }) Words
+      turned_from took row outcome settling came is takes posts chosen settles = turned row outcome settling came (subst (λ t. AsksLedger object cell seat between clock one (TakesBy t)) is takes) posts chosen settles
+
+    pub idled_from : (seat seat' : LedgerSeat) (link : LinkAt) (held : List BreakerStep → Type 0) (clock clock' : Clocked) (stream : Stream) (took : Taking) (came : Turn) → took ≡ taking.Ended came → held [] → AsksLedger object cell seat seat' clock clock' (TakesBy took)
+        → Made (λ events. Delivery setting events came) (Did object cell seat seat' link link) held (record { before = clock; after = clock' }) (λ words. Drawn next_u64 stream words stream)
+    idled_from seat seat' link held clock clock' stream took came is none-held asks = idled seat seat' link held clock clock' stream came none-held (subst (λ t. AsksLedger object cell seat seat' clock clock' (TakesBy t)) is asks)

@@ -1,6 +1,6 @@
 -- How a row is settled, by what was heard.
-use Rattle.std.proofs.Common.{◌≡◌, ◌≢◌, ◌<◌, refl, ap, sym, subst, ◌∙◌, arith, ℕ, Bool, true, false, List, [], ◌∷◌, length}
-use Rattle.std.specs.Prelude.{◌||◌, not, Option, Some, None, Result, Ok, Err, IfOk, IsErrOf, slice_index_or}
+use Rattle.std.proofs.Common.{◌≡◌, ◌≢◌, ◌<◌, refl, ap, sym, ◌∙◌, arith, ℕ, zero, suc, true, false, List, [], ◌∷◌, length}
+use Rattle.std.specs.Prelude.{Some, None, Result, Ok, Err, IfOk, slice_index_or}
 use lib.ListN.{get_elem?}
 use mathlib.Core.Option.{some}
 use Rattle.rand_core.specs.Stream.{Stream, next_u64}
@@ -9,14 +9,11 @@ use Rattle.side_world.specs.Moments.{Drawn}
 use Rattle.side_world.proofs.Composed.{drawn_one, rises_nothing, tells_nothing}
 use Rattle.json_text.specs.declared.doc.Doc.{Doc}
 use Rattle.json_text.specs.declared.doc.Node.{Node}
-use Rattle.json_text.specs.declared.error.JsonErr.{JsonErr}
-use Rattle.json_text.specs.declared.error.JsonErr.TheVariants as json
-use Rattle.json_text.specs.Forest.{Forest, one, empty}
-use Rattle.json_text.specs.Doc.{Shows, bytes_read}
+use Rattle.json_text.specs.Forest.{Forest, one}
+use Rattle.json_text.specs.Doc.{Shows}
 use Rattle.json_text.specs.Faults.{IsFirstBad, IsFirstDeep}
 use Rattle.json_text.proofs.FirstFaults.{no_bad, no_deep}
 use Rattle.ledger_core.specs.declared.plan.Aim.{Aim}
-use Rattle.ledger_core.specs.declared.command.Finish.{Finish}
 use Rattle.ledger_core.specs.declared.command.Finish.TheVariants as finish
 use Rattle.cloud_events.specs.declared.outcome.Verdict.{Verdict}
 use Rattle.cloud_events.specs.declared.outcome.Verdict.TheVariants as verdict
@@ -30,11 +27,10 @@ use Rattle.policy_run.specs.Event.{Event, word}
 use Rattle.policy_run.specs.Effects.{AreNone, Clocked, Effects, Made}
 use Rattle.policy_run.proofs.Composed.{no_effects}
 use Rattle.delivery_turn.specs.declared.row.Row.{Row}
-use Rattle.delivery_turn.specs.declared.settling.Early.TheVariants as early
 use Rattle.delivery_turn.specs.declared.settling.Settling.{Settling}
-use Rattle.delivery_turn.specs.declared.settling.Settling.TheVariants.{Concluded, LetGo}
+use Rattle.delivery_turn.specs.declared.settling.Settling.TheVariants.{Concluded}
 use Rattle.delivery_turn.specs.Settling.{Own}
-use Rattle.delivery_turn.specs.Posting.{AimsAt, no_text, matches, DeadAims, nowhere, unreadable, matched, Draws, again, otherwise, IsJudged, by_number, empty_handed, read, unread, IsSubOf, finish_of}
+use Rattle.delivery_turn.specs.Posting.{AimsAt, no_text, matches, DeadAims, nowhere, unreadable, matched, again, otherwise, IsJudged, by_number, read, unread, IsSubOf, finish_of}
 use Rattle.delivery_turn.specs.Turning.{Judges, Retries}
 use Rattle.delivery_turn.specs.Turning as turning
 use Rattle.delivery_turn.proofs.Shown.{RootLaw, is_event, is_read}
@@ -60,7 +56,7 @@ module _ (response : Response) (good : is_success response.status ≡ true) (som
 
 -- ---- the dead letter
 
-pub aims_matched : (law : RootLaw) (subs : List Sub) (event pubsub topic : List ℕ) (doc : Doc) (result : Result (List Aim) (Unit {0})) → Shows doc event → ((shown : Shown) → IsEvent doc shown → IfOk result (λ aims. aims ≡ aims_of shown pubsub topic subs)) → IfOk result (AimsAt subs event pubsub topic)
+pub aims_matched : {E : Type 0} (law : RootLaw) (subs : List Sub) (event pubsub topic : List ℕ) (doc : Doc) (result : Result (List Aim) E) → Shows doc event → ((shown : Shown) → IsEvent doc shown → IfOk result (λ aims. aims ≡ aims_of shown pubsub topic subs)) → IfOk result (AimsAt subs event pubsub topic)
 aims_matched law subs event pubsub topic doc (Ok aims) shows are =
     let its = is_read doc event shows in
     matches shows.values its (are (record { bytes = event; values = shows.values }) (is_event law doc event shows.values shows its))
@@ -78,7 +74,9 @@ module _ (subs : List Sub) (row : Row) (sub : Sub) (is_sub : IsSubOf subs row su
   dead_nowhere aims is none_there = nowhere sub is_sub is none_there
 
 pub sub_there : (subs : List Sub) (at : ℕ) (sub other : Sub) → at < length subs → sub ≡ slice_index_or subs at other → get_elem? subs at ≡ some sub
-sub_there subs at sub other inside is = search (inside, is)
+sub_there [] at sub other inside is = absurd (omega (arith, inside))
+sub_there (one ∷ subs) zero sub other inside is = ap some (sym is)
+sub_there (one ∷ subs) (suc at) sub other inside is = sub_there subs at sub other (omega (arith, inside)) is
 
 -- ---- what is done
 

@@ -1,6 +1,6 @@
 -- How a row may be settled, by what its post came to.
-use Rattle.std.proofs.Common.{◌≡◌, ◌<◌, ◌+◌, refl, ap, sym, subst, ◌∙◌, ℕ, List, [], ◌∷◌}
-use Rattle.std.specs.Prelude.{Some, None}
+use Rattle.std.proofs.Common.{◌≡◌, ◌<◌, ◌+◌, refl, ap, sym, subst, ◌∙◌, ℕ, List}
+use Rattle.std.specs.Prelude.{Some}
 use Rattle.side_base.specs.declared.message.Response.{Response}
 use Rattle.link_call.specs.declared.miss.Miss.{Miss}
 use Rattle.link_call.specs.declared.miss.Miss.TheVariants as miss
@@ -12,7 +12,6 @@ use Rattle.topic_spec.specs.declared.sub.Sub.{Sub}
 use Rattle.delivery_turn.specs.declared.row.Row.{Row}
 use Rattle.delivery_turn.specs.declared.settling.Early.TheVariants as early
 use Rattle.delivery_turn.specs.declared.settling.Settling.{Settling}
-use Rattle.delivery_turn.specs.declared.settling.Settling.TheVariants.{Concluded, Postponed, LetGo}
 use Rattle.delivery_turn.specs.Settling.{Own}
 use Rattle.delivery_turn.specs.Turning.{IsWithinYears, Judges, Retries, Settled, early_of}
 use Rattle.delivery_turn.specs.Turning as turning

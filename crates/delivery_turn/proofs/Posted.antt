@@ -1,11 +1,11 @@
 -- The one post of a row, from a call of the link under what is bound to one attempt.
 use Rattle.std.proofs.Common.{◌≡◌, ◌≤◌, ◌<◌, ◌+◌, refl, ap, sym, subst, ◌∙◌, arith, cond, ℕ, Bool, true, false, List, [], ◌∷◌, ◌++◌, inl, inr}
-use Rattle.std.specs.Prelude.{◌⊎◌, ◌&&◌, not, nat_le, nat_lt, is_some, None, Option, Result, Ok, Err}
+use Rattle.std.specs.Prelude.{nat_lt, None, Result, Ok, Err}
+use Rattle.side_base.specs.declared.message.LinkRequest.{LinkRequest}
 use Rattle.side_base.specs.declared.message.Response.{Response}
 use Rattle.side_world.specs.declared.link.LinkCall.{LinkCall}
 use Rattle.side_world.specs.declared.link.LinkErr.{LinkErr}
 use Rattle.side_world.specs.declared.link.LinkErr.TheVariants as link
-use Rattle.side_world.specs.Link.{IsReply}
 use Rattle.breaker_core.specs.declared.command.BreakerReply.{BreakerReply}
 use Rattle.retry_core.specs.declared.policy.Bound.{Bound}
 use Rattle.policy_run.specs.declared.operation.Attempt.{Attempt}
@@ -13,13 +13,13 @@ use Rattle.policy_run.specs.declared.operation.Attempt.TheVariants as attempt
 use Rattle.policy_run.specs.declared.outcome.Outcome.{Outcome}
 use Rattle.policy_run.specs.declared.outcome.Outcome.TheVariants as outcome
 use Rattle.policy_run.specs.declared.outcome.Refusal.TheVariants as refusal
-use Rattle.policy_run.specs.Event.{Event, own, moment}
+use Rattle.policy_run.specs.Event.{Event, moment}
 use Rattle.policy_run.specs.Effects.{Clocked, Times}
-use Rattle.policy_run.specs.Attempts.{Attempts, Ends, Tried as TriedBefore, limit_of}
-use Rattle.policy_run.specs.Turn.{Turn as Attempted, CutOff, unasked, unreported, Asks, LetsThrough, Reports, IsReported, is_good as is_good_attempt, reply_of}
+use Rattle.policy_run.specs.Attempts.{Ends, Tried as TriedBefore, limit_of}
+use Rattle.policy_run.specs.Turn.{Turn as Attempted, CutOff, unasked, unreported, Asks, LetsThrough, IsReported, is_good as is_good_attempt, reply_of}
 use Rattle.link_call.specs.declared.miss.Miss.{Miss}
 use Rattle.link_call.specs.declared.miss.Miss.TheVariants as miss
-use Rattle.link_call.specs.Linked.{Tries, free, timed, heard as heard_by, by_status}
+use Rattle.link_call.specs.Linked.{Tries, free, timed, heard as heard_by}
 use Rattle.link_call.specs.LinkAt.{LinkAt}
 use Rattle.link_call.specs.Cause.{HasCause}
 use Rattle.link_call.specs.Came.{Came}
@@ -27,7 +27,7 @@ use Rattle.delivery_turn.specs.declared.row.Row.{Row}
 use Rattle.delivery_turn.specs.Settling.{Own}
 use Rattle.delivery_turn.specs.Posting.{Heard, replied, missed, lacked, heard, is_good, request_of, Posts}
 use Rattle.delivery_turn.specs.Posting as posting
-use Rattle.delivery_turn.specs.Delivery.{Setting, guarded, Sent, Tried, Untold}
+use Rattle.delivery_turn.specs.Delivery.{Setting, guarded, Sent, Tried}
 use Rattle.delivery_turn.specs.Turning.{PostsBy, once}
 use Rattle.delivery_turn.proofs.Raised.{raised, raised_append}
 
@@ -150,6 +150,12 @@ module _ (setting : Setting) (row : Row) where
   pub posts_by : (link link' : LinkAt) (clock : Times) (came : Outcome Response Miss) (events : List (Event LinkCall)) → Came (once setting.bound) link link' clock (request_of setting.port row) events came → PostsBy setting row came (raised events)
   posts_by link link' clock came events is =
       ends_so came link link' clock.before clock.after events is.cause (none_before is.attempts.words came is.attempts.before is.attempts.last events is.attempts.tried is.attempts.ends is.attempts.whole)
+
+-- the same, where bound and request are those of the code
+pub posts_from : (setting : Setting) (row : Row) (link link' : LinkAt) (clock : Times) (came : Outcome Response Miss) (events : List (Event LinkCall)) (bound : Bound) (request : LinkRequest) → bound ≡ once setting.bound → request ≡ request_of setting.port row
+    → Came bound link link' clock request events came → PostsBy setting row came (raised events)
+posts_from setting row link link' clock came events bound request its_bound its_request is =
+    posts_by setting row link link' clock came events (subst (λ r. Came (once setting.bound) link link' clock r events came) its_request (subst (λ b. Came b link link' clock request events came) its_bound is))
 
 -- a breaker's refusal says a moment within its bounds
 pub refused_until : (setting : Setting) (row : Row) (came : Outcome Response Miss) (events : List (Event Own)) (until : ℕ) → PostsBy setting row came events → came ≡ outcome.Refused (refusal.Opened until) → until < 253402300800000 + 31536000000

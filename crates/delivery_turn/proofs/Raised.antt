@@ -1,5 +1,5 @@
 -- What is done of a call of a link, as a part of a turn.
-use Rattle.std.proofs.Common.{◌≡◌, refl, ap, sym, subst, ◌∙◌, ℕ, List, [], ◌∷◌, ◌++◌, map, flat_map, append_assoc}
+use Rattle.std.proofs.Common.{◌≡◌, refl, ap, sym, subst, ℕ, List, [], ◌∷◌, ◌++◌, map, flat_map}
 use Rattle.side_world.specs.declared.link.LinkCall.{LinkCall}
 use Rattle.side_world.specs.Moments.{Between, Rises}
 use Rattle.side_world.specs.Told.{Tells}

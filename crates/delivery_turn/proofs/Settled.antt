@@ -1,25 +1,21 @@
 -- A row is settled.
-use Rattle.std.proofs.Common.{◌≡◌, ◌≢◌, ◌<◌, refl, ap, sym, subst, ◌∙◌, arith, ℕ, List, [], inl, inr}
-use Rattle.std.specs.Prelude.{◌⊎◌, Some, None}
-use Rattle.std.specs.List.{All, AllPairs}
-use Rattle.ledger_core.specs.declared.plan.Aim.{Aim}
+use Rattle.std.proofs.Common.{◌≡◌, refl, ap, sym, ◌∙◌, arith, ℕ, List, []}
+use Rattle.std.specs.Prelude.{Some}
 use Rattle.ledger_core.specs.declared.reply.LedgerReply.{LedgerReply}
 use Rattle.ledger_core.specs.declared.reply.LedgerReply.TheVariants as says
 use Rattle.ledger_core.specs.Aims.{AreAims, IsGiven}
-use Rattle.policy_run.specs.declared.outcome.Refusal.TheVariants as refusal
 use Rattle.policy_run.specs.Event.{Event}
 use Rattle.delivery_turn.specs.declared.row.Row.{Row}
-use Rattle.delivery_turn.specs.declared.settling.Early.{Early}
 use Rattle.delivery_turn.specs.declared.settling.Early.TheVariants as early
 use Rattle.delivery_turn.specs.declared.settling.Settling.{Settling}
 use Rattle.delivery_turn.specs.declared.settling.Settling.TheVariants.{Concluded, Postponed, LetGo}
 use Rattle.delivery_turn.specs.declared.ending.Turn.{Turn}
 use Rattle.delivery_turn.specs.declared.ending.Turn.TheVariants as turn
 use Rattle.delivery_turn.specs.Settling.{Own, Answered, Stuck, settled, lacks, exhausted, released, kept}
-use Rattle.delivery_turn.specs.Turning.{AreSettlingAims, SettlesSo, delivered, early_of, settle_by, turn_by}
+use Rattle.delivery_turn.specs.Turning.{AreSettlingAims, SettlesSo, early_of, settle_by, turn_by}
 
 no_aims : (plans : ℕ) → AreAims plans []
-no_aims plans = record { planned = λ k d within. absurd (omega (arith, within)); once = λ k d within. absurd (omega (arith, within)) }
+no_aims plans = record { planned = λ k d within. absurd (omega (arith, within)); once = λ i j d less within. absurd (omega (arith, within)) }
 
 pub settle_given : (plans : ℕ) (row : Row) (settling : Settling) (now : ℕ) → AreSettlingAims plans settling → IsGiven plans (settle_by row settling now)
 settle_given plans row (Concluded ends drawn dead) now are = are

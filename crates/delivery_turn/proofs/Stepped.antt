@@ -1,11 +1,10 @@
 -- One step of a ledger's cell, at a moment that was read right before.
-use Rattle.std.proofs.Common.{◌≡◌, ◌<◌, refl, ap, sym, subst, ◌∙◌, arith, ℕ, List, [], ◌∷◌, ◌++◌, length}
+use Rattle.std.proofs.Common.{◌≡◌, refl, ap, subst, arith, ℕ, List, [], ◌∷◌, ◌++◌}
 use Rattle.std.specs.Prelude.{Result, Ok, Err, IfOk, IfErr}
 use Rattle.turn_cell.specs.declared.error.Exhausted.{Exhausted}
 use Rattle.turn_cell.specs.Sitting.{Begun, Extends, Exhausts, entry_by}
 use Rattle.turn_cell.specs.History.{IsLegal}
 use Rattle.turn_cell.proofs.Growing.{called, exhausted as ran_out}
-use Rattle.side_world.proofs.Composed.{rises_nothing}
 use Rattle.ledger_core.specs.declared.ledger.Ledger.{Ledger}
 use Rattle.ledger_core.specs.declared.plan.Plan.{Plan}
 use Rattle.ledger_core.specs.declared.command.LedgerCmd.{LedgerCmd}
@@ -79,6 +78,10 @@ module _ (object : LedgerGhosts) (cell : Begun Ledger) (seat seat' : LedgerSeat)
       means (moment now ∷ own (entered did.0) ∷ []) (record { now = now; step = did.0; told = did.2.told; answer = did.1; fits = subst (Fits (cmd now)) did.1 did.2.fits; whole = refl }),
       stepped_at did.0 (cmd now) did.2,
     )
+
+    -- the same of a command that is the one of the moment
+    pub asked_from : (given : LedgerCmd) (cmd : ℕ → LedgerCmd) (reply : LedgerReply) (comes : List (Event Own) → Type 0) → given ≡ cmd now → StepsBy object cell seat seat' given (Ok reply) → ((events : List (Event Own)) → Answered cmd reply events → comes events) → AsksLedger object cell seat seat' clock clock' comes
+    asked_from given cmd reply comes is did means = asked_so cmd reply comes (subst (λ c. StepsBy object cell seat seat' c (Ok reply)) is did) means
 
     -- its cell was exhausted
     pub stuck_so : (cmd : LedgerCmd) (e : Exhausted) (comes : List (Event Own) → Type 0) → StepsBy object cell seat seat' cmd (Err e) → ((events : List (Event Own)) → Stuck events → comes events) → AsksLedger object cell seat seat' clock clock' comes

@@ -11,7 +11,7 @@ use Rattle.delivery_turn.specs.declared.taking.Taking.TheVariants as taking
 use Rattle.delivery_turn.specs.declared.ending.Turn.TheVariants as turn
 use Rattle.delivery_turn.specs.Settling.{Own, Answered}
 use Rattle.delivery_turn.specs.Stepping.{IsPlanned, IsTakeReply}
-use Rattle.delivery_turn.specs.Turning.{TakesBy, TakesNone, idle, lacks, taking_of}
+use Rattle.delivery_turn.specs.Turning.{TakesBy, idle, lacks, taking_of}
 
 pub takes_by : (reply : LedgerReply) (came : Taking) (events : List (Event Own)) → IsTakeReply reply → came ≡ taking_of reply → Answered Take reply events → TakesBy came events
 takes_by (says.Taken number sub claim event path attempt) came events one is answered = subst (λ t. TakesBy t events) (sym is) (attempt, answered)

@@ -10,16 +10,16 @@ use Rattle.cloud_events.specs.Verdict.{by_reply, by_status, is_good as is_succes
 use Rattle.delivery_turn.specs.Posting.{IsJudged, by_number, empty_handed, read, unread}
 
 pub absent : (response : Response) (v : Verdict) → response.status ≡ 404 → IsJudged response v → v ≡ Drop
-absent response v is (by_number no e) = e ∙ ap by_status is
+absent response v is (by_number fails e) = e ∙ ap by_status is
 absent response v is (empty_handed none e) = e ∙ ap by_status is
-absent response v is (read yes some spot inside text e) = e ∙ ap (λ s. by_reply s response.body inside) is
-absent response v is (unread yes some none e) = e ∙ ap by_status is
+absent response v is (read succeeds some spot inside text e) = e ∙ ap (λ s. by_reply s response.body inside) is
+absent response v is (unread succeeds some none e) = e ∙ ap by_status is
 
 pub failing : (response : Response) (v : Verdict) → response.status ≡ 500 → IsJudged response v → v ≡ Retry
-failing response v is (by_number no e) = e ∙ ap by_status is
+failing response v is (by_number fails e) = e ∙ ap by_status is
 failing response v is (empty_handed none e) = e ∙ ap by_status is
-failing response v is (read yes some spot inside text e) = e ∙ ap (λ s. by_reply s response.body inside) is
-failing response v is (unread yes some none e) = e ∙ ap by_status is
+failing response v is (read succeeds some spot inside text e) = e ∙ ap (λ s. by_reply s response.body inside) is
+failing response v is (unread succeeds some none e) = e ∙ ap by_status is
 
 pub no_body : (fields : List Field) (status : ℕ) (v : Verdict) → v ≡ by_status status → IsJudged (record { status = status; fields = fields; body = [] }) v
 no_body fields status v e = empty_handed refl e
@@ -31,23 +31,23 @@ held empty = empty
 held (grows spot children later) = children
 
 both : {A : Type 0} (status : ℕ) → is_success status ≡ false → is_success status ≡ true → A
-both status no yes = (let e = sym no ∙ yes in let wrong : ⊥ = cc in absurd wrong)
+both status fails succeeds = (let e = sym fails ∙ succeeds in let wrong : ⊥ = cc in absurd wrong)
 
 pub one_verdict : (response : Response) (v w : Verdict) → IsJudged response v → IsJudged response w → v ≡ w
-one_verdict response v w (by_number no e) (by_number nor h) = e ∙ sym h
-one_verdict response v w (by_number no e) (empty_handed none h) = e ∙ sym h
-one_verdict response v w (by_number no e) (read yes some spot inside text h) = both response.status no yes
-one_verdict response v w (by_number no e) (unread yes some none h) = e ∙ sym h
-one_verdict response v w (empty_handed none e) (by_number no h) = e ∙ sym h
+one_verdict response v w (by_number fails e) (by_number nor h) = e ∙ sym h
+one_verdict response v w (by_number fails e) (empty_handed none h) = e ∙ sym h
+one_verdict response v w (by_number fails e) (read succeeds some spot inside text h) = both response.status fails succeeds
+one_verdict response v w (by_number fails e) (unread succeeds some none h) = e ∙ sym h
+one_verdict response v w (empty_handed none e) (by_number fails h) = e ∙ sym h
 one_verdict response v w (empty_handed none e) (empty_handed neither h) = e ∙ sym h
-one_verdict response v w (empty_handed none e) (read yes some spot inside text h) = absurd (some none)
-one_verdict response v w (empty_handed none e) (unread yes some neither h) = e ∙ sym h
-one_verdict response v w (read yes some spot inside text e) (by_number no h) = both response.status no yes
-one_verdict response v w (read yes some spot inside text e) (empty_handed none h) = absurd (some none)
-one_verdict response v w (read yes some spot inside text e) (read good has other within found h) =
+one_verdict response v w (empty_handed none e) (read succeeds some spot inside text h) = absurd (some none)
+one_verdict response v w (empty_handed none e) (unread succeeds some neither h) = e ∙ sym h
+one_verdict response v w (read succeeds some spot inside text e) (by_number fails h) = both response.status fails succeeds
+one_verdict response v w (read succeeds some spot inside text e) (empty_handed none h) = absurd (some none)
+one_verdict response v w (read succeeds some spot inside text e) (read good has other within found h) =
     e ∙ ap (by_reply response.status response.body) (ap held (one_tree response.body (grows spot inside empty) (grows other within empty) text.text found.text)) ∙ sym h
-one_verdict response v w (read yes some spot inside text e) (unread good has none h) = absurd (none (grows spot inside empty) text)
-one_verdict response v w (unread yes some none e) (by_number no h) = e ∙ sym h
-one_verdict response v w (unread yes some none e) (empty_handed neither h) = e ∙ sym h
-one_verdict response v w (unread yes some none e) (read good has spot inside text h) = absurd (none (grows spot inside empty) text)
-one_verdict response v w (unread yes some none e) (unread good has neither h) = e ∙ sym h
+one_verdict response v w (read succeeds some spot inside text e) (unread good has none h) = absurd (none (grows spot inside empty) text)
+one_verdict response v w (unread succeeds some none e) (by_number fails h) = e ∙ sym h
+one_verdict response v w (unread succeeds some none e) (empty_handed neither h) = e ∙ sym h
+one_verdict response v w (unread succeeds some none e) (read good has spot inside text h) = absurd (none (grows spot inside empty) text)
+one_verdict response v w (unread succeeds some none e) (unread good has neither h) = e ∙ sym h

@@ -13,7 +13,6 @@ use Rattle.cloud_events.specs.declared.outcome.Verdict.{Verdict}
 use Rattle.topic_spec.specs.declared.sub.Sub.{Sub}
 use Rattle.policy_run.specs.declared.outcome.Outcome.{Outcome}
 use Rattle.policy_run.specs.declared.outcome.Outcome.TheVariants as outcome
-use Rattle.policy_run.specs.declared.outcome.Refusal.{Refusal}
 use Rattle.policy_run.specs.declared.outcome.Refusal.TheVariants as refusal
 use Rattle.policy_run.specs.Event.{Event}
 use Rattle.policy_run.specs.Turn.{Asks, reply_of}

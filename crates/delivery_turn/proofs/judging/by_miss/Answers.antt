@@ -1,4 +1,4 @@
-use Rattle.std.proofs.Common.{sym, subst, ap}
+use Rattle.std.proofs.Common.{sym, subst}
 use Rattle.policy_run.specs.declared.outcome.Outcome.TheVariants as outcome
 use Rattle.delivery_turn.specs.Turning.{Settled}
 use Rattle.delivery_turn.proofs.Choosing.{more_made}

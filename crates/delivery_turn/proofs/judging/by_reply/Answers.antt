@@ -1,4 +1,4 @@
-use Rattle.std.proofs.Common.{◌≡◌, ap, sym, subst, ◌∙◌}
+use Rattle.std.proofs.Common.{subst}
 use Rattle.cloud_events.specs.declared.outcome.Verdict.TheVariants as verdict
 use Rattle.delivery_turn.specs.Turning.{Judges}
 use Rattle.delivery_turn.specs.Posting.{IsJudged}

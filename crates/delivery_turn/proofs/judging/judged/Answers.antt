@@ -1,5 +1,5 @@
 use Rattle.std.proofs.Common.{sym, ◌∙◌}
-use Rattle.delivery_turn.specs.Posting.{by_number, empty_handed}
+use Rattle.delivery_turn.specs.Posting.{by_number}
 use Rattle.delivery_turn.proofs.judging.judged.Goals as goal
 
 pub returns-then-not-is_good-clause-judged : goal.returns-then-not-is_good-clause-judged

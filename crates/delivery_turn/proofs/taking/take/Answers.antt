@@ -1,4 +1,4 @@
-use Rattle.std.proofs.Common.{◌≡◌, sym, subst, refl, ◌∙◌, length}
+use Rattle.std.proofs.Common.{subst, refl}
 use Rattle.ledger_core.specs.declared.command.LedgerCmd.TheVariants.{Take}
 use Rattle.ledger_core.specs.Ledger.{plans_of}
 use Rattle.delivery_turn.specs.Stepping.{IsPlanned, IsTakeReply}

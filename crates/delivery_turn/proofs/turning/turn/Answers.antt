@@ -1,15 +1,16 @@
-use Rattle.std.proofs.Common.{◌≡◌, ◌<◌, sym, subst, ap, refl, ◌∙◌, length, inl, inr, rules}
-use Rattle.std.specs.Prelude.{◌⊎◌, None}
+use Rattle.std.proofs.Common.{◌<◌, sym, subst, ap, ◌∙◌, inl, inr}
+use Rattle.std.specs.Prelude.{None}
 use Rattle.delivery_turn.specs.declared.taking.Taking.TheVariants as taking
 use Rattle.turn_cell.proofs.Growing.{still_of}
-use Rattle.delivery_turn.specs.Stepping.{AsksLedger}
-use Rattle.delivery_turn.specs.Turning.{AreSettlingAims, TakesBy, setting_of}
-use Rattle.delivery_turn.proofs.Assembled.{idled, turned}
+use Rattle.policy_run.specs.Effects.{clocked}
+use Rattle.link_call.specs.LinkAt.{link_at}
+use Rattle.delivery_turn.specs.Turning.{AreSettlingAims, setting_of}
+use Rattle.delivery_turn.proofs.Assembled.{idled_from, turned_from}
 use Rattle.delivery_turn.proofs.Early.{within_years, spent_by}
 use Rattle.delivery_turn.proofs.turning.turn.Goals as goal
 
-pub settling_of-requires : goal.settling_of-requires
-settling_of-requires g c = subst (λ n. c.in-Row.row.sub < n) c.requires.plans (c.take.ensures.planned c.in-Row.row c.in-Row.is)
+pub settling_of-settling-requires : goal.settling_of-settling-requires
+settling_of-settling-requires g c = subst (λ n. c.in-Row.row.sub < n) c.requires.plans (c.take.ensures.planned c.in-Row.row c.in-Row.is)
 
 pub settle-requires-clause-seat : goal.settle-requires-clause-seat
 settle-requires-clause-seat g c = still_of _ c.args.cell.now c.args.seat.now _ c.take.new.seat c.take.ensures.takes.2.owned.steps c.requires.seat
@@ -24,11 +25,9 @@ settle-requires-clause-until g c =
 
 pub returns-in-Row-clause-delivers : goal.returns-in-Row-clause-delivers
 returns-in-Row-clause-delivers g c =
-    turned _ c.args.cell.now (setting_of c.args.what.now) c.args.seat.now c.take.new.seat c.settle.new.seat _ _ (λ xs. g.G.Guard.held c.args.guard.now xs _) _ _ _ _ _ _ _ c.in-Row.row c.post-outcome.result c.settling_of-settling.result c.settle.result
-    (subst (λ came. AsksLedger _ c.args.cell.now c.args.seat.now c.take.new.seat _ _ (TakesBy came)) c.in-Row.is c.take.ensures.takes)
-    c.post-outcome.ensures.posts
-    (c.settling_of-settling.ensures.settled _)
-    c.settle.ensures.settles
+    turned_from _ c.args.cell.now (setting_of c.args.what.now) c.args.seat.now c.take.new.seat c.settle.new.seat (link_at g.L.Link c.args.link.now) (link_at g.L.Link c.post-outcome.new.link) (λ xs. g.G.Guard.held c.args.guard.now xs c.post-outcome.new.guard)
+    (clocked g.C.Clock c.args.clock.now) (clocked g.C.Clock c.take.new.clock) (clocked g.C.Clock c.post-outcome.new.clock) (clocked g.C.Clock c.settle.new.clock) (g.R.Rng.stream c.args.rng.now) (g.R.Rng.stream c.post-outcome.new.rng) (g.R.Rng.stream c.settling_of-settling.new.rng)
+    c.take.result c.in-Row.row c.post-outcome.result c.settling_of-settling.result c.settle.result c.in-Row.is c.take.ensures.takes c.post-outcome.ensures.posts (c.settling_of-settling.ensures.settled (clocked g.C.Clock c.post-outcome.new.clock)) c.settle.ensures.settles
 
 pub returns-in-Row-clause-shows : goal.returns-in-Row-clause-shows
 returns-in-Row-clause-shows g c count e =
@@ -40,8 +39,8 @@ returns-in-Row-clause-shows g c count e =
 
 pub returns-in-Ended-clause-delivers : goal.returns-in-Ended-clause-delivers
 returns-in-Ended-clause-delivers g c =
-    idled _ c.args.cell.now (setting_of c.args.what.now) c.args.seat.now c.take.new.seat _ (λ xs. g.G.Guard.held c.args.guard.now xs c.args.guard.now) _ _ _ c.in-Ended.turn (g.met.G.Guard.none _ c.requires.guard)
-    (subst (λ came. AsksLedger _ c.args.cell.now c.args.seat.now c.take.new.seat _ _ (TakesBy came)) c.in-Ended.is c.take.ensures.takes)
+    idled_from _ c.args.cell.now (setting_of c.args.what.now) c.args.seat.now c.take.new.seat (link_at g.L.Link c.args.link.now) (λ xs. g.G.Guard.held c.args.guard.now xs c.args.guard.now) (clocked g.C.Clock c.args.clock.now) (clocked g.C.Clock c.take.new.clock) (g.R.Rng.stream c.args.rng.now)
+    c.take.result c.in-Ended.turn c.in-Ended.is (g.met.G.Guard.none _ c.requires.guard) c.take.ensures.takes
 
 pub returns-in-Ended-clause-shows : goal.returns-in-Ended-clause-shows
 returns-in-Ended-clause-shows g c count e = inr (c.take.ensures.shows count (c.in-Ended.is ∙ ap taking.Ended e))
