@@ -1,7 +1,7 @@
 -- How many events of each kind a turn has.
 use Rattle.std.proofs.Common.{◌≡◌, ℕ, ◌+◌, ◌≤◌, Bool, true, false, List, [], ◌∷◌, ◌++◌, refl, sym, ap, subst, ◌∙◌, arith}
 use Rattle.policy_run.specs.Event.{Event}
-use Rattle.delivery_turn.specs.declared.turn.Turn.{Turn}
+use Rattle.delivery_turn.specs.declared.ending.Turn.{Turn}
 use Rattle.delivery_turn.specs.Settling.{Own}
 use Rattle.delivery_turn.specs.Delivery.{Setting, guarded, Delivery}
 use Rattle.delivery_turn.specs.Kinds.{Kind, taking, kinds_of, one_if, so_many, is_settling, is_retry, is_call, is_refusal, is_report, is_draw, BeginsByTaking, IsUnspent}

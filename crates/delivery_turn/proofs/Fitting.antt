@@ -11,8 +11,8 @@ use Rattle.side_base.specs.declared.message.Response.{Response}
 use Rattle.side_world.specs.declared.link.LinkErr.{LinkErr}
 use Rattle.policy_run.specs.Event.{Event, own, guarded, word, moment, pause}
 use Rattle.policy_run.specs.Turn.{Asks, LetsThrough, IsReported}
-use Rattle.delivery_turn.specs.declared.turn.Turn.{Turn}
-use Rattle.delivery_turn.specs.declared.turn.Turn.TheVariants.{Held, Exhausted}
+use Rattle.delivery_turn.specs.declared.ending.Turn.{Turn}
+use Rattle.delivery_turn.specs.declared.ending.Turn.TheVariants.{Held, Exhausted}
 use Rattle.delivery_turn.specs.Settling.{Own, entered, asked, Answered, Stuck, Row, Settles, settled, lacks, exhausted, LetsGo, released, kept}
 use Rattle.delivery_turn.specs.Posting.{Heard, Posts, free, timed, Draws, again, otherwise}
 use Rattle.delivery_turn.specs.Delivery.{Setting, guarded as is_guarded, Sent, Tried, Untold, Concludes, Postponed, Delivers, Delivery}

@@ -11,7 +11,7 @@ use Rattle.ledger_core.specs.declared.reply.LedgerReply.TheVariants.{Taken, Agai
 use Rattle.topic_spec.specs.declared.sub.Rule.{Rule}
 use Rattle.policy_run.specs.Event.{Event, own, guarded, word, moment}
 use Rattle.policy_run.specs.Turn.{Asks, Reports}
-use Rattle.delivery_turn.specs.declared.turn.Turn.TheVariants.{Delivered}
+use Rattle.delivery_turn.specs.declared.ending.Turn.TheVariants.{Delivered}
 use Rattle.delivery_turn.specs.Settling.{Own, asked, Row, Settles, settled}
 use Rattle.delivery_turn.specs.Posting.{missed, free, timed, DeadAims, nowhere, Draws, again}
 use Rattle.delivery_turn.specs.Delivery.{Sent, Tried, Concludes, Takes, Delivery, taken}

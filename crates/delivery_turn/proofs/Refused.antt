@@ -2,8 +2,8 @@
 use Rattle.std.proofs.Common.{◌≡◌, ℕ, ◌≤◌, true, List, refl, sym, arith}
 use Rattle.ledger_core.specs.declared.reply.LedgerReply.{LedgerReply}
 use Rattle.ledger_core.specs.declared.reply.LedgerReply.TheVariants.{Again, Done}
-use Rattle.delivery_turn.specs.declared.turn.Turn.{Turn}
-use Rattle.delivery_turn.specs.declared.turn.Turn.TheVariants.{Delivered}
+use Rattle.delivery_turn.specs.declared.ending.Turn.{Turn}
+use Rattle.delivery_turn.specs.declared.ending.Turn.TheVariants.{Delivered}
 use Rattle.delivery_turn.specs.Delivery.{Setting, guarded, Delivery}
 use Rattle.delivery_turn.specs.Kinds.{IsUnspent, kinds_of, so_many, is_settling, is_retry, is_call, is_report, is_draw}
 use Rattle.delivery_turn.specs.Samples.{settled_twice, unreported, called_first, called_idly, undrawn, overdrawn}

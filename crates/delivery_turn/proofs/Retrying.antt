@@ -73,4 +73,4 @@ unfolding unescaped_from
 asks_again = refl
 
 pub wants_again_judged : IsJudged wants_again Retry
-wants_again_judged = read map_spot inside is_read asks_again
+wants_again_judged = read refl (λ e. let bad : ⊥ = cc in bad) map_spot inside is_read asks_again

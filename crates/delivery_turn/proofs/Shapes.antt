@@ -16,8 +16,8 @@ use Rattle.policy_run.specs.declared.outcome.Refusal.TheVariants as refusals
 use Rattle.policy_run.specs.Event.{Event}
 use Rattle.policy_run.specs.Attempts.{limit_of}
 use Rattle.policy_run.specs.Turn.{Asks, LetsThrough, IsReported, reply_of}
-use Rattle.delivery_turn.specs.declared.turn.Turn.{Turn}
-use Rattle.delivery_turn.specs.declared.turn.Turn.TheVariants.{Held, Exhausted}
+use Rattle.delivery_turn.specs.declared.ending.Turn.{Turn}
+use Rattle.delivery_turn.specs.declared.ending.Turn.TheVariants.{Held, Exhausted}
 use Rattle.delivery_turn.specs.Settling.{Own, Answered, Stuck, Row, Settles, settled, lacks, exhausted, LetsGo, released, kept, postponed}
 use Rattle.delivery_turn.specs.Posting.{Heard, Posts, free, timed, Draws, again, otherwise}
 use Rattle.delivery_turn.specs.Delivery.{Setting, guarded, Sent, Tried, Untold, Concludes, Postponed, Delivers, Delivery}

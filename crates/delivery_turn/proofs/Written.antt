@@ -16,13 +16,13 @@ use Rattle.topic_spec.specs.Aiming.{aims_of, aims_from, aim_at, is_to, path_of, 
 use Rattle.policy_run.specs.declared.outcome.Refusal.{Refusal}
 use Rattle.policy_run.specs.Event.{Event, own, guarded, word, moment}
 use Rattle.policy_run.specs.Turn.{Asks, reply_of}
-use Rattle.delivery_turn.specs.declared.turn.Turn.TheVariants.{Delivered}
+use Rattle.delivery_turn.specs.declared.ending.Turn.TheVariants.{Delivered}
 use Rattle.delivery_turn.specs.Settling.{Own, asked, Row, Settles, settled, postponed}
 use Rattle.delivery_turn.specs.Posting.{replied, free, DeadAims, matched, again, otherwise}
 use Rattle.delivery_turn.specs.Delivery.{Sent, Tried, Concludes, Postponed, Takes, Delivery, taken}
 use Rattle.delivery_turn.specs.Delivery as turns
 use Rattle.delivery_turn.specs.Samples.{orders, letters, shop, guarded_shop, ledger_step, stepped, post_of, wants_again, accepts, letter_aims, attempt_at, letter_at, breaker_step, refused_so}
-use Rattle.delivery_turn.proofs.Judging.{no_body}
+use Rattle.delivery_turn.proofs.Verdicts.{no_body}
 use Rattle.delivery_turn.proofs.Retrying.{wants_again_judged}
 
 letter_is : (rules : List Rule) (event : List ℕ) (values : Forest) → letter_aims ≡ aims_of (record { bytes = event; values = values }) (codes "pubsub") (codes "dead") (orders rules ∷ letters ∷ [])

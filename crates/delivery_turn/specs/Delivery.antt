@@ -12,8 +12,8 @@ use Rattle.policy_run.specs.declared.outcome.Refusal.{Refusal}
 use Rattle.policy_run.specs.Event.{Event}
 use Rattle.policy_run.specs.Attempts.{limit_of}
 use Rattle.policy_run.specs.Turn.{Asks, LetsThrough, IsReported, reply_of}
-use Rattle.delivery_turn.specs.declared.turn.Turn.{Turn}
-use Rattle.delivery_turn.specs.declared.turn.Turn.TheVariants.{Idle, Held, Exhausted}
+use Rattle.delivery_turn.specs.declared.ending.Turn.{Turn}
+use Rattle.delivery_turn.specs.declared.ending.Turn.TheVariants.{Idle, Held, Exhausted}
 use Rattle.delivery_turn.specs.Settling.{Own, Answered, Stuck, Row, Settles, LetsGo, postponed}
 use Rattle.delivery_turn.specs.Posting.{Heard, heard, is_good, Posts, IsFinish, Draws}
 

@@ -12,8 +12,8 @@ use Rattle.ledger_core.specs.declared.reply.LedgerReply.{LedgerReply}
 use Rattle.ledger_core.specs.declared.reply.LedgerReply.TheVariants.{Taken}
 use Rattle.ledger_core.specs.Fits.{Fits}
 use Rattle.policy_run.specs.Event.{Event, own, guarded, word, moment, pause}
-use Rattle.delivery_turn.specs.declared.turn.Turn.{Turn}
-use Rattle.delivery_turn.specs.declared.turn.Turn.TheVariants.{Exhausted}
+use Rattle.delivery_turn.specs.declared.ending.Turn.{Turn}
+use Rattle.delivery_turn.specs.declared.ending.Turn.TheVariants.{Exhausted}
 use Rattle.delivery_turn.specs.Settling.{Own, entered, asked}
 
 pub data Kind : Type 0 where

@@ -15,7 +15,7 @@ use Rattle.ledger_core.specs.declared.command.Finish.{Finish}
 use Rattle.ledger_core.specs.declared.command.Finish.TheVariants as finish
 use Rattle.cloud_events.specs.declared.outcome.Verdict.{Verdict}
 use Rattle.cloud_events.specs.declared.outcome.Verdict.TheVariants as verdict
-use Rattle.cloud_events.specs.Verdict.{by_reply, by_status}
+use Rattle.cloud_events.specs.Verdict.{by_reply, by_status, is_good as is_success}
 use Rattle.cloud_events.specs.Wrapped.{IsRead}
 use Rattle.topic_spec.specs.declared.sub.Sub.{Sub}
 use Rattle.topic_spec.specs.Aiming.{aims_of}
@@ -73,10 +73,12 @@ finish_of verdict.Success = finish.Success
 finish_of verdict.Retry = finish.Retry
 finish_of verdict.Drop = finish.Drop
 
--- the verdict on a reply: its body may be a JSON text of one value, which holds others
+-- The verdict on a reply. Outside 200 to 299 its status alone says it, and where there is no body; else its body may be a JSON text of one value, which holds others
 pub data IsJudged (response : Response) (verdict : Verdict) : Type 0 where
-  read : (spot : Spot) (inside : Forest) → IsRead response.body (grows spot inside empty) → verdict ≡ by_reply response.status response.body inside → IsJudged response verdict
-  unread : ((values : Forest) → ¬ IsRead response.body values) → verdict ≡ by_status response.status → IsJudged response verdict
+  by_number : is_success response.status ≡ false → verdict ≡ by_status response.status → IsJudged response verdict
+  empty_handed : response.body ≡ [] → verdict ≡ by_status response.status → IsJudged response verdict
+  read : is_success response.status ≡ true → response.body ≢ [] → (spot : Spot) (inside : Forest) → IsRead response.body (grows spot inside empty) → verdict ≡ by_reply response.status response.body inside → IsJudged response verdict
+  unread : is_success response.status ≡ true → response.body ≢ [] → ((values : Forest) → ¬ IsRead response.body values) → verdict ≡ by_status response.status → IsJudged response verdict
 
 -- how what was heard is settled; where there was no memory it isn't
 abbrev pub IsFinish : Heard → Finish → Type 0
@@ -91,6 +93,11 @@ IsSubOf subs row sub = get_elem? subs row.sub ≡ some sub
 -- the aims of the row's event at a topic of its subscription's component
 abbrev pub aims_at : List Sub → Row → Sub → List ℕ → Forest → List Aim
 aims_at subs row sub topic values = aims_of (record { bytes = row.event; values = values }) sub.pubsub topic subs
+
+-- the subscriptions to a topic that an event matches, where it is a JSON text
+pub data AimsAt (subs : List Sub) (event pubsub topic : List ℕ) (aims : List Aim) : Type 0 where
+  no_text : ((values : Forest) → ¬ IsRead event values) → aims ≡ [] → AimsAt subs event pubsub topic aims
+  matches : (values : Forest) → IsRead event values → aims ≡ aims_of (record { bytes = event; values = values }) pubsub topic subs → AimsAt subs event pubsub topic aims
 
 -- Where the event goes if it is given up: to the subscriptions of the dead-letter topic that it matches, where there is such a topic and the event is a JSON text
 pub data DeadAims (subs : List Sub) (row : Row) (aims : List Aim) : Type 0 where

@@ -13,8 +13,9 @@ use Rattle.ledger_core.specs.Message.{Step}
 use Rattle.policy_run.specs.declared.outcome.Refusal.{Refusal}
 use Rattle.policy_run.specs.declared.outcome.Refusal.TheVariants as refusal
 use Rattle.policy_run.specs.Event.{Event, own, moment}
-use Rattle.delivery_turn.specs.declared.turn.Turn.{Turn}
-use Rattle.delivery_turn.specs.declared.turn.Turn.TheVariants.{Delivered, Held, Exhausted}
+pub use Rattle.delivery_turn.specs.declared.row.Row.{Row}
+use Rattle.delivery_turn.specs.declared.ending.Turn.{Turn}
+use Rattle.delivery_turn.specs.declared.ending.Turn.TheVariants.{Delivered, Held, Exhausted}
 
 -- what a turn does of its own, beside steps of the breaker, words, moments and pauses: steps of the ledger, and calls of the link
 pub data Own : Type 0 where
@@ -33,14 +34,6 @@ pub record Answered (cmd : ℕ → LedgerCmd) (reply : LedgerReply) (events : Li
 -- a moment was read, and then the ledger's cell was exhausted: no step
 abbrev pub Stuck : List (Event Own) → Type 0
 Stuck events = (now : ℕ) × (events ≡ moment now ∷ [])
-
--- what was taken: the delivery of a message to a subscription, held under a claim
-pub record Row : Type 0 where
-  pub no : ℕ
-  pub sub : ℕ
-  pub claim : ℕ
-  pub event : List ℕ
-  pub path : List ℕ
 
 -- the settling of a row, which may depend on its moment
 abbrev pub settle : Row → (ℕ → Finish) → ℕ → List Aim → ℕ → LedgerCmd

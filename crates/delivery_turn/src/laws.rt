@@ -10,8 +10,8 @@ ghost use Rattle.cloud_events.specs.declared.outcome.Verdict.TheVariants.{Succes
 ghost use Rattle.cloud_events.specs.Wrapped.{IsRead};
 ghost use Rattle.topic_spec.specs.declared.sub.Rule.{Rule};
 ghost use Rattle.policy_run.specs.Event.{Event};
-ghost use Rattle.delivery_turn.specs.declared.turn.Turn.{Turn};
-ghost use Rattle.delivery_turn.specs.declared.turn.Turn.TheVariants.{Delivered};
+ghost use Rattle.delivery_turn.specs.declared.ending.Turn.{Turn};
+ghost use Rattle.delivery_turn.specs.declared.ending.Turn.TheVariants.{Delivered};
 ghost use Rattle.delivery_turn.specs.Settling.{Own};
 ghost use Rattle.delivery_turn.specs.Posting.{IsJudged};
 ghost use Rattle.delivery_turn.specs.Delivery.{Setting, guarded, Delivery};

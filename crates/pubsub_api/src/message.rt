@@ -1,5 +1,5 @@
 //! From what is published to the command of its ledger.
-ghost use Rattle.std.specs.Prelude.{ℕ, List, length, ◌≡◌, IfOk};
+ghost use Rattle.std.specs.Prelude.{length, ◌≡◌, IfOk};
 ghost use Rattle.json_text.specs.Forest.{Forest};
 ghost use Rattle.ledger_core.specs.Aims.{AreAims, IsGiven};
 ghost use Rattle.cloud_events.specs.Wrapped.{IsRead, IsWrapped};

@@ -1,8 +1,5 @@
 //! What a request to publish is answered.
 ghost use Rattle.std.specs.Prelude.{◌≡◌, ◌++◌, codes, decimal, IfOk};
-ghost use Rattle.ledger_core.specs.declared.command.LedgerCmd.{LedgerCmd as Cmd};
-ghost use Rattle.ledger_core.specs.declared.command.LedgerCmd.TheVariants.{Accept};
-ghost use Rattle.ledger_core.specs.Fits.{Fits};
 ghost use Rattle.pubsub_api.specs.Publishing.{AcceptReplies, IsAcceptReply, RefusalReplies, fault_text, forbidden, full, no_event, taken, unknown_pubsub};
 
 use crate::PubErr;

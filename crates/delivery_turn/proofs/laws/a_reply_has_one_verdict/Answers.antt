@@ -1,4 +1,4 @@
-use Rattle.delivery_turn.proofs.Judging.{one_verdict}
+use Rattle.delivery_turn.proofs.Verdicts.{one_verdict}
 use Rattle.delivery_turn.proofs.laws.a_reply_has_one_verdict.Goals as goal
 
 pub returns : goal.returns

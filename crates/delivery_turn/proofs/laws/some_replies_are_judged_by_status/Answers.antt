@@ -1,5 +1,5 @@
 use Rattle.std.proofs.Common.{refl}
-use Rattle.delivery_turn.proofs.Judging.{absent, failing, no_body}
+use Rattle.delivery_turn.proofs.Verdicts.{absent, failing, no_body}
 use Rattle.delivery_turn.proofs.laws.some_replies_are_judged_by_status.Goals as goal
 
 pub returns-clause-absent : goal.returns-clause-absent
