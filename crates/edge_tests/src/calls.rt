@@ -15,28 +15,6 @@ use std::test::Fail;
 use std::thread::{Threads, join, sleep};
 use std::time::{Clock, Duration};
 
-/// What a test of calls has of its host.
-pub(crate) trait Tester: Threads
-    + Net<Listener = TcpListener, Stream = TcpStream>
-    + Clock
-    + Abort
-    + Wait
-    + AllocGlobal
-    + Copy
-    + Drop {}
-
-impl<R> Tester for R
-where
-    R: Threads
-        + Net<Listener = TcpListener, Stream = TcpStream>
-        + Clock
-        + Abort
-        + Wait
-        + AllocGlobal
-        + Copy
-        + Drop,
-{}
-
 /// The limit of a call that is to be answered, in milliseconds: only a test that fails waits so long.
 const LONG_MS: u64 = 20_000;
 
@@ -201,7 +179,16 @@ fn told_all<L: Link, R: Clock + AllocGlobal>(
 }
 
 /// The same of a new link, which is let go; then comes a client that asks nothing.
-fn told_by_new<R: Tester>(rt: R, port: u16, deeds: &[&str], pause_ms: u64) -> io::Result<Text> {
+fn told_by_new<
+    R: Threads
+        + Net<Listener = TcpListener, Stream = TcpStream>
+        + Clock
+        + Abort
+        + Wait
+        + AllocGlobal
+        + Copy
+        + Drop,
+>(rt: R, port: u16, deeds: &[&str], pause_ms: u64) -> io::Result<Text> {
     let request = request_to(rt.alloc(), port, Method::Get)?;
     let mut link = TcpLink::new(rt);
     let all = told_all(&rt, &mut link, &request, deeds, pause_ms);
@@ -211,7 +198,18 @@ fn told_by_new<R: Tester>(rt: R, port: u16, deeds: &[&str], pause_ms: u64) -> io
 }
 
 /// What a link answers to calls that a server serves by these deeds, as a text, and behind it how many requests each connection had.
-fn played<R: Tester + Send + Sync>(rt: R, deeds: &[&str], pause_ms: u64) -> io::Result<Text> {
+fn played<
+    R: Threads
+        + Net<Listener = TcpListener, Stream = TcpStream>
+        + Clock
+        + Abort
+        + Wait
+        + AllocGlobal
+        + Copy
+        + Drop
+        + Send
+        + Sync,
+>(rt: R, deeds: &[&str], pause_ms: u64) -> io::Result<Text> {
     let (listener, port) = listen(&rt)?;
     let (counts, answers) = join(
         &rt,
@@ -225,11 +223,18 @@ fn played<R: Tester + Send + Sync>(rt: R, deeds: &[&str], pause_ms: u64) -> io::
 }
 
 /// Checks what comes of deeds.
-fn check_deeds<R: Tester + Send + Sync>(
-    rt: R,
-    cases: &[(&[&str], &str)],
-    pause_ms: u64,
-) -> io::Result<()> {
+fn check_deeds<
+    R: Threads
+        + Net<Listener = TcpListener, Stream = TcpStream>
+        + Clock
+        + Abort
+        + Wait
+        + AllocGlobal
+        + Copy
+        + Drop
+        + Send
+        + Sync,
+>(rt: R, cases: &[(&[&str], &str)], pause_ms: u64) -> io::Result<()> {
     for case in cases {
         let (deeds, wanted) = *case;
         let found = played(rt, deeds, pause_ms)?;
@@ -269,11 +274,16 @@ fn a_connection_is_kept_where_its_reply_lets_it(rt: HostRuntime) -> Result<(), F
 fn a_call_fails_once_where_there_is_no_reply(rt: HostRuntime) -> Result<(), Fail> {
     let short = "!HTTP/1.1 200 OK\r\nContent-Length: 3\r\n\r\nhi";
     let long = "=HTTP/1.1 200 OK\r\nContent-Length: 4194305\r\n\r\n";
+    let garbage = "=garbage\r\n\r\n";
+    let nothing = "!";
     let cases: [(&[&str], &str); 4] = [
         (&[short, HI], "the call failed; 200 hi; on 1 1"),
         (&[long, HI], "the call failed; 200 hi; on 1 1"),
-        (&["=garbage\r\n\r\n", HI], "the call failed; 200 hi; on 1 1"),
-        (&[HI, "!", HI], "200 hi; the call failed; 200 hi; on 2 1"),
+        (&[garbage, HI], "the call failed; 200 hi; on 1 1"),
+        (
+            &[HI, nothing, HI],
+            "200 hi; the call failed; 200 hi; on 2 1",
+        ),
     ];
     Ok(check_deeds(rt, &cases, 0)?)
 }
@@ -315,7 +325,16 @@ fn free_port<R: Net<Listener = TcpListener, Stream = TcpStream>>(rt: &R) -> io::
 }
 
 /// How a call of this method to this port ends, which is not answered.
-fn end_of_call<R: Tester>(rt: R, port: u16, method: Method) -> Result<Option<LinkErr>, NoMemory> {
+fn end_of_call<
+    R: Threads
+        + Net<Listener = TcpListener, Stream = TcpStream>
+        + Clock
+        + Abort
+        + Wait
+        + AllocGlobal
+        + Copy
+        + Drop,
+>(rt: R, port: u16, method: Method) -> Result<Option<LinkErr>, NoMemory> {
     let request = request_to(rt.alloc(), port, method)?;
     let mut link = TcpLink::new(rt);
     Ok(link.call(&request, LONG_MS).err())
@@ -361,7 +380,16 @@ fn request_with(alloc: Global, port: u16, len: usize) -> Result<LinkRequest, NoM
 }
 
 /// What a link answers to a long request and to a short one.
-fn told_of_long<R: Tester>(rt: R, port: u16) -> io::Result<Text> {
+fn told_of_long<
+    R: Threads
+        + Net<Listener = TcpListener, Stream = TcpStream>
+        + Clock
+        + Abort
+        + Wait
+        + AllocGlobal
+        + Copy
+        + Drop,
+>(rt: R, port: u16) -> io::Result<Text> {
     let long = request_with(rt.alloc(), port, 4_194_304)?;
     let mut link = TcpLink::new(rt);
     let mut all = told(&mut link, rt.alloc(), &long, LONG_MS)?;
@@ -375,7 +403,18 @@ fn told_of_long<R: Tester>(rt: R, port: u16) -> io::Result<Text> {
 }
 
 /// The same of a peer that takes some of the long one, and closes its connection.
-fn told_of_half<R: Tester + Send + Sync>(rt: R) -> io::Result<(Text, Text)> {
+fn told_of_half<
+    R: Threads
+        + Net<Listener = TcpListener, Stream = TcpStream>
+        + Clock
+        + Abort
+        + Wait
+        + AllocGlobal
+        + Copy
+        + Drop
+        + Send
+        + Sync,
+>(rt: R) -> io::Result<(Text, Text)> {
     let (listener, port) = listen(&rt)?;
     let (counts, answers) = join(
         &rt,
@@ -394,11 +433,19 @@ fn a_peer_that_takes_half_a_request_gets_no_other(rt: HostRuntime) -> Result<(),
 }
 
 /// What a link answers while one connection is served at this port, by a listener that goes then.
-fn told_once<R: Tester + Send + Sync, L: Link + Send>(
-    rt: R,
-    link: &mut L,
-    port: u16,
-) -> io::Result<(Text, u16)> {
+fn told_once<
+    R: Threads
+        + Net<Listener = TcpListener, Stream = TcpStream>
+        + Clock
+        + Abort
+        + Wait
+        + AllocGlobal
+        + Copy
+        + Drop
+        + Send
+        + Sync,
+    L: Link + Send,
+>(rt: R, link: &mut L, port: u16) -> io::Result<(Text, u16)> {
     let (listener, port) = listen_at(&rt, port)?;
     let request = request_to(rt.alloc(), port, Method::Get)?;
     let alloc = rt.alloc();
@@ -418,7 +465,18 @@ fn take_and_reply(listener: &TcpListener) -> io::Result<()> {
 }
 
 /// What a link answers before and after its program is started anew.
-fn told_by_restarted<R: Tester + Send + Sync>(rt: R) -> io::Result<(Text, Text)> {
+fn told_by_restarted<
+    R: Threads
+        + Net<Listener = TcpListener, Stream = TcpStream>
+        + Clock
+        + Abort
+        + Wait
+        + AllocGlobal
+        + Copy
+        + Drop
+        + Send
+        + Sync,
+>(rt: R) -> io::Result<(Text, Text)> {
     let mut link = TcpLink::new(rt);
     let (first, port) = told_once(rt, &mut link, 0)?;
     sleep(&rt, Duration::from_millis(PAUSE_MS));
@@ -440,7 +498,16 @@ const PROGRAMS: usize = 9;
 const LAST_PROGRAM: usize = PROGRAMS - 1;
 
 /// Listeners at free ports, and their ports.
-fn listen_all<R: Tester>(rt: &R) -> io::Result<(Vec<TcpListener>, Vec<u16>)> {
+fn listen_all<
+    R: Threads
+        + Net<Listener = TcpListener, Stream = TcpStream>
+        + Clock
+        + Abort
+        + Wait
+        + AllocGlobal
+        + Copy
+        + Drop,
+>(rt: &R) -> io::Result<(Vec<TcpListener>, Vec<u16>)> {
     let mut listeners = Vec::new(rt.alloc());
     let mut ports = Vec::new(rt.alloc());
     for _ in 0..PROGRAMS {
@@ -480,7 +547,16 @@ fn serve_in_turn<R: AllocGlobal>(rt: &R, listeners: &[TcpListener]) -> io::Resul
 }
 
 /// What a new link answers to a call of each program, one more of the first, and one of the last; then a client comes to the first.
-fn told_in_turn<R: Tester>(rt: R, ports: &[u16]) -> io::Result<Text> {
+fn told_in_turn<
+    R: Threads
+        + Net<Listener = TcpListener, Stream = TcpStream>
+        + Clock
+        + Abort
+        + Wait
+        + AllocGlobal
+        + Copy
+        + Drop,
+>(rt: R, ports: &[u16]) -> io::Result<Text> {
     let mut link = TcpLink::new(rt);
     let mut all = Text::new(rt.alloc());
     for i in 0..PROGRAMS + 2 {
@@ -501,7 +577,18 @@ fn told_in_turn<R: Tester>(rt: R, ports: &[u16]) -> io::Result<Text> {
 }
 
 /// The same where the programs serve so, and whether the last found both its requests on one connection.
-fn played_in_turn<R: Tester + Send + Sync>(rt: R) -> io::Result<(Text, bool)> {
+fn played_in_turn<
+    R: Threads
+        + Net<Listener = TcpListener, Stream = TcpStream>
+        + Clock
+        + Abort
+        + Wait
+        + AllocGlobal
+        + Copy
+        + Drop
+        + Send
+        + Sync,
+>(rt: R) -> io::Result<(Text, bool)> {
     let (listeners, ports) = listen_all(&rt)?;
     let (served, answers) = join(
         &rt,
@@ -523,11 +610,16 @@ fn eight_connections_are_kept(rt: HostRuntime) -> Result<(), Fail> {
 }
 
 /// How many bytes a client is answered while another has sent half a request; then the program at this listener goes, and the door is shut.
-fn answered_beside_half<R: Tester>(
-    rt: &R,
-    door: &TcpDoor,
-    listener: TcpListener,
-) -> io::Result<usize> {
+fn answered_beside_half<
+    R: Threads
+        + Net<Listener = TcpListener, Stream = TcpStream>
+        + Clock
+        + Abort
+        + Wait
+        + AllocGlobal
+        + Copy
+        + Drop,
+>(rt: &R, door: &TcpDoor, listener: TcpListener) -> io::Result<usize> {
     let mut clients = Vec::new(rt.alloc());
     let port = door.port()?;
     add_halves(rt, port, 1, &mut clients)?;
@@ -539,7 +631,18 @@ fn answered_beside_half<R: Tester>(
 }
 
 /// The same while this worker serves.
-fn answered_beside<R: Tester + Send + Sync>(
+fn answered_beside<
+    R: Threads
+        + Net<Listener = TcpListener, Stream = TcpStream>
+        + Clock
+        + Abort
+        + Wait
+        + AllocGlobal
+        + Copy
+        + Drop
+        + Send
+        + Sync,
+>(
     rt: &R,
     door: &TcpDoor,
     serving: &mut TcpAcceptor<R>,
@@ -554,7 +657,18 @@ fn answered_beside<R: Tester + Send + Sync>(
 }
 
 /// The same while another worker calls a program that says nothing, and what comes of its call.
-fn answered_beside_call<R: Tester + Send + Sync>(rt: R) -> io::Result<(usize, Text)> {
+fn answered_beside_call<
+    R: Threads
+        + Net<Listener = TcpListener, Stream = TcpStream>
+        + Clock
+        + Abort
+        + Wait
+        + AllocGlobal
+        + Copy
+        + Drop
+        + Send
+        + Sync,
+>(rt: R) -> io::Result<(usize, Text)> {
     let door = TcpDoor::open_within(&rt, 0, patient())?;
     let calling = door.acceptor(rt)?;
     let mut link = door.link(rt, &calling)?;
@@ -579,13 +693,33 @@ fn a_worker_that_calls_leaves_no_other_to_half_a_request(rt: HostRuntime) -> Res
 }
 
 /// Has a worker leave its door soon.
-fn leave_soon<R: Tester>(rt: &R, leaving: &mut TcpAcceptor<R>) {
+fn leave_soon<
+    R: Threads
+        + Net<Listener = TcpListener, Stream = TcpStream>
+        + Clock
+        + Abort
+        + Wait
+        + AllocGlobal
+        + Copy
+        + Drop,
+>(rt: &R, leaving: &mut TcpAcceptor<R>) {
     sleep(rt, Duration::from_millis(SHORT_MS));
     leaving.leave();
 }
 
 /// What comes of a call without a limit to a program that says nothing, while another worker leaves.
-fn told_while_all_leave<R: Tester + Send + Sync>(rt: R) -> io::Result<Text> {
+fn told_while_all_leave<
+    R: Threads
+        + Net<Listener = TcpListener, Stream = TcpStream>
+        + Clock
+        + Abort
+        + Wait
+        + AllocGlobal
+        + Copy
+        + Drop
+        + Send
+        + Sync,
+>(rt: R) -> io::Result<Text> {
     let door = TcpDoor::open(&rt, 0)?;
     let calling = door.acceptor(rt)?;
     let mut link = door.link(rt, &calling)?;

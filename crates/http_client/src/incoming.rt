@@ -10,7 +10,10 @@ use side_world::{Failed, Source};
 use std::alloc::{AllocError, Global};
 use std::marker::Model;
 
-/// The most bytes that are read at once.
+/// The most bytes that are read at once: where none are there yet, most replies have no more than the first, and a larger buffer costs
+/// more to clear than such a reply does to read.
+const FIRST_PIECE: usize = 2_048;
+
 const PIECE: usize = 16_384;
 
 /// The most bytes of a head.
@@ -116,8 +119,27 @@ impl<S: Source> Incoming<S> {
         ensures no_fault { OnOk result (S.faults self.new.source ≡ S.faults self.old.source) }
         ensures failed { IfErr result (λ why. why ≡ SourceFailed → Rose (S.faults self.old.source) (S.faults self.new.source)) }
     {
-        let mut piece = [0; PIECE];
-        match self.source.read(&mut piece) {
+        if self.pending.bytes().is_empty() {
+            let mut piece = [0; FIRST_PIECE];
+            self.fill_by(&mut piece)
+        } else {
+            let mut piece = [0; PIECE];
+            self.fill_by(&mut piece)
+        }
+    }
+
+    /// The same, as many bytes as this buffer has at most.
+    fn fill_by(&mut self, piece: &mut [u8]) -> Result<bool, ReplyErr>
+        requires { 0 < length piece.old }
+        ensures same { OnOk result (ahead self.new.pending (S.left self.new.source) ≡ ahead self.old.pending (S.left self.old.source)) }
+        ensures more { IfOk result (λ came. IsTrue came → length self.old.pending < length self.new.pending) }
+        ensures grown { IfOk result (λ came. IsTrue came → (piece : List ℕ) × (self.new.pending ≡ self.old.pending ++ piece)) }
+        ensures kept { IfOk result (λ came. came ≡ false → self.new.pending ≡ self.old.pending) }
+        ensures ended { IfOk result (λ came. came ≡ false → IsDrained (S.left self.new.source)) }
+        ensures no_fault { OnOk result (S.faults self.new.source ≡ S.faults self.old.source) }
+        ensures failed { IfErr result (λ why. why ≡ SourceFailed → Rose (S.faults self.old.source) (S.faults self.new.source)) }
+    {
+        match self.source.read(piece) {
             Ok(0) => Ok(false),
             Ok(n) => match self.pending.push(&piece[..n]) {
                 Ok(()) => Ok(true),

@@ -8,7 +8,7 @@ use crate::call_stream::{CallSink, CallSource, cause_of};
 use crate::call_time::Caller;
 use crate::waiting::is_quiet;
 use http_client::{AskErr, Prepared, Reply, ask};
-use side_base::{LinkRequest, Text};
+use side_base::{Blob, LinkRequest, Text};
 use side_world::LinkErr;
 use std::alloc::Global;
 use std::io::{self, ErrorKind};
@@ -29,7 +29,7 @@ const TRIES: u32 = u32::MAX;
 /// A connection to another program.
 #[derive(Drop)]
 pub(crate) struct CallConnection {
-    host: Text,
+    host: Blob,
     port: u16,
     /// The moment at which its last call ended, in milliseconds.
     since: u64,
@@ -45,7 +45,7 @@ impl CallConnection {
         request: &LinkRequest,
         end: u64,
     ) -> Result<Self, LinkErr> {
-        let Ok(host) = request.host.copy() else {
+        let Ok(host) = Blob::from_bytes(rt.alloc(), request.host.bytes()) else {
             return Err(LinkErr::NoMemory);
         };
         let stream = connect(rt, caller, request.host.as_str(), request.port, end)?;
@@ -59,7 +59,7 @@ impl CallConnection {
     fn of_stream(
         alloc: Global,
         caller: &Caller,
-        host: Text,
+        host: Blob,
         port: u16,
         stream: TcpStream,
         end: u64,
