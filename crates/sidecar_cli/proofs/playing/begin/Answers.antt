@@ -8,7 +8,7 @@ use Rattle.sidecar_cli.proofs.playing.begin.Goals as goal
 pub returns-in-Ok : goal.returns-in-Ok
 returns-in-Ok g c =
     read c.in-Ok.resources _ c.in-Ok.ensures refl
-    (kept (λ (lists : List Peer × List Sub). record { app = c.args.given.app; app_port = None; peers = lists.0; components = c.in-Ok.resources.components; subs = lists.1; policies = c.in-Ok.resources.policies }) (λ i. (c.new.ensures i, c.new-2.ensures i)) c.keep.ensures)
+    (kept (λ (lists : List Peer × List Sub). record { app = c.args.given.app; app_port = None; peers = lists.0; components = c.in-Ok.resources.components; subs = lists.1; policies = c.in-Ok.resources.policies }) (λ i. (c.new.ensures i, c.new-in-Ok.ensures i)) c.keep.ensures)
 
 pub returns-in-Err : goal.returns-in-Err
 returns-in-Err g c = refused c.in-Err.error c.in-Err.ensures c.without_resources.ensures refl
