@@ -4,12 +4,38 @@ use Rattle.sidecar_objects.specs.Pass.{seats_of}
 use Rattle.sidecar_core.proofs.Answering.{state_answered, state_shows}
 use Rattle.sidecar_core.proofs.responding.answer.Goals as goal
 
-pub returns-in-Some-clause-does : goal.returns-in-Some-clause-does
-returns-in-Some-clause-does g c = does_as _ _ _ _ _ _
-    (λ events at. state_answered c.args.shared.now.config c.args.request.now events c.at_store.result c.args.route.now c.in-Some.name.now (sym c.in-Some.ensures) at) (c.at_store.ensures.does _)
+pub returns-in-Publish-clause-does : goal.returns-in-Publish-clause-does
+returns-in-Publish-clause-does g c = ?
 
-pub returns-in-Some-clause-shows : goal.returns-in-Some-clause-shows
-returns-in-Some-clause-shows g c = λ count is. state_shows c.args.shared.now.config (seats_of c.at_store.new.pass) count c.args.route.now c.in-Some.name.now (sym c.in-Some.ensures) (c.at_store.ensures.shows count is)
+pub returns-in-Binding-clause-does : goal.returns-in-Binding-clause-does
+returns-in-Binding-clause-does g c = ?
 
-pub returns-in-None-clause-does : goal.returns-in-None-clause-does
-returns-in-None-clause-does g c = c.answer_plainly.ensures.does _ _ _
+pub returns-in-Metadata-clause-does : goal.returns-in-Metadata-clause-does
+returns-in-Metadata-clause-does g c = ?
+
+pub returns-in-Metadata-clause-status : goal.returns-in-Metadata-clause-status
+returns-in-Metadata-clause-status g c = ?
+
+pub returns-in-SetMetadata-clause-does : goal.returns-in-SetMetadata-clause-does
+returns-in-SetMetadata-clause-does g c = ?
+
+pub returns-in-SetMetadata-clause-status : goal.returns-in-SetMetadata-clause-status
+returns-in-SetMetadata-clause-status g c = ?
+
+pub returns-in-ActorCall-clause-does : goal.returns-in-ActorCall-clause-does
+returns-in-ActorCall-clause-does g c = ?
+
+pub returns-in-ActorCall-clause-shows : goal.returns-in-ActorCall-clause-shows
+returns-in-ActorCall-clause-shows g c = ?
+
+pub returns-in-ActorCall-clause-status : goal.returns-in-ActorCall-clause-status
+returns-in-ActorCall-clause-status g c = ?
+
+pub returns-in-Health-clause-does : goal.returns-in-Health-clause-does
+returns-in-Health-clause-does g c = ?
+
+pub returns-in-Save-clause-does : goal.returns-in-Save-clause-does
+returns-in-Save-clause-does g c = ?
+
+pub returns-in-Save-clause-status : goal.returns-in-Save-clause-status
+returns-in-Save-clause-status g c = ?
