@@ -28,7 +28,7 @@ use Rattle.delivery_turn.specs.declared.taking.Taking.TheVariants as taking
 use Rattle.delivery_turn.specs.declared.ending.Turn.{Turn}
 use Rattle.delivery_turn.specs.declared.ending.Turn.TheVariants as turn
 use Rattle.delivery_turn.specs.Settling.{Own, Answered, Stuck, Row, settle, Settles, LetsGo, postponed, at_once}
-use Rattle.delivery_turn.specs.Posting.{IsJudged, finish_of, Draws, replied, missed, lacked}
+use Rattle.delivery_turn.specs.Posting.{HasLetter, IsJudged, MayLack, finish_of, Draws, replied, missed, lacked}
 use Rattle.delivery_turn.specs.Delivery.{Setting, guarded, Unheard, Tried, Untold, Takes}
 
 -- what a turn stands on
@@ -70,15 +70,15 @@ PostsBy setting row outcome.NoMemory events = (events ≡ []) ⊎ Tried setting 
 
 -- ---- choosing
 
--- a reply gives a verdict, by which the row is settled; or there is no memory
+-- a reply gives a verdict, by which the row is settled; or some memory was wanted, and there is none
 pub data Judges (subs : List Sub) (row : Row) (response : Response) (settling : Settling) (events : List (Event Own)) : Type 0 where
   judged : (v : Verdict) (drawn : ℕ) (dead : List Aim) → IsJudged response v → settling ≡ Concluded (finish_of v) drawn dead → Draws subs row (finish_of v) drawn dead events → Judges subs row response settling events
-  lacks : settling ≡ LetGo early.Held → events ≡ [] → Judges subs row response settling events
+  lacks : MayLack subs row (replied response) → settling ≡ LetGo early.Held → events ≡ [] → Judges subs row response settling events
 
--- without a reply it is delivered again
+-- without a reply it is delivered again; there may be no memory for the dead letter
 pub data Retries (subs : List Sub) (row : Row) (settling : Settling) (events : List (Event Own)) : Type 0 where
   again : (drawn : ℕ) (dead : List Aim) → settling ≡ Concluded finish.Retry drawn dead → Draws subs row finish.Retry drawn dead events → Retries subs row settling events
-  lacks : settling ≡ LetGo early.Held → events ≡ [] → Retries subs row settling events
+  lacks : HasLetter subs row → settling ≡ LetGo early.Held → events ≡ [] → Retries subs row settling events
 
 -- how a row is settled by what its post came to
 abbrev pub Settled : List Sub → Row → Outcome Response Miss → Settling → List (Event Own) → Type 0
