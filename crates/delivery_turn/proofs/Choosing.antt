@@ -31,7 +31,7 @@ use Rattle.delivery_turn.specs.declared.settling.Early.TheVariants as early
 use Rattle.delivery_turn.specs.declared.settling.Settling.{Settling}
 use Rattle.delivery_turn.specs.declared.settling.Settling.TheVariants.{Concluded, LetGo}
 use Rattle.delivery_turn.specs.Settling.{Own}
-use Rattle.delivery_turn.specs.Posting.{AimsAt, no_text, matches, DeadAims, nowhere, unreadable, matched, again, otherwise, IsJudged, by_number, read, unread, IsSubOf, HasLetter, for_body, for_letter, finish_of, replied}
+use Rattle.delivery_turn.specs.Posting.{AimsAt, no_text, matches, DeadAims, nowhere, unreadable, matched, again, otherwise, IsJudged, by_number, read, unread, IsSubOf, HasLetter, for_body, for_letter, finish_of}
 use Rattle.delivery_turn.specs.Turning.{Judges, Retries}
 use Rattle.delivery_turn.specs.Turning as turning
 use Rattle.delivery_turn.proofs.Shown.{RootLaw, is_event, is_read}

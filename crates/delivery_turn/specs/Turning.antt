@@ -15,7 +15,10 @@ use Rattle.policy_run.specs.declared.outcome.Outcome.{Outcome}
 use Rattle.policy_run.specs.declared.outcome.Outcome.TheVariants as outcome
 use Rattle.policy_run.specs.declared.outcome.Refusal.TheVariants as refusal
 use Rattle.policy_run.specs.Event.{Event}
+use Rattle.breaker_core.specs.Course.{Step as BreakerStep}
+use Rattle.policy_run.specs.Effects.{Made, Times}
 use Rattle.policy_run.specs.Turn.{Asks, reply_of}
+use Rattle.link_call.specs.LinkAt.{Links}
 use Rattle.link_call.specs.declared.miss.Miss.{Miss}
 use Rattle.link_call.specs.declared.miss.Miss.TheVariants as miss
 use Rattle.delivery_turn.specs.declared.deliveries.Deliveries.{Deliveries}
@@ -29,11 +32,16 @@ use Rattle.delivery_turn.specs.declared.ending.Turn.{Turn}
 use Rattle.delivery_turn.specs.declared.ending.Turn.TheVariants as turn
 use Rattle.delivery_turn.specs.Settling.{Own, Answered, Stuck, Row, settle, Settles, LetsGo, postponed, at_once}
 use Rattle.delivery_turn.specs.Posting.{HasLetter, IsJudged, MayLack, finish_of, Draws, replied, missed, lacked}
-use Rattle.delivery_turn.specs.Delivery.{Setting, guarded, Unheard, Tried, Untold, Takes}
+use Rattle.delivery_turn.specs.Delivery.{Setting, guarded, Unheard, Tried, Untold, Takes, Delivery}
+use Rattle.delivery_turn.specs.Stepping.{AsksApp}
 
 -- what a turn stands on
 abbrev pub setting_of : Deliveries → Setting
 setting_of d = record { port = d.port; subs = d.subs.now; bound = d.bound.now }
+
+-- there are events that are a turn which came to this, and which had these effects
+abbrev pub DeliversBy : Setting → Turn → (List Own → Type 0) → (List BreakerStep → Type 0) → Times → (List ℕ → Type 0) → Type 0
+DeliversBy setting came did held clock drawn = Made (λ events. Delivery setting events came) did held clock drawn
 
 -- ---- taking
 
@@ -67,6 +75,10 @@ PostsBy setting row (outcome.Bad miss.Expired) events = Tried setting row missed
 PostsBy setting row (outcome.Refused why) events = (guarded setting ≡ true) × Asks (reply_of why) events
 PostsBy setting row (outcome.Exhausted count) events = Unheard setting events ⊎ Untold setting row events
 PostsBy setting row outcome.NoMemory events = (events ≡ []) ⊎ Tried setting row lacked events
+
+-- there are events by which a post came to this, and which had these effects; of its own it asked the link alone
+abbrev pub PostedBy : Setting → Row → Outcome Response Miss → Links → (List BreakerStep → Type 0) → Times → (List ℕ → Type 0) → Type 0
+PostedBy setting row came link held clock drawn = Made (λ events. PostsBy setting row came events) (AsksApp link.before link.after) held clock drawn
 
 -- ---- choosing
 
