@@ -61,10 +61,10 @@ module _ {O : Type 0} (kinds : Kinds O) (cells : CellsAt O) (seats : SeatsAt O) 
         → Did kinds cells (with_link seats clock link words) (map (laid ask j) events) (with_link (record seats { breakers = gates }) clock' link' words')
     asked_with gates grew = did_laid ask asks_alone j events kinds cells (with_link seats clock link words) (with_link (record seats { breakers = gates }) clock' link' words') (λ xs. Asks link xs link') held e
         (by_kind _
-          (still stores _ (λ k. stored_by ask asks_alone j events k ∙ none_of_each _ (λ s. refl) (flat_map own_of events)))
-          (still ledgers _ (λ k. entered_by ask asks_alone j events k ∙ none_of_each _ (λ s. refl) (flat_map own_of events)))
-          grew
-          (still book _ (λ k. noted_by ask asks_alone j events k ∙ none_of_each _ (λ s. refl) (flat_map own_of events))))
+        (still stores _ (λ k. stored_by ask asks_alone j events k ∙ none_of_each _ (λ s. refl) (flat_map own_of events)))
+        (still ledgers _ (λ k. entered_by ask asks_alone j events k ∙ none_of_each _ (λ s. refl) (flat_map own_of events)))
+        grew
+        (still book _ (λ k. noted_by ask asks_alone j events k ∙ none_of_each _ (λ s. refl) (flat_map own_of events))))
         (subst (λ l. Asks link l link') (sym (asked_by ask asks_alone j events ∙ each_call (flat_map own_of events))) e.owned)
 
   -- without a breaker
@@ -90,10 +90,10 @@ module _ {O : Type 0} (kinds : Kinds O) (cells : CellsAt O) (seats : SeatsAt O) 
   entered_at link place cell seat seat' at here events e =
       did_laid (enter place) (enters_alone place) 0 events kinds cells (with_link seats clock link words) (with_link (record seats { ledgers = set seats.ledgers place seat' }) clock' link words') (λ xs. Grew (kinds ledgers) cell.first seat xs seat') (λ xs. xs ≡ []) e
       (by_kind _
-        (still stores _ (λ k. stored_by (enter place) (enters_alone place) 0 events k ∙ none_of_each _ (λ s. refl) (flat_map own_of events)))
-        (each_one (kinds ledgers) cells.ledgers seats.ledgers (λ k. flat_map (steps_at ledgers k) (entered place events)) place cell seat seat' at here
-        (subst (λ l. Grew (kinds ledgers) cell.first seat l seat') (sym (entered_by (enter place) (enters_alone place) 0 events place ∙ all_here place (flat_map own_of events))) e.owned)
-        (λ k far. entered_by (enter place) (enters_alone place) 0 events k ∙ none_elsewhere place k far (flat_map own_of events)))
-        (still breakers _ (λ k. broke_nowhere (enter place) (enters_alone place) 0 events k e.guards))
-        (still book _ (λ k. noted_by (enter place) (enters_alone place) 0 events k ∙ none_of_each _ (λ s. refl) (flat_map own_of events))))
+      (still stores _ (λ k. stored_by (enter place) (enters_alone place) 0 events k ∙ none_of_each _ (λ s. refl) (flat_map own_of events)))
+      (each_one (kinds ledgers) cells.ledgers seats.ledgers (λ k. flat_map (steps_at ledgers k) (entered place events)) place cell seat seat' at here
+      (subst (λ l. Grew (kinds ledgers) cell.first seat l seat') (sym (entered_by (enter place) (enters_alone place) 0 events place ∙ all_here place (flat_map own_of events))) e.owned)
+      (λ k far. entered_by (enter place) (enters_alone place) 0 events k ∙ none_elsewhere place k far (flat_map own_of events)))
+      (still breakers _ (λ k. broke_nowhere (enter place) (enters_alone place) 0 events k e.guards))
+      (still book _ (λ k. noted_by (enter place) (enters_alone place) 0 events k ∙ none_of_each _ (λ s. refl) (flat_map own_of events))))
       (subst (λ l. Asks link l link) (sym (asked_by (enter place) (enters_alone place) 0 events ∙ none_of_each _ (λ s. refl) (flat_map own_of events))) (asks_none link))

@@ -106,6 +106,11 @@ module _ (config : Config) (name : List ℕ) (place : ℕ) (kind : ComponentKind
     pub named_kind : component.kind ≡ kind
     named_kind = subst (λ (c : Loaded). c.kind ≡ kind) same_one found.2
 
+-- where a name was looked for by its bytes
+pub first_named : (config : Config) (name bytes : List ℕ) (looked : Option ℕ) (at : ℕ) → bytes ≡ name → looked ≡ position (λ (c : Loaded). bytes_eq c.name bytes) config.components → looked ≡ Some at
+    → position (λ (c : Loaded). bytes_eq c.name name) config.components ≡ Some at
+first_named config name bytes looked at same was is = subst (λ (n : List ℕ). position (λ (c : Loaded). bytes_eq c.name n) config.components ≡ Some at) same (sym was ∙ is)
+
 -- the one at the place of the first of this name
 module _ (config : Config) (name : List ℕ) (at : ℕ) (component : Loaded) (first : position (λ (c : Loaded). bytes_eq c.name name) config.components ≡ Some at) (is : component ≡ slice_index_or config.components at component) where
   first_there : get_elem? config.components at ≡ some component

@@ -9,7 +9,7 @@ ghost use Rattle.policy_run.specs.Effects.{Draws, times};
 ghost use Rattle.link_call.specs.Came.{Calls};
 ghost use Rattle.link_call.specs.LinkAt.{links};
 ghost use Rattle.invoke_api.specs.Invoking.{InvokesBy};
-ghost use Rattle.invoke_api.specs.Places.{apps_of};
+ghost use Rattle.invoke_api.specs.Places.{call_of};
 ghost use Rattle.state_api.specs.Ran.{Grows};
 ghost use Rattle.sidecar_objects.specs.Passes.{IsPassOf};
 ghost use Rattle.sidecar_objects.specs.Pass.{DoesBy, cells_of, seats_of};
@@ -104,7 +104,7 @@ fn gated<L: Link, C: Clock, R: Rng, W: Wait>(
     requires limits { IsWithinLimit bound.now }
     requires breaker { (k : ℕ) × (bound.now.breaker ≡ Some k) }
     requires key { IsSeatOf gate.now key.old }
-    ensures invokes { Calls (InvokesBy bound.now (apps_of peers.entry) request.now app.now rest.now result) (links L.Link link.old link.new) (Grows ⟦<Breaker as Object>⟧ gate.now key.old key.new) (times C.Clock clock.old clock.new) (Draws R.stream rng.old rng.new) }
+    ensures invokes { Calls (InvokesBy bound.now (call_of peers.entry request.now app.now rest.now) result) (links L.Link link.old link.new) (Grows ⟦<Breaker as Object>⟧ gate.now key.old key.new) (times C.Clock clock.old clock.new) (Draws R.stream rng.old rng.new) }
     ensures shows { (count : ℕ) → result ≡ Err (error.Exhausted count) → key.new.count ≡ Some count }
     ensures status { IfOk result (λ response. (200 ≤ response.status) × (response.status ≤ 599)) }
 {

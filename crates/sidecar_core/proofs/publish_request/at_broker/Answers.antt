@@ -20,7 +20,7 @@ at_ledger-requires-clause-ledger g c = let found = c.broker_named.ensures.found 
 pub returns-in-Some-clause-does : goal.returns-in-Some-clause-does
 returns-in-Some-clause-does g c = λ link. let found = c.broker_named.ensures.found c.in-Some.place c.in-Some.is in
     does_as _ _ _ _ _ _ (λ events at. broker c.in-Some.place c.at.result.now (named_here _ _ c.in-Some.place _ found c.at.result.now c.at.ensures) (named_kind _ _ c.in-Some.place _ found c.at.result.now c.at.ensures)
-      (subst (λ n. AtLedger c.args.shared.now.config c.args.request.now c.at.result.now c.args.topic.now n events c.at_ledger.result) c.ledger_of.ensures at)) (c.at_ledger.ensures.does link)
+    (subst (λ n. AtLedger c.args.shared.now.config c.args.request.now c.at.result.now c.args.topic.now n events c.at_ledger.result) c.ledger_of.ensures at)) (c.at_ledger.ensures.does link)
 
 pub returns-in-Some-clause-shows : goal.returns-in-Some-clause-shows
 returns-in-Some-clause-shows g c = λ count is. let found = c.broker_named.ensures.found c.in-Some.place c.in-Some.is in record {
