@@ -1,0 +1,6 @@
+mod Placed
+mod Gathered
+mod CountedOnce
+mod InOrder
+mod Turned
+mod Paused
