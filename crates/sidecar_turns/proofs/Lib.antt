@@ -4,3 +4,5 @@ mod CountedOnce
 mod InOrder
 mod Turned
 mod Paused
+mod Once
+mod Samples

@@ -1,5 +1,6 @@
 -- What deliveries need of a configuration.
-use Rattle.std.specs.Prelude.{◌≡◌, ◌<◌, ℕ, Bool, true, false, List, map, filter, is_some, length, Option}
+use Rattle.std.specs.Prelude.{◌≡◌, ◌<◌, ℕ, Bool, true, false, List, [], ◌∷◌, map, filter, is_some, length, Option, refl}
+use Rattle.std.proofs.Common.{◌∙◌, ap}
 use Rattle.std.specs.List.{All}
 use Rattle.std.specs.Option.{ForSome}
 use Rattle.retry_core.specs.declared.policy.Bound.{Bound}
@@ -54,3 +55,11 @@ pub record AreOf {O : Type 0} (cells : CellsAt O) (sites : Sites) (subs : List S
   pub ledgers : length cells.ledgers ≡ length sites.inbound
   pub planned : All (λ (cell : Begun Ledger). IsPlannedFor subs cell.first) cells.ledgers
   pub breakers : HaveBreakers (length cells.breakers) sites.inbound
+
+-- ledgers with a plan of each subscription are planned for the subscriptions, where the plan ends in a dead letter exactly where the subscription has a topic for them
+pub planned_as : (subs : List Sub) (plan_of : Sub → Plan) → ((sub : Sub) → (plan_of sub).dead ≡ is_some sub.dead) → (cells : List (Begun Ledger)) → All (λ cell. plans_of cell.first ≡ map plan_of subs) cells → All (λ (cell : Begun Ledger). IsPlannedFor subs cell.first) cells
+planned_as subs plan_of dead cells all = λ k other low. ap (map (λ (plan : Plan). plan.dead)) (all k other low) ∙ of_each subs
+  where
+    of_each : (subs : List Sub) → map (λ (plan : Plan). plan.dead) (map plan_of subs) ≡ map (λ (sub : Sub). is_some sub.dead) subs
+    of_each [] = refl
+    of_each (sub ∷ subs) = (λ i. dead sub i ∷ of_each subs i)

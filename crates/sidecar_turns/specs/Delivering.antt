@@ -1,5 +1,5 @@
 -- Turns of delivery over all ledgers, as what is done over all objects.
-use Rattle.std.specs.Prelude.{◌≡◌, ◌⊎◌, ℕ, suc, min, List, [], ◌∷◌, ◌++◌, map, unwrap_or, Option, Some, None}
+use Rattle.std.specs.Prelude.{◌≡◌, ◌⊎◌, ◌+◌, ℕ, suc, min, List, [], ◌∷◌, ◌++◌, map, unwrap_or, Option, Some, None}
 use mathlib.Core.Option.{some}
 use lib.ListN.{get_elem?}
 use Rattle.retry_core.specs.declared.policy.Bound.{Bound}
@@ -85,3 +85,15 @@ pub record ShowsOne {O : Type 0} (inbound : List Bound) (seats : SeatsAt O) (cou
   pub bound : Bound
   pub there : get_elem? inbound place ≡ some bound
   pub shown : ShowsTurn place bound seats count
+
+-- ---- ledgers behind one that is idle
+
+-- a turn on the second ledger, where the first is idle
+abbrev pub GoesPast : Setting → Setting → List Setting → Type 0
+GoesPast one two settings = (idle did : List (Event Own)) (next : Option ℕ) (turn : Turn) → Delivery one idle (Idle next) → Delivery two did turn → ¬ IsIdle turn
+    → DeliversFrom 0 (one ∷ two ∷ settings) (turn_events 0 one.bound idle ++ turn_events 1 two.bound did) turn
+
+-- both are idle, and the second will have something to do first
+abbrev pub TellsEarlier : Setting → Setting → Type 0
+TellsEarlier one two = (first second : List (Event Own)) (now : ℕ) → Delivery one first (Idle (Some (now + 1))) → Delivery two second (Idle (Some now))
+    → DeliversFrom 0 (one ∷ two ∷ []) (turn_events 0 one.bound first ++ turn_events 1 two.bound second) (Idle (Some now))

@@ -4,3 +4,4 @@ pub mod Delivering
 pub mod Idling
 pub mod Draining
 pub mod Counting
+pub mod Accounts
