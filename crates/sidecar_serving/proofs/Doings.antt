@@ -16,11 +16,13 @@ use Rattle.conn_serve.specs.Exchanged.{request_in}
 use Rattle.conn_serve.specs.Session.{Session, trace_of}
 use Rattle.conn_serve.specs.Served.{Served}
 use Rattle.sidecar_core.specs.declared.config.Config.{Config}
-use Rattle.sidecar_core.specs.declared.delivering.Turn.{Turn}
+use Rattle.delivery_turn.specs.declared.ending.Turn.{Turn}
+use Rattle.delivery_turn.specs.declared.ending.Turn.TheVariants as turns
 use Rattle.sidecar_objects.specs.declared.doing.Doing.{Doing}
 use Rattle.sidecar_objects.specs.Composed.{did_on}
-use Rattle.sidecar_core.specs.Delivery.{Delivers}
+use Rattle.sidecar_core.specs.Delivery.{IdlesIn}
 use Rattle.sidecar_objects.specs.Kind.{CellsAt, Kinds}
+use Rattle.sidecar_objects.specs.Shown.{Shows}
 use Rattle.sidecar_objects.specs.Did.{Did, Does, Standing}
 use Rattle.sidecar_core.specs.Exchange.{Exchange}
 use Rattle.sidecar_core.specs.Shown.{ShownFor, some_seat}
@@ -125,20 +127,24 @@ module _ {O S N : Type 0} (config : Config) (kinds : Kinds O) (cells : CellsAt O
         exit_is = refl;
       }
 
+  -- a turn that ends its worker found a cell exhausted
+  spent_turn : (turn : Turn) (count : ℕ) → exit_of_turned (turned_of turn) ≡ Some (exits.Spent count) → turn ≡ turns.Exhausted count
+  spent_turn (turns.Delivered message place settled) count is = absurd (cc)
+  spent_turn (turns.Idle next) count is = absurd (cc)
+  spent_turn turns.Held count is = absurd (cc)
+  spent_turn (turns.Exhausted other) count is = ap (λ (n : ℕ). turns.Exhausted n) (cc)
+
   -- the turn was taken
-  pub turned_on : (due due' : Due S N) (told : Option (List Answer)) (exit exit' : Option Exit) (turn : Turn) (after : Standing O) → due ≡ dues.Turn → due' ≡ dues.Nothing → exit' ≡ exit_of_turned (turned_of turn) → Does kinds cells at after (λ events. Delivers events turn)
+  pub turned_on : (due due' : Due S N) (told : Option (List Answer)) (exit exit' : Option Exit) (turn : Turn) (after : Standing O) → due ≡ dues.Turn → due' ≡ dues.Nothing → exit' ≡ exit_of_turned (turned_of turn) → Does kinds cells at after (λ events. IdlesIn config events turn) → ((count : ℕ) → turn ≡ turns.Exhausted count → Shows after.seats count)
       → HasDone config kinds cells start (owed_of due) (IsNewDue reads writes due) (record { at = at; told = told; exit = exit }) → HasDone config kinds cells start (owed_of due') (IsNewDue reads writes due') (record { at = after; told = told; exit = exit' })
-  turned_on due due' told exit exit' turn after was is ends-so does before =
+  turned_on due due' told exit exit' turn after was is ends-so does shown before =
       let done = subst (λ d. HasDone config kinds cells start (owed_of d) (IsNewDue reads writes d) (record { at = at; told = told; exit = exit })) was before in
       subst (λ d. HasDone config kinds cells start (owed_of d) (IsNewDue reads writes d) (record { at = after; told = told; exit = exit' })) (sym is)
       (subst (λ e. HasDone config kinds cells start owed.Nothing (Unit {0}) (record { at = after; told = told; exit = e })) (sym ends-so) record {
         events = done.events ++ does.events;
         went = did_on kinds cells start done.events at does.events after done.went does.went;
         worked = λ answers is'. let w = done.worked answers is' in subst (λ l. Worked config l (done.events ++ does.events) (exit_of_turned (turned_of turn))) (sym w.1)
-            (further w.0 done.events does.events idle (exit_of_turned (turned_of turn)) w.3 (record { turn = turn; delivers = does.held; exit_is = refl }));
+            (further w.0 done.events does.events idle (exit_of_turned (turned_of turn)) w.3 (record { turn = turn; idles = does.held; exit_is = refl }));
         new = tt;
-        shown = λ count shows. absurd (none_shown count (sym (ap (λ t. exit_of_turned (turned_of t)) does.held.idle) ∙ shows));
+        shown = λ count shows. shown count (spent_turn turn count shows);
       })
-    where
-      none_shown : (count : ℕ) → None ≡ Some (exits.Spent count) → ⊥
-      none_shown count e = absurd (cc)

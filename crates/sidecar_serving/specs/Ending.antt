@@ -2,8 +2,8 @@
 use Rattle.std.specs.Prelude.{ℕ, Bool, true, false, is_some, Option, Some, None}
 use Rattle.conn_serve.specs.declared.ended.Ended.{Ended}
 use Rattle.conn_serve.specs.declared.ended.Ended.TheVariants as ends
-use Rattle.sidecar_core.specs.declared.delivering.Turn.{Turn}
-use Rattle.sidecar_core.specs.declared.delivering.Turn.TheVariants as turns
+use Rattle.delivery_turn.specs.declared.ending.Turn.{Turn}
+use Rattle.delivery_turn.specs.declared.ending.Turn.TheVariants as turns
 use Rattle.sidecar_workers.specs.declared.exit.Exit.{Exit}
 use Rattle.sidecar_workers.specs.declared.exit.Exit.TheVariants as exits
 use Rattle.sidecar_workers.specs.declared.work.Served.{Served}
@@ -29,12 +29,19 @@ served_of ends.SourceFailed = served.Next
 served_of ends.SinkFailed = served.Next
 served_of ends.NoMemory = served.NoMemory
 
--- what its `turn` answers after a delivery that came to this
+-- what its `turn` answers after one that came to this
 abbrev pub turned_of : Turn → Turned
 turned_of (turns.Delivered message place settled) = turned.Went
 turned_of (turns.Idle next) = turned.Went
 turned_of turns.Held = turned.NoMemory
 turned_of (turns.Exhausted count) = turned.Spent count
+
+-- something was delivered
+abbrev pub was_delivered : Turn → Bool
+was_delivered (turns.Delivered message place settled) = true
+was_delivered (turns.Idle next) = false
+was_delivered turns.Held = false
+was_delivered (turns.Exhausted count) = false
 
 -- what was read in the cell that ended a worker, if one did
 abbrev pub spent_by : Option Exit → Option ℕ

@@ -8,9 +8,9 @@ use Rattle.conn_serve.specs.declared.ended.Ended.TheVariants as ends
 use Rattle.conn_serve.specs.Exchanged.{Exchanged, Unanswered}
 use Rattle.conn_serve.specs.Session.{Session, trace_of}
 use Rattle.sidecar_core.specs.declared.config.Config.{Config}
-use Rattle.sidecar_core.specs.declared.delivering.Turn.{Turn}
+use Rattle.delivery_turn.specs.declared.ending.Turn.{Turn}
 use Rattle.sidecar_objects.specs.declared.doing.Doing.{Doing}
-use Rattle.sidecar_core.specs.Delivery.{Delivers}
+use Rattle.sidecar_core.specs.Delivery.{IdlesIn}
 use Rattle.sidecar_objects.specs.Kind.{CellsAt, Kinds}
 use Rattle.sidecar_objects.specs.Shown.{Shows}
 use Rattle.sidecar_objects.specs.Did.{Did, Standing}
@@ -51,17 +51,17 @@ pub record Connected (config : Config) (back : Back) (events : List Doing) (exit
   pub cause : IsCause back ended
   pub exit_is : exit ≡ exit_of_served (served_of ended)
 
--- one turn of delivery
-pub record Turned (events : List Doing) (exit : Option Exit) : Type 0 where
+-- one turn of what a worker does when no connection came
+pub record Turned (config : Config) (events : List Doing) (exit : Option Exit) : Type 0 where
   pub turn : Turn
-  pub delivers : Delivers events turn
+  pub idles : IdlesIn config events turn
   pub exit_is : exit ≡ exit_of_turned (turned_of turn)
 
 -- what one answer of the acceptor adds to what the worker has done, and how the worker ends by it, if it does; a connection that hasn't come back has added nothing yet
 abbrev pub Adds : Config → Answer → List Doing → Option Exit → Type 0
 Adds config (conn (Some back)) events exit = Connected config back events exit
 Adds config (conn None) events exit = ⊥
-Adds config idle events exit = Turned events exit
+Adds config idle events exit = Turned config events exit
 Adds config closed events exit = (events ≡ []) × (exit ≡ None)
 Adds config failed events exit = (events ≡ []) × (exit ≡ None)
 

@@ -24,7 +24,7 @@ pub(crate) fn served_of(ended: Ended) -> Served
     }
 }
 
-/// What a worker's `turn` answers after a delivery that came to this.
+/// What a worker's `turn` answers after one that came to this.
 pub(crate) fn turned_of(turn: &Turn) -> Turned
     ensures { result ≡ turned_of turn.now }
 {

@@ -13,6 +13,7 @@ mod opening;
 mod running;
 mod server;
 mod serving;
+mod telling;
 mod working;
 
 pub use end::End;

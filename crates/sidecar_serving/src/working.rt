@@ -4,10 +4,11 @@ ghost use Rattle.state_core.specs.declared.store.Store.{Store as StoreRecord};
 use crate::due::{Due, set, take};
 use crate::ending::{served_of, turned_of};
 use crate::serving::Serving;
+use crate::telling::{next_due, was_delivered};
 use keeper_core::Keeper;
 use rand_core::Rng;
 use side_world::{Accepted, Acceptor, Clock, Link};
-use sidecar_core::{ObjectKinds, deliver, serve_connection};
+use sidecar_core::{ObjectKinds, idle_turn, serve_connection};
 use sidecar_workers::{Got, Served, Turned, Work, after_serve, after_turn};
 use state_core::Store;
 use std::sync::Wait;
@@ -70,6 +71,9 @@ impl<K: Keeper, A: Acceptor, L: Link, C: Clock, R: Rng> Work for Serving<'_, K, 
                     self.acceptor.leave();
                     return served;
                 }
+                if self.shared.config.app_port.is_some() {
+                    self.acceptor.wake();
+                }
                 served
             }
             Due::Nothing | Due::Turn => unreachable!(),
@@ -79,7 +83,7 @@ impl<K: Keeper, A: Acceptor, L: Link, C: Clock, R: Rng> Work for Serving<'_, K, 
     fn turn<W: Wait>(&mut self, rt: &W) -> Turned {
         match take(&mut self.due) {
             Due::Turn => {
-                let turn = deliver(
+                let turn = idle_turn(
                     rt,
                     self.shared,
                     &mut self.pass,
@@ -93,6 +97,11 @@ impl<K: Keeper, A: Acceptor, L: Link, C: Clock, R: Rng> Work for Serving<'_, K, 
                     self.acceptor.leave();
                     return turned;
                 }
+                if was_delivered(&turn) {
+                    self.acceptor.wake();
+                    return turned;
+                }
+                self.acceptor.due(next_due(&turn));
                 turned
             }
             Due::Nothing | Due::Serve { .. } => unreachable!(),

@@ -5,17 +5,23 @@ use Rattle.sidecar_serving.proofs.Doings.{turned_on}
 use Rattle.sidecar_serving.proofs.Passes.{own_pass, pass_owned}
 use Rattle.sidecar_serving.proofs.working.ServingWork.turn.Goals as goal
 
-pub deliver-turn-requires : goal.deliver-turn-requires
-deliver-turn-requires g c = record { pass = pass_owned _ _ c.args.self.now.of }
-
-pub returns-clause-kept : goal.returns-clause-kept
-returns-clause-kept g c = (refl, λ start done. turned_on _ _ _ _ _ start _ _ _ _ _ _ c.deliver-turn.result _ (sym c.take.ensures.taken ∙ c.in-Turn.is) c.take.ensures.left (c.after_turn-self.ensures ∙ ap exit_of_turned c.turned_of-turned.ensures) c.deliver-turn.ensures.does done)
+pub idle_turn-turn-requires : goal.idle_turn-turn-requires
+idle_turn-turn-requires g c = record { pass = pass_owned _ _ c.args.self.now.of }
 
 pub invariant_of-self : goal.invariant_of-self
-invariant_of-self g c = record { of = own_pass _ _ (pass_stays _ _ _ _ _ c.deliver-turn.ensures.does.went (pass_owned _ _ c.args.self.now.of)) }
+invariant_of-self g c = record { of = own_pass _ _ (pass_stays _ _ _ _ _ c.idle_turn-turn.ensures.does.went (pass_owned _ _ c.args.self.now.of)) }
 
-pub invariant_of-self-else-is_some : goal.invariant_of-self-else-is_some
-invariant_of-self-else-is_some g c = record { of = own_pass _ _ (pass_stays _ _ _ _ _ c.deliver-turn.ensures.does.went (pass_owned _ _ c.args.self.now.of)) }
+pub invariant_of-self-then-was_delivered : goal.invariant_of-self-then-was_delivered
+invariant_of-self-then-was_delivered g c = record { of = own_pass _ _ (pass_stays _ _ _ _ _ c.idle_turn-turn.ensures.does.went (pass_owned _ _ c.args.self.now.of)) }
+
+pub invariant_of-self-in-Turn : goal.invariant_of-self-else-was_delivered
+invariant_of-self-in-Turn g c = record { of = own_pass _ _ (pass_stays _ _ _ _ _ c.idle_turn-turn.ensures.does.went (pass_owned _ _ c.args.self.now.of)) }
+
+pub returns-then-was_delivered-clause-kept : goal.returns-then-was_delivered-clause-kept
+returns-then-was_delivered-clause-kept g c = (refl, λ start done. rw c.wake.ensures.told (turned_on _ _ _ _ _ start _ _ _ _ _ _ c.idle_turn-turn.result _ (sym c.take.ensures.taken ∙ c.in-Turn.is) c.take.ensures.left (c.after_turn-self.ensures ∙ ap exit_of_turned c.turned_of-turned.ensures) c.idle_turn-turn.ensures.does c.idle_turn-turn.ensures.shows done))
+
+pub returns-clause-kept : goal.returns-clause-kept
+returns-clause-kept g c = (refl, λ start done. rw c.due.ensures.told (turned_on _ _ _ _ _ start _ _ _ _ _ _ c.idle_turn-turn.result _ (sym c.take.ensures.taken ∙ c.in-Turn.is) c.take.ensures.left (c.after_turn-self.ensures ∙ ap exit_of_turned c.turned_of-turned.ensures) c.idle_turn-turn.ensures.does c.idle_turn-turn.ensures.shows done))
 
 pub returns-then-is_some-clause-kept : goal.returns-then-is_some-clause-kept
-returns-then-is_some-clause-kept g c = (refl, λ start done. rw c.leave.ensures.told (turned_on _ _ _ _ _ start _ _ _ _ _ _ c.deliver-turn.result _ (sym c.take.ensures.taken ∙ c.in-Turn.is) c.take.ensures.left (c.after_turn-self.ensures ∙ ap exit_of_turned c.turned_of-turned.ensures) c.deliver-turn.ensures.does done))
+returns-then-is_some-clause-kept g c = (refl, λ start done. rw c.leave.ensures.told (turned_on _ _ _ _ _ start _ _ _ _ _ _ c.idle_turn-turn.result _ (sym c.take.ensures.taken ∙ c.in-Turn.is) c.take.ensures.left (c.after_turn-self.ensures ∙ ap exit_of_turned c.turned_of-turned.ensures) c.idle_turn-turn.ensures.does c.idle_turn-turn.ensures.shows done))
