@@ -21,6 +21,7 @@ use Rattle.breaker_core.proofs.breaker.Breaker.TheSendSync as breaker
 use Rattle.meta_api.proofs.notes.Notes.TheSendSync as notes
 use Rattle.sidecar_core.proofs.config.Config.TheSendSync as config
 use Rattle.sidecar_core.proofs.site.StoreSite.TheSendSync as site
+use Rattle.sidecar_turns.proofs.brokers.Brokers.TheSendSync as brokers
 use Rattle.sidecar_objects.specs.contracts.objects.Objects as Objects
 use Rattle.sidecar_objects.specs.contracts.objects.Pass as Pass
 use Rattle.sidecar_core.specs.contracts.shared.Shared as Shared
@@ -59,8 +60,11 @@ module _ (T : RattleType) (g : Ghosts T.Denot) where
           (
             search (site.the_sync, crosses, sendable) depth 60 fits 20000,
             (
-              search (note.the_sync, sequence.the_sync, crosses, sendable) depth 60 fits 20000,
-              (search (sub_note.the_sync, sequence.the_sync, crosses, sendable) depth 60 fits 20000, tt),
+              search (brokers.the_sync, crosses, sendable) depth 60 fits 20000,
+              (
+                search (note.the_sync, sequence.the_sync, crosses, sendable) depth 60 fits 20000,
+                (search (sub_note.the_sync, sequence.the_sync, crosses, sendable) depth 60 fits 20000, tt),
+              ),
             ),
           ),
         ),

@@ -14,7 +14,7 @@ invariant_of-self g c = record { of = own_pass _ _ (pass_stays _ _ _ _ _ c.idle_
 pub invariant_of-self-then-was_delivered : goal.invariant_of-self-then-was_delivered
 invariant_of-self-then-was_delivered g c = record { of = own_pass _ _ (pass_stays _ _ _ _ _ c.idle_turn-turn.ensures.does.went (pass_owned _ _ c.args.self.now.of)) }
 
-pub invariant_of-self-in-Turn : goal.invariant_of-self-else-was_delivered
+pub invariant_of-self-in-Turn : goal.invariant_of-self-in-Turn
 invariant_of-self-in-Turn g c = record { of = own_pass _ _ (pass_stays _ _ _ _ _ c.idle_turn-turn.ensures.does.went (pass_owned _ _ c.args.self.now.of)) }
 
 pub returns-then-was_delivered-clause-kept : goal.returns-then-was_delivered-clause-kept
