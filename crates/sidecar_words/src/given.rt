@@ -1,6 +1,7 @@
 ghost use Rattle.std.specs.Prelude.{◌≡◌};
 ghost use Rattle.sidecar_words.specs.declared.given.WordsErr.TheVariants as errors;
 
+use app_peers::PeerList;
 use side_base::Text;
 use std::alloc::AllocError;
 
@@ -11,6 +12,13 @@ pub enum Mode {
     Stdio,
     /// Read the resources and say how many there are.
     Check,
+    /// Answer as many generated requests, which begin from a number, and say how many responses had which status.
+    Drill {
+        /// The number from which the requests are generated.
+        start: u64,
+        /// How many there are, at most 99,999.
+        requests: u32,
+    },
     /// Serve on a port.
     Serve,
 }
@@ -26,6 +34,8 @@ pub struct Words {
     pub port: u16,
     /// How many workers serve, 1 to 64.
     pub workers: u32,
+    /// The other apps that may be called by their ids, at most 256, none of them of the name of this app.
+    pub peers: PeerList,
     /// What to do.
     pub mode: Mode,
 }
