@@ -41,7 +41,12 @@ fn ledger_of(alloc: Global, plans: Plans) -> Ledger
 }
 
 // Plays the sections that name a broker.
-fn play_broker<G: Guard, W: Wait>(rt: &W, broker: &Broker<'_>, guard: &mut G, scene: &mut Scene)
+fn play_broker<G: Guard, W: Wait>(
+    rt: &W,
+    broker: &Broker<'_, '_, '_>,
+    guard: &mut G,
+    scene: &mut Scene,
+)
     requires limits { IsWithinLimit broker.now.common.now.bound }
     requires breaker { G.there guard.old ≡ is_some broker.now.common.now.bound.breaker }
     requires guard { G.ready guard.old }

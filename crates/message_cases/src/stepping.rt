@@ -24,10 +24,10 @@ const APP_PORT: u16 = 3000;
 
 /// A broker, and what a case says.
 #[derive(Clone, Copy)]
-pub(crate) struct Broker<'a> {
+pub(crate) struct Broker<'a, 'b, 'c> {
     pub(crate) common: &'a Common,
     pub(crate) component: &'a Component,
-    pub(crate) sections: &'a [Section<'a>],
+    pub(crate) sections: &'b [Section<'c>],
 }
 
 /// What a case works with, and what it told so far.
@@ -56,7 +56,7 @@ fn request_of(
 // Publishes to a topic.
 fn publish_to<W: Wait>(
     rt: &W,
-    broker: &Broker<'_>,
+    broker: &Broker<'_, '_, '_>,
     topic: &str,
     request: &Request,
     cell: &TurnCell<Ledger>,
@@ -64,7 +64,7 @@ fn publish_to<W: Wait>(
     world: &mut World,
 ) -> Result<Response, ApiErr>
     requires seat { IsSeatOf cell.now seat.old }
-    requires plans { length (plans_of cell.now.first) ≡ length broker.now.common.now.subs.now }
+    requires plans { length (plans_of cell.now.first) ≡ length broker.now.common.now.subs }
     ensures { IsSeatOf cell.now seat.new }
 {
     let alloc = broker.common.alloc;
@@ -90,7 +90,7 @@ fn publish_to<W: Wait>(
 // Publishes what a section says: the topic, how often its text stands in the content, and how often it is published; the last answer is told.
 fn publish_section<W: Wait>(
     rt: &W,
-    broker: &Broker<'_>,
+    broker: &Broker<'_, '_, '_>,
     section: &Section<'_>,
     words: &str,
     cell: &TurnCell<Ledger>,
@@ -98,7 +98,7 @@ fn publish_section<W: Wait>(
     scene: &mut Scene,
 )
     requires seat { IsSeatOf cell.now seat.old }
-    requires plans { length (plans_of cell.now.first) ≡ length broker.now.common.now.subs.now }
+    requires plans { length (plans_of cell.now.first) ≡ length broker.now.common.now.subs }
     ensures { IsSeatOf cell.now seat.new }
 {
     let (topic, words) = first_word(words);
@@ -114,14 +114,14 @@ fn publish_section<W: Wait>(
 // Makes one turn of delivery.
 fn deliver<G: Guard, W: Wait>(
     rt: &W,
-    broker: &Broker<'_>,
+    broker: &Broker<'_, '_, '_>,
     cell: &TurnCell<Ledger>,
     seat: &mut Seat<Ledger>,
     guard: &mut G,
     world: &mut World,
 ) -> Turn
     requires seat { IsSeatOf cell.now seat.old }
-    requires plans { length (plans_of cell.now.first) ≡ length broker.now.common.now.subs.now }
+    requires plans { length (plans_of cell.now.first) ≡ length broker.now.common.now.subs }
     requires limits { IsWithinLimit broker.now.common.now.bound }
     requires breaker { G.there guard.old ≡ is_some broker.now.common.now.bound.breaker }
     requires guard { G.ready guard.old }
@@ -150,7 +150,7 @@ fn deliver<G: Guard, W: Wait>(
 // Makes so many turns, and tells what each came to.
 fn deliver_often<G: Guard, W: Wait>(
     rt: &W,
-    broker: &Broker<'_>,
+    broker: &Broker<'_, '_, '_>,
     times: u64,
     cell: &TurnCell<Ledger>,
     seat: &mut Seat<Ledger>,
@@ -158,7 +158,7 @@ fn deliver_often<G: Guard, W: Wait>(
     scene: &mut Scene,
 )
     requires seat { IsSeatOf cell.now seat.old }
-    requires plans { length (plans_of cell.now.first) ≡ length broker.now.common.now.subs.now }
+    requires plans { length (plans_of cell.now.first) ≡ length broker.now.common.now.subs }
     requires limits { IsWithinLimit broker.now.common.now.bound }
     requires breaker { G.there guard.old ≡ is_some broker.now.common.now.bound.breaker }
     requires guard { G.ready guard.old }
@@ -186,7 +186,7 @@ fn count<W: Wait>(rt: &W, cell: &TurnCell<Ledger>, seat: &mut Seat<Ledger>, told
 // Does what a section says, behind the broker's name.
 fn step<G: Guard, W: Wait>(
     rt: &W,
-    broker: &Broker<'_>,
+    broker: &Broker<'_, '_, '_>,
     section: &Section<'_>,
     words: &str,
     cell: &TurnCell<Ledger>,
@@ -195,7 +195,7 @@ fn step<G: Guard, W: Wait>(
     scene: &mut Scene,
 )
     requires seat { IsSeatOf cell.now seat.old }
-    requires plans { length (plans_of cell.now.first) ≡ length broker.now.common.now.subs.now }
+    requires plans { length (plans_of cell.now.first) ≡ length broker.now.common.now.subs }
     requires limits { IsWithinLimit broker.now.common.now.bound }
     requires breaker { G.there guard.old ≡ is_some broker.now.common.now.bound.breaker }
     requires guard { G.ready guard.old }
@@ -215,14 +215,14 @@ fn step<G: Guard, W: Wait>(
 /// Does what the sections say that name a broker.
 pub(crate) fn steps<G: Guard, W: Wait>(
     rt: &W,
-    broker: &Broker<'_>,
+    broker: &Broker<'_, '_, '_>,
     cell: &TurnCell<Ledger>,
     seat: &mut Seat<Ledger>,
     guard: &mut G,
     scene: &mut Scene,
 )
     requires seat { IsSeatOf cell.now seat.old }
-    requires plans { length (plans_of cell.now.first) ≡ length broker.now.common.now.subs.now }
+    requires plans { length (plans_of cell.now.first) ≡ length broker.now.common.now.subs }
     requires limits { IsWithinLimit broker.now.common.now.bound }
     requires breaker { G.there guard.old ≡ is_some broker.now.common.now.bound.breaker }
     requires guard { G.ready guard.old }
