@@ -12,9 +12,10 @@ use delivery_turn::{Deliveries, Turn, turn};
 use ledger_core::{Ledger, LedgerCmd};
 use policy_run::Guard;
 use pubsub_api::{Publication, publish};
+use rand_core::Rng;
 use resource_spec::Component;
 use side_base::{Blob, Method, Request, Response};
-use side_world::Clock;
+use side_world::{Clock, Link};
 use std::alloc::Global;
 use std::sync::Wait;
 use turn_cell::{ApiErr, Seat, TurnCell};
@@ -54,14 +55,15 @@ fn request_of(
 }
 
 // Publishes to a topic.
-fn publish_to<W: Wait>(
+fn publish_to<C: Clock, R: Rng, W: Wait>(
     rt: &W,
     broker: &Broker<'_, '_, '_>,
     topic: &str,
     request: &Request,
     cell: &TurnCell<Ledger>,
     seat: &mut Seat<Ledger>,
-    world: &mut World,
+    clock: &mut C,
+    rng: &mut R,
 ) -> Result<Response, ApiErr>
     requires seat { IsSeatOf cell.now seat.old }
     requires plans { length (plans_of cell.now.first) ≡ length broker.now.common.now.subs }
@@ -76,15 +78,7 @@ fn publish_to<W: Wait>(
         app: &broker.common.app,
         subs: &broker.common.subs,
     };
-    publish(
-        rt,
-        alloc,
-        &what,
-        cell,
-        seat,
-        &mut world.clock,
-        &mut world.word,
-    )
+    publish(rt, alloc, &what, cell, seat, clock, rng)
 }
 
 // Publishes what a section says: the topic, how often its text stands in the content, and how often it is published; the last answer is told.
@@ -104,21 +98,33 @@ fn publish_section<W: Wait>(
     let (topic, words) = first_word(words);
     let (long, often) = first_word(words);
     let request = request_of(broker.common.alloc, broker.sections, section, long);
-    for _ in 1..number(often) {
-        let _ = publish_to(rt, broker, topic, &request, cell, seat, &mut scene.world);
+    let mut answer = Err(ApiErr::NoMemory);
+    for _ in 0..number(often).max(1) {
+        let world = &mut scene.world;
+        answer = publish_to(
+            rt,
+            broker,
+            topic,
+            &request,
+            cell,
+            seat,
+            &mut world.clock,
+            &mut world.word,
+        );
     }
-    let answer = publish_to(rt, broker, topic, &request, cell, seat, &mut scene.world);
     add_answer(&mut scene.told, &answer);
 }
 
 // Makes one turn of delivery.
-fn deliver<G: Guard, W: Wait>(
+fn deliver<L: Link, G: Guard, C: Clock, R: Rng, W: Wait>(
     rt: &W,
     broker: &Broker<'_, '_, '_>,
     cell: &TurnCell<Ledger>,
     seat: &mut Seat<Ledger>,
     guard: &mut G,
-    world: &mut World,
+    link: &mut L,
+    clock: &mut C,
+    rng: &mut R,
 ) -> Turn
     requires seat { IsSeatOf cell.now seat.old }
     requires plans { length (plans_of cell.now.first) ≡ length broker.now.common.now.subs }
@@ -135,16 +141,7 @@ fn deliver<G: Guard, W: Wait>(
         subs: &broker.common.subs,
         bound: &broker.common.bound,
     };
-    turn(
-        rt,
-        &what,
-        cell,
-        seat,
-        guard,
-        &mut world.link,
-        &mut world.clock,
-        &mut world.word,
-    )
+    turn(rt, &what, cell, seat, guard, link, clock, rng)
 }
 
 // Makes so many turns, and tells what each came to.
@@ -167,7 +164,17 @@ fn deliver_often<G: Guard, W: Wait>(
     ensures guard { G.ready guard.new }
 {
     for _ in 0..times.max(1) {
-        let came = deliver(rt, broker, cell, seat, guard, &mut scene.world);
+        let world = &mut scene.world;
+        let came = deliver(
+            rt,
+            broker,
+            cell,
+            seat,
+            guard,
+            &mut world.link,
+            &mut world.clock,
+            &mut world.word,
+        );
         add_turn(&mut scene.told, &came);
     }
 }
