@@ -1,0 +1,8 @@
+mod Placed
+mod Gathered
+mod CountedOnce
+mod InOrder
+mod Turned
+mod Paused
+mod Once
+mod Samples
