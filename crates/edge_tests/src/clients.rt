@@ -45,6 +45,16 @@ pub(crate) fn sends(client: &mut TcpStream, bytes: &[u8]) -> bool {
     client.write_all(bytes).is_ok()
 }
 
+/// Whether so many bytes were sent.
+pub(crate) fn sends_many(client: &mut TcpStream, count: usize) -> bool {
+    for _ in 0..count {
+        if !sends(client, b"x") {
+            return false;
+        }
+    }
+    true
+}
+
 /// How many bytes a client reads, in one piece.
 pub(crate) fn piece_of(client: &mut TcpStream) -> io::Result<usize> {
     let mut piece = [0u8; 100];

@@ -20,6 +20,7 @@ fn short() -> DoorLimits {
         pressed_ms: 20,
         held_ms: 200,
         left_to_worker: 0,
+        left_to_disks: 0,
     }
 }
 
@@ -118,16 +119,29 @@ standard 2 0+ 0>first. a=6 0<6 0x b=0 1+ 1>second. b=7 1<6
 short 2 0+ 0>half a=4 0<0 1+ 1>half b=4 1<0 2+ 2>whole. a=6 2<6
 # Other work is told, but not twice in a row.
 standard 2 0+ 0>first. a^ b~ a^ b=6 b~ 0<6
+# All workers but one do other work at a time, whatever waits.
+standard 2 a~ a^ a^ 0+ 0>first. b:6 0<6 a~
+standard 3 a~ b~ a^ a^ 0+ 0>first. c:6 0<6 b~
+# What a worker has looked for and not found is not told again.
+standard 1 a~ a^ a^ a~ a. 0+ 0>first. a:6 0<6 0>second. a:7 0<6
+# What is told since is.
+standard 1 a~ a^ a~ a^ a. 0+ 0>first. a:6 0<6 0>second. a~ a:7 0<6
+# What has fallen due is told once.
+standard 1 a~ a, 0+ 0>first. a:6 0<6 0>second. a~ a:7 0<6 0>third. a:6 0<6
+# Who is refused amid a request may go on sending, and reads the answer.
+standard 1 a~ 0+ 0*500 a% 0*500 a^ a~ a^ a~ 0*500 a^ a~ 0<6 0<0
+# Where a worker leaves, the others find an end, who rests is let go, and another door can be opened at the port.
+standard 2 0+ 0>first. a=6 0<6 a/ b# 0<0 ?
 # A shut door is told to all.
 standard 2 0+ 0>first. a=6 0<6 ! a# b# b# a#
 # What idles too long is closed.
-soon-idle 2 0+ 0>first. a=6 0<6 a~ a~ a~ a~ 0<0
+soon-idle 2 0+ 0>first. a=6 0<6 a~ a~ 0<0
 # There are more connections than places; the last client may be refused at first.
 small 1 +40 - 0+ 0>first. a@6 0<6
 # Half a request does not hold up other work that was heard of.
 patient 1 *1 a^ a~ a^ a:4 a~
 # Half a request does not hold up those who wait to connect: the first of sixty finds no place, and the others wait.
-small-and-patient 1 0+ a~ *60 0>half a:4
+small-and-patient 1 a~ 0+ a~ *60 0>half a:4
 # A client that sends no more is answered, and its connection closed.
 standard 2 0+ 0>first. 0| a=6 0<6 0<0 1+ 1>second. 1| b=7 1<6 1<0
 # What comes while a worker serves is not lost.

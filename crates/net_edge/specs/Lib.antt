@@ -1,2 +1,4 @@
 pub mod CallTimes
 pub mod Patience
+pub mod Room
+pub mod Turns

@@ -87,6 +87,13 @@ impl TcpSource {
         self.is_drained && !self.has_no_more
     }
 
+    /// Whether its peer may send more than was read: it hasn't ended, and nothing failed.
+    pub(crate) fn may_send(&self) -> bool
+        ensures { result ≡ true ↔ ((self.now.ended ≡ false) × (self.now.faults ≡ 0)) }
+    {
+        !self.ended && self.faults.is_none()
+    }
+
     /// The door and the connection, and whether its stretch ended between two requests and it didn't fail.
     pub(crate) fn into_parts(self) -> ((Arc<Door>, Arc<TcpStream>), bool)
         ensures { result.1 ≡ true ↔ ((self.rests ≡ true) × (self.faults ≡ 0)) }
