@@ -17,9 +17,15 @@ const PIECES: u32 = 1_000_000_000;
 /// What is answered to each request.
 const ANSWER: &[u8] = b"answer";
 
-/// Whether this piece ends a request: its last byte is a full stop.
+/// Requests of HTTP, one whose content has a length, and one whose content comes in chunks.
+const COUNTED: &[u8] = b"POST / HTTP/1.1\r\nContent-Length: 5\r\n\r\ndone.";
+
+const CHUNKED: &[u8] =
+    b"POST / HTTP/1.1\r\nTransfer-Encoding: chunked\r\n\r\n5\r\ndone.\r\n0\r\n\r\n";
+
+/// Whether this piece ends a request: its last byte is a full stop, or it ends with an empty line.
 fn is_whole(piece: &[u8]) -> bool {
-    piece.last() == Some(&b'.')
+    piece.last() == Some(&b'.') || piece.ends_with(b"\r\n\r\n")
 }
 
 /// Answers each request of a stretch until it ends. How many bytes came.
@@ -150,7 +156,8 @@ pub(crate) struct Scene<R> {
 /// Plays the steps of a text at a door within these limits, with so many workers: each step must come true.
 ///
 /// A step is who, what, and a word: `0+` connects client 0; `0>word` has it send the word, which ends a request where it
-/// ends in a full stop; `0*99` has it send so many bytes that end none; `0<6` has it read 6 bytes in one piece, and `0<0` find its connection
+/// ends in a full stop, and is none of HTTP where it begins with `@`; `0[20` has it send 20 bytes of a request of HTTP, and `0]20` those behind
+/// them, `0{20` and `0}20` of one in chunks; `0*99` has it send so many bytes that end none; `0<6` has it read 6 bytes in one piece, and `0<0` find its connection
 /// closed; `0x` has it close its own, and `0|` only say that it sends no more. `*60` connects 60 clients more, each of which sends half a
 /// request, and `+40` 40 that say nothing, after each of which worker `a` finds other work alone; `-` has all clients go. `a=9` has worker `a`
 /// serve the next connection, on which 9 bytes come; `a:9` has it do so at once, and `a@9` after others; `a%` has it refuse the next one
@@ -347,11 +354,25 @@ fn has_refused<R: Wait + AllocGlobal>(worker: &mut TcpAcceptor<R>) -> bool {
     false
 }
 
+/// The first bytes of a request of HTTP, or those behind them.
+fn part_of_request(what: u8, count: usize) -> &'static [u8] {
+    let request = match what {
+        b'[' | b']' => COUNTED,
+        _ => CHUNKED,
+    };
+    let (first, rest) = request.split_at_checked(count).unwrap_or((request, b""));
+    match what {
+        b'[' | b'{' => first,
+        _ => rest,
+    }
+}
+
 /// A step of a client that is connected.
 fn ask(client: &mut TcpStream, what: u8, word: &[u8]) -> io::Result<bool> {
     match what {
         b'>' => client.write_all(word)?,
         b'*' => return Ok(sends_many(client, number(word))),
+        b'[' | b'{' | b']' | b'}' => client.write_all(part_of_request(what, number(word)))?,
         b'<' => return Ok(piece_of(client)? == number(word)),
         b'x' => client.shutdown(Shutdown::Both)?,
         b'|' => client.shutdown(Shutdown::Write)?,

@@ -5,7 +5,7 @@ use crate::entrance::{Entrance, LISTENER};
 use crate::holders::{Holders, Resting};
 use crate::other_work::{OtherWork, REST_MS};
 use crate::pace::Pace;
-use crate::places::Places;
+use crate::places::{Ages, Places, Taken};
 use crate::ready_set::{Bell, ReadySet, When};
 use crate::waiting::{moment_ms, now_ms};
 use std::io;
@@ -49,11 +49,8 @@ pub(crate) struct Door {
 /// What one look at a door gave.
 #[derive(Drop)]
 pub(crate) enum Look {
-    /// A connection on which there is something to read, and whether its peer sends no more.
-    Conn {
-        stream: Arc<TcpStream>,
-        has_ended: bool,
-    },
+    /// A connection on which there is something to read, or a request of which all may be there, and whether its peer sends no more.
+    Conn { taken: Taken, has_ended: bool },
     /// Something else was done.
     Went,
     /// There was nothing for as long as was waited.
@@ -243,9 +240,9 @@ impl Door {
                 self.hear()?;
                 Ok(Look::Went)
             }
-            number => Ok(match self.places.take(rt, &self.set, number, now_ms()) {
-                Some(stream) => Look::Conn {
-                    stream,
+            _ => Ok(match self.places.take(rt, &self.set, report, now_ms()) {
+                Some(taken) => Look::Conn {
+                    taken,
                     has_ended: report.has_ended,
                 },
                 None => Look::Went,
@@ -255,13 +252,18 @@ impl Door {
 
     /// Lets a connection rest until something comes on it, or is there already where it isn't drained; one that can't is closed. Where all
     /// workers end, its peer is to read the last response before.
-    pub(crate) fn let_rest<R: Wait>(&self, rt: &R, stream: Arc<TcpStream>, is_drained: bool) {
+    pub(crate) fn let_rest<R: Wait>(&self, rt: &R, taken: Taken, is_drained: bool) {
         if self.is_ending() {
-            part_with(&stream);
+            part_with(&taken.stream);
         } else {
             self.places
-                .put_back(rt, &self.set, stream, is_drained, now_ms());
+                .put_back(rt, &self.set, taken, is_drained, now_ms());
         }
+    }
+
+    /// Whether the door takes back what has come of a request of which more has to come.
+    pub(crate) fn takes_back(&self) -> bool {
+        self.places.has_room() && !self.is_ending()
     }
 
     /// Ends a connection whose peer may send still, so that it reads the last response before: what it sends is read and dropped for a while.
@@ -286,8 +288,13 @@ impl Door {
         let most = self.limits.places_beside(workers);
         if !self.entrance.admit(rt, &self.set, &self.places, most)? {
             self.resting.surprise();
-            let before = now_ms().saturating_sub(self.limits.crowded_ms);
-            self.places.sweep(before);
+            let now = now_ms();
+            let before = now.saturating_sub(self.limits.crowded_ms);
+            let ages = Ages {
+                idle: before,
+                begun: before,
+            };
+            self.places.sweep(ages, now);
         }
         Ok(())
     }
@@ -301,9 +308,12 @@ impl Door {
         }
         let count = count.min(self.places.pieces());
         let first = self.sweeps.fetch_add(count, Ordering::SeqCst);
-        let before = now.saturating_sub(self.limits.idle_ms);
+        let ages = Ages {
+            idle: now.saturating_sub(self.limits.idle_ms),
+            begun: now.saturating_sub(self.limits.patience_ms),
+        };
         for i in 0..count {
-            self.places.sweep_piece(first.wrapping_add(i), before, now);
+            self.places.sweep_piece(first.wrapping_add(i), ages, now);
         }
     }
 

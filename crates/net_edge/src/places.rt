@@ -1,10 +1,13 @@
 ghost use Rattle.std.specs.Prelude.{◌≡◌, ◌<◌, ◌+◌, ◌*◌, IfSome};
 
+use crate::begun_request::{Begun, BegunRequest};
 use crate::parting::{Parted, read_on};
-use crate::ready_set::{ReadySet, When};
+use crate::ready_set::{ReadySet, Report, When};
 use std::alloc::{AllocError, Global};
+use std::mem;
 use std::net::TcpStream;
 use std::os::fd::{AsRawFd, RawFd};
+use std::sync::atomic::{AtomicU64, Ordering};
 use std::sync::{Arc, Mutex, Wait};
 
 /// How many turns' numbers there are, and one past the greatest place.
@@ -19,6 +22,9 @@ const PARTING_MS: u64 = 1_000;
 /// How many bytes of it are read and dropped at most.
 const PARTING_BYTES: u64 = 16_777_216;
 
+/// How many bytes of begun requests wait at all places together before others of them go to workers.
+const MOST_WAITING: u64 = 67_108_864;
+
 /// The place of a connection that no worker serves.
 #[derive(Drop)]
 struct Place {
@@ -31,13 +37,65 @@ struct Place {
     /// How many bytes of it are still read and dropped, where it has ended; 0 where it goes on.
     dropped: u64,
     stream: Option<Arc<TcpStream>>,
+    /// What its peer has sent of a request.
+    begun: BegunRequest,
+}
+
+/// A connection that a worker serves now, and what its peer has sent of a request.
+#[derive(Drop)]
+pub(crate) struct Taken {
+    pub(crate) stream: Arc<TcpStream>,
+    pub(crate) begun: BegunRequest,
+}
+
+/// What came before these moments is closed.
+#[derive(Clone, Copy)]
+pub(crate) struct Ages {
+    /// What idles between two requests.
+    pub(crate) idle: u64,
+    /// What waits for the rest of a request.
+    pub(crate) begun: u64,
 }
 
 impl Place {
-    /// Closes its connection where it came before this moment.
-    fn close_old(&mut self, before: u64) {
+    /// Closes its connection where it came before the moment for such a one. How many bytes of a request went with it.
+    fn close_old(&mut self, ages: Ages, now: u64) -> u64 {
+        let before = if self.dropped > 0 {
+            now.saturating_sub(PARTING_MS)
+        } else if self.begun.is_none() {
+            ages.idle
+        } else {
+            ages.begun
+        };
         if self.since < before {
-            self.stream = None;
+            return self.close();
+        }
+        0
+    }
+
+    /// Closes its connection. How many bytes of a request went with it.
+    fn close(&mut self) -> u64 {
+        self.stream = None;
+        self.begun.let_go()
+    }
+
+    /// Reads on what the peer of its connection sends, whose request has begun. Whether it waits for more still; its worker has to read on where it doesn't.
+    fn waits_on(&mut self, set: &ReadySet, number: u64) -> bool {
+        let begun = match &self.stream {
+            Some(stream) => self.begun.read_on(stream),
+            None => Begun::Lost,
+        };
+        match begun {
+            Begun::AtHand => false,
+            Begun::Quiet => true,
+            Begun::Lost => {
+                self.stream = None;
+                true
+            }
+            Begun::More => {
+                self.report_again(set, number);
+                true
+            }
         }
     }
 
@@ -80,6 +138,8 @@ impl Place {
 #[derive(Drop)]
 pub(crate) struct Places {
     places: Vec<Mutex<Place>>,
+    /// How many bytes of begun requests wait at them.
+    waiting: AtomicU64,
 }
 
 impl Places {
@@ -93,9 +153,13 @@ impl Places {
                 since: 0,
                 dropped: 0,
                 stream: None,
+                begun: BegunRequest::none(alloc),
             }))?;
         }
-        Ok(Places { places })
+        Ok(Places {
+            places,
+            waiting: AtomicU64::new(0),
+        })
     }
 
     /// Has a new connection awaited by the set, at its place. Where it has no place below `most`, or the set no room, it is let go: `false`.
@@ -118,6 +182,8 @@ impl Places {
         if set.add(fd, number_of(turn, at), When::More).is_err() {
             return false;
         }
+        self.waiting
+            .fetch_sub(place.begun.let_go(), Ordering::SeqCst);
         place.since = now;
         place.dropped = 0;
         place.stream = Some(stream);
@@ -130,10 +196,11 @@ impl Places {
         &self,
         rt: &R,
         set: &ReadySet,
-        stream: Arc<TcpStream>,
+        taken: Taken,
         is_drained: bool,
         now: u64,
     ) {
+        let Taken { stream, begun } = taken;
         let fd = stream.as_raw_fd();
         let Some(at) = place_of(fd, self.places.len()) else {
             return;
@@ -148,6 +215,8 @@ impl Places {
         place.since = now;
         place.dropped = 0;
         place.stream = Some(stream);
+        self.waiting.fetch_add(begun.len() as u64, Ordering::SeqCst);
+        place.begun = begun;
     }
 
     /// Puts a connection that has ended to its place, where what its peer sends is read and dropped. Where the set has no room for that, it is let go.
@@ -179,15 +248,17 @@ impl Places {
         false
     }
 
-    /// The connection that a report of the set speaks of, which is no longer at its place. A report of an earlier connection gives
-    /// none, nor does one of a connection that is served, which is noted, nor of one that has ended, whose peer is read on.
-    pub(crate) fn take<R: Wait>(
+    /// The connection that a report of the set speaks of, of this number, which is no longer at its place. A report of an earlier connection gives
+    /// none, nor does one of a connection that is served, which is noted, nor of one whose peer is read on: since it has ended, or since a request
+    /// has begun on it of which more has to come, also behind what is there now.
+    pub(crate) fn take<R: Wait + AllocGlobal>(
         &self,
         rt: &R,
         set: &ReadySet,
-        number: u64,
+        report: Report,
         now: u64,
-    ) -> Option<Arc<TcpStream>> {
+    ) -> Option<Taken> {
+        let number = report.number;
         let at = (number % TURNS) as usize;
         if at >= self.places.len() {
             return None;
@@ -202,23 +273,47 @@ impl Places {
             }
             return None;
         }
+        let before = place.begun.len() as u64;
+        let may_wait = before > 0 && !report.has_ended && self.has_room();
+        if may_wait && place.waits_on(set, number) {
+            let after = place.begun.len() as u64;
+            self.waiting
+                .fetch_add(after.saturating_sub(before), Ordering::SeqCst);
+            return None;
+        }
+        self.waiting.fetch_sub(before, Ordering::SeqCst);
         let stream = place.stream.take();
         place.was_missed = stream.is_none();
-        stream
+        Some(Taken {
+            stream: stream?,
+            begun: mem::replace(&mut place.begun, BegunRequest::none(rt.alloc())),
+        })
+    }
+
+    /// Whether more of begun requests may wait here.
+    pub(crate) fn has_room(&self) -> bool {
+        self.waiting.load(Ordering::SeqCst) < MOST_WAITING
     }
 
     /// Closes all that rest.
     pub(crate) fn let_all_go<R: Wait>(&self, rt: &R) {
         for place in self.places.iter() {
             let mut place = place.lock(rt);
-            place.stream = None;
+            self.waiting.fetch_sub(place.close(), Ordering::SeqCst);
         }
     }
 
-    /// Closes what came before this moment. A place at which another works is passed over.
-    pub(crate) fn sweep(&self, before: u64) {
+    /// Closes what came before these moments, and now what has ended and was read on for long. A place at which another works is passed over.
+    pub(crate) fn sweep(&self, ages: Ages, now: u64) {
         for place in self.places.iter() {
-            close_old(place, before);
+            self.close_old(place, ages, now);
+        }
+    }
+
+    fn close_old(&self, place: &Mutex<Place>, ages: Ages, now: u64) {
+        if let Some(mut place) = place.try_lock() {
+            self.waiting
+                .fetch_sub(place.close_old(ages, now), Ordering::SeqCst);
         }
     }
 
@@ -229,32 +324,13 @@ impl Places {
         (self.places.len() / SWEPT_AT_ONCE + 1) as u64
     }
 
-    /// The same for one piece of the places, and now also what has ended and was read on for long; each piece has its turn, by rising numbers.
-    pub(crate) fn sweep_piece(&self, number: u64, before: u64, now: u64) {
+    /// The same for one piece of the places; each has its turn, by rising numbers.
+    pub(crate) fn sweep_piece(&self, number: u64, ages: Ages, now: u64) {
         let piece = (number % self.pieces()) as usize;
         let first = piece.saturating_mul(SWEPT_AT_ONCE);
         for place in self.places.iter().skip(first).take(SWEPT_AT_ONCE) {
-            close_old_or_parted(place, before, now);
+            self.close_old(place, ages, now);
         }
-    }
-}
-
-/// Closes what came to a place before this moment.
-fn close_old(place: &Mutex<Place>, before: u64) {
-    if let Some(mut place) = place.try_lock() {
-        place.close_old(before);
-    }
-}
-
-/// The same, and now also what has ended and was read on for long.
-fn close_old_or_parted(place: &Mutex<Place>, before: u64, now: u64) {
-    if let Some(mut place) = place.try_lock() {
-        let parted_before = if place.dropped > 0 {
-            now.saturating_sub(PARTING_MS)
-        } else {
-            before
-        };
-        place.close_old(parted_before);
     }
 }
 

@@ -4,6 +4,7 @@ use crate::call_time::Caller;
 use crate::connection::part_with;
 use crate::door::{Door, Look};
 use crate::other_work::REST_MS;
+use crate::places::Taken;
 use crate::tcp_sink::TcpSink;
 use crate::tcp_source::TcpSource;
 use crate::waiting::now_ms;
@@ -51,7 +52,7 @@ struct Doors {
 #[derive(Drop)]
 enum Next {
     Conn {
-        stream: Arc<TcpStream>,
+        taken: Taken,
         other_stream: Arc<TcpStream>,
         doors: Doors,
         has_ended: bool,
@@ -107,9 +108,9 @@ impl<R: Wait + AllocGlobal> TcpAcceptor<R> {
                 return Ok(Next::Idle);
             }
             match self.look(rests, until)? {
-                Look::Conn { stream, has_ended } => {
+                Look::Conn { taken, has_ended } => {
                     self.door.call_another();
-                    return self.shared(stream, has_ended, spare);
+                    return self.shared(taken, has_ended, spare);
                 }
                 Look::Quiet => rests = true,
                 Look::Went => {}
@@ -134,15 +135,10 @@ impl<R: Wait + AllocGlobal> TcpAcceptor<R> {
     }
 
     /// A connection, for its source and its sink.
-    fn shared(
-        &self,
-        stream: Arc<TcpStream>,
-        has_ended: bool,
-        spare: &mut Option<Doors>,
-    ) -> io::Result<Next> {
+    fn shared(&self, taken: Taken, has_ended: bool, spare: &mut Option<Doors>) -> io::Result<Next> {
         Ok(Next::Conn {
-            other_stream: Arc::try_clone(&stream)?,
-            stream,
+            other_stream: Arc::try_clone(&taken.stream)?,
+            taken,
             doors: self.doors(spare)?,
             has_ended,
         })
@@ -178,13 +174,13 @@ impl<R: Wait + AllocGlobal> Acceptor for TcpAcceptor<R> {
         match self.faults.counted(next) {
             Ok(
                 Next::Conn {
-                    stream,
+                    taken,
                     other_stream,
                     doors,
                     has_ended,
                 },
             ) => Accepted::Conn {
-                source: TcpSource::new(doors.of_source, self.worker, stream, has_ended),
+                source: TcpSource::new(doors.of_source, self.worker, taken, has_ended),
                 sink: TcpSink::new(doors.of_sink, self.worker, other_stream),
             },
             Ok(Next::Idle) => {
@@ -202,10 +198,10 @@ impl<R: Wait + AllocGlobal> Acceptor for TcpAcceptor<R> {
         let is_awaited = source.is_awaited();
         let may_send = source.may_send();
         match after_stretch(source, sink, &mut self.spare) {
-            Ok(stream) => self.door.let_rest(&self.rt, stream, is_awaited),
-            Err(stream) if may_send => self.door.part(&self.rt, stream),
-            Err(stream) => {
-                part_with(&stream);
+            Ok(taken) => self.door.let_rest(&self.rt, taken, is_awaited),
+            Err(taken) if may_send => self.door.part(&self.rt, taken.stream),
+            Err(taken) => {
+                part_with(&taken.stream);
             }
         }
     }
@@ -229,15 +225,15 @@ fn after_stretch(
     source: TcpSource,
     sink: TcpSink,
     spare: &mut Option<Doors>,
-) -> Result<Arc<TcpStream>, Arc<TcpStream>>
+) -> Result<Taken, Taken>
     ensures { IsOk result ↔ ((source.rests ≡ true) × (source.faults ≡ 0) × (sink.faults ≡ 0)) }
 {
     let (of_sink, has_failed) = sink.close();
-    let ((of_source, stream), rests) = source.into_parts();
+    let ((of_source, taken), rests) = source.into_parts();
     *spare = Some(Doors { of_source, of_sink });
     if rests && !has_failed {
-        Ok(stream)
+        Ok(taken)
     } else {
-        Err(stream)
+        Err(taken)
     }
 }
