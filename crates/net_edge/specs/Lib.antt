@@ -1,3 +1,4 @@
+pub mod AtHand
 pub mod CallTimes
 pub mod Patience
 pub mod Room

@@ -1,5 +1,6 @@
 //! What a peer has sent of a request of which more has to come.
 ghost use Rattle.std.specs.Prelude.{◌≡◌, ◌≤◌, length};
+ghost use Rattle.net_edge.specs.AtHand.{IfWaits};
 
 use crate::connection::read_now;
 use crate::request_at_hand::{lacks_rest, whole_part};
@@ -94,38 +95,56 @@ impl BegunRequest {
     }
 
     /// Reads on what the peer sends.
-    pub(crate) fn read_on(&mut self, stream: &TcpStream) -> Begun {
+    pub(crate) fn read_on(&mut self, stream: &TcpStream) -> Begun
+        ensures { IfWaits result (length self.new.bytes.items ≤ 65536) }
+    {
         for _ in 0..PIECES_AT_ONCE {
             match self.read_piece(stream) {
                 Begun::More => {}
                 other => return other,
             }
         }
-        Begun::More
+        self.unless_long(Begun::More)
     }
 
-    fn read_piece(&mut self, stream: &TcpStream) -> Begun {
+    /// Reads on once.
+    fn read_piece(&mut self, stream: &TcpStream) -> Begun
+        ensures { IfWaits result (length self.new.bytes.items ≤ 65536) }
+    {
         let mut piece = [0u8; PIECE];
         match read_now(stream, &mut piece) {
             Ok(Some(n)) if n > 0 => self.add(&piece[..n]),
-            Ok(None) => Begun::Quiet,
+            Ok(None) => self.unless_long(Begun::Quiet),
             _ => Begun::AtHand,
         }
     }
 
     /// Adds a piece.
-    fn add(&mut self, piece: &[u8]) -> Begun {
+    fn add(&mut self, piece: &[u8]) -> Begun
+        ensures { IfWaits result (length self.new.bytes.items ≤ 65536) }
+    {
         let seen = self.bytes.len();
         if self.bytes.extend_from_slice(piece).is_err() {
             return Begun::Lost;
         }
-        if self.bytes.len() > MOST || !lacks_rest(&self.bytes, seen) {
+        if !lacks_rest(&self.bytes, seen) {
             return Begun::AtHand;
         }
         if piece.len() < PIECE {
-            Begun::Quiet
+            self.unless_long(Begun::Quiet)
         } else {
-            Begun::More
+            self.unless_long(Begun::More)
+        }
+    }
+
+    /// What becomes of it, but where it is too long to wait.
+    fn unless_long(&self, begun: Begun) -> Begun
+        ensures { IfWaits result (length self.now.bytes.items ≤ 65536) }
+    {
+        if self.bytes.len() > MOST {
+            Begun::AtHand
+        } else {
+            begun
         }
     }
 }

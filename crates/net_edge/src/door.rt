@@ -7,7 +7,7 @@ use crate::other_work::{OtherWork, REST_MS};
 use crate::pace::Pace;
 use crate::places::{Ages, Places, Taken};
 use crate::ready_set::{Bell, ReadySet, When};
-use crate::waiting::{moment_ms, now_ms};
+use crate::waiting::now_ms;
 use std::io;
 use std::net::{Net, TcpListener, TcpStream};
 use std::os::fd::AsRawFd;
@@ -164,7 +164,7 @@ impl Door {
     /// Has the worker with this bit do other work, where there is some that it may do, or where it may look for some. Whether it does.
     pub(crate) fn begin_work(&self, worker: u64, looks: bool) -> bool {
         let workers = self.workers.load(Ordering::SeqCst);
-        let begins = self.other_work.begin(worker, workers, moment_ms(), looks);
+        let begins = self.other_work.begin(worker, workers, looks);
         if begins {
             self.call_another();
         }
@@ -189,7 +189,7 @@ impl Door {
     /// Whether other work waits that one worker more may do.
     fn has_open_work(&self) -> bool {
         let workers = self.workers.load(Ordering::SeqCst);
-        self.other_work.is_open(workers, moment_ms())
+        self.other_work.is_open(workers)
     }
 
     /// Whether something is to be done at a moment.
@@ -220,7 +220,7 @@ impl Door {
         until
             .saturating_sub(now)
             .min(self.entrance.rest_ms(now))
-            .min(self.other_work.rest_ms(moment_ms()))
+            .min(self.other_work.rest_ms())
             .min(REST_MS) as i32
     }
 
@@ -240,7 +240,7 @@ impl Door {
                 self.hear()?;
                 Ok(Look::Went)
             }
-            _ => Ok(match self.places.take(rt, &self.set, report, now_ms()) {
+            _ => Ok(match self.places.take(rt, &self.set, report) {
                 Some(taken) => Look::Conn {
                     taken,
                     has_ended: report.has_ended,

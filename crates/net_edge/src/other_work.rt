@@ -2,6 +2,7 @@
 ghost use Rattle.std.specs.Prelude.{◌≡◌};
 ghost use Rattle.net_edge.specs.Turns.{most_at_work, rest_until};
 
+use crate::waiting::moment_ms;
 use std::sync::atomic::{AtomicU64, Ordering};
 
 /// A moment that never comes.
@@ -59,11 +60,11 @@ impl OtherWork {
         self.told().saturating_sub(taken) > 1
     }
 
-    /// Whether a piece waits, or something is due by this moment, of which one worker more may do some, where there are so many.
-    pub(crate) fn is_open(&self, workers: u64, now: u64) -> bool {
+    /// Whether a piece waits, or something is due, of which one worker more may do some, where there are so many.
+    pub(crate) fn is_open(&self, workers: u64) -> bool {
         let at_work = self.at_work.load(Ordering::SeqCst);
         u64::from(at_work.count_ones()) < most_at_work(workers)
-            && (self.has_told() || self.due_at.load(Ordering::SeqCst) <= now)
+            && (self.has_told() || self.has_due() && self.is_due())
     }
 
     /// Whether something falls due at some moment.
@@ -71,18 +72,22 @@ impl OtherWork {
         self.due_at.load(Ordering::SeqCst) != NEVER
     }
 
-    /// For how many milliseconds from this moment on nothing falls due, `REST_MS` at most.
-    pub(crate) fn rest_ms(&self, now: u64) -> u64 {
-        rest_until(now, self.due_at.load(Ordering::SeqCst))
+    /// For how many milliseconds nothing falls due, `REST_MS` at most.
+    pub(crate) fn rest_ms(&self) -> u64 {
+        let at = self.due_at.load(Ordering::SeqCst);
+        if at == NEVER {
+            return REST_MS;
+        }
+        rest_until(moment_ms(), at)
     }
 
-    /// Has the worker with this bit do some of it, where as many as there are leave it that: a piece that waits, or what is due by this
-    /// moment, or, where `looks`, whatever it finds. Whether it does.
-    pub(crate) fn begin(&self, worker: u64, workers: u64, now: u64, looks: bool) -> bool {
-        if !looks && !self.is_open(workers, now) || !self.go_to_work(worker, workers) {
+    /// Has the worker with this bit do some of it, where as many as there are leave it that: a piece that waits, or what is due, or, where
+    /// `looks`, whatever it finds. Whether it does.
+    pub(crate) fn begin(&self, worker: u64, workers: u64, looks: bool) -> bool {
+        if !looks && !self.is_open(workers) || !self.go_to_work(worker, workers) {
             return false;
         }
-        let has_some = self.take_told() || self.take_due(now);
+        let has_some = self.take_told() || self.has_due() && self.take_due();
         if !has_some && !looks {
             self.end(worker);
             return false;
@@ -99,6 +104,10 @@ impl OtherWork {
 
     fn has_told(&self) -> bool {
         self.taken.load(Ordering::SeqCst) < self.told()
+    }
+
+    fn is_due(&self) -> bool {
+        self.due_at.load(Ordering::SeqCst) <= moment_ms()
     }
 
     /// Counts a worker among those who do other work, where there is room for one more.
@@ -130,10 +139,10 @@ impl OtherWork {
         false
     }
 
-    /// Takes what is due by this moment.
-    fn take_due(&self, now: u64) -> bool {
+    /// Takes what is due.
+    fn take_due(&self) -> bool {
         let at = self.due_at.load(Ordering::SeqCst);
-        at <= now && exchanged(&self.due_at, at, NEVER)
+        at <= moment_ms() && exchanged(&self.due_at, at, NEVER)
     }
 }
 

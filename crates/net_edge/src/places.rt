@@ -3,6 +3,7 @@ ghost use Rattle.std.specs.Prelude.{◌≡◌, ◌<◌, ◌+◌, ◌*◌, IfSome
 use crate::begun_request::{Begun, BegunRequest};
 use crate::parting::{Parted, read_on};
 use crate::ready_set::{ReadySet, Report, When};
+use crate::waiting::now_ms;
 use std::alloc::{AllocError, Global};
 use std::mem;
 use std::net::TcpStream;
@@ -256,7 +257,6 @@ impl Places {
         rt: &R,
         set: &ReadySet,
         report: Report,
-        now: u64,
     ) -> Option<Taken> {
         let number = report.number;
         let at = (number % TURNS) as usize;
@@ -268,7 +268,7 @@ impl Places {
             return None;
         }
         if place.dropped > 0 {
-            if place.read_on(now) {
+            if place.read_on(now_ms()) {
                 place.report_again(set, number);
             }
             return None;

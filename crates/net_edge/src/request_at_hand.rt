@@ -1,6 +1,7 @@
 //! Whether a whole request may be at hand: a hint, which may be wrong where it says so, and not where it says that some lacks.
-ghost use Rattle.std.specs.Prelude.{◌≡◌, ◌≤◌, length, All};
+ghost use Rattle.std.specs.Prelude.{◌≡◌, ◌≤◌, true, length, All};
 ghost use Rattle.httparse.specs.Spans.{IsHeaderWithin};
+ghost use Rattle.net_edge.specs.AtHand.{IfLacks, LacksSome};
 
 use httparse::Status;
 use httparse::spans::{EMPTY_HEADER_SPAN, HeaderSpan, parse_request};
@@ -48,7 +49,7 @@ enum Content {
 
 /// The request at the front of some bytes.
 #[derive(Clone, Copy)]
-enum First {
+pub(crate) enum First {
     /// More of it has to come.
     Lacks,
     /// It ends there.
@@ -76,12 +77,19 @@ pub(crate) fn whole_part(bytes: &[u8]) -> usize
 }
 
 /// Whether these bytes begin a request of which more has to come, where so many of them were looked at before, and more had to come then.
-pub(crate) fn lacks_rest(bytes: &[u8], seen: usize) -> bool {
-    matches!(first_of(bytes, seen), First::Lacks)
+pub(crate) fn lacks_rest(bytes: &[u8], seen: usize) -> bool
+    ensures { result ≡ true → LacksSome bytes.now }
+{
+    match first_of(bytes, seen) {
+        First::Lacks => true,
+        First::Whole { .. } | First::Other => false,
+    }
 }
 
 /// The request at the front of these bytes.
-fn first_of(bytes: &[u8], seen: usize) -> First {
+fn first_of(bytes: &[u8], seen: usize) -> First
+    ensures { IfLacks result (LacksSome bytes.now) }
+{
     let mut headers = [EMPTY_HEADER_SPAN; FIELD_ROOM];
     match parse_request(bytes, &mut headers) {
         Ok(Status::Partial) if bytes.len() < HEAD_LIMIT => First::Lacks,

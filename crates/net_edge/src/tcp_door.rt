@@ -17,6 +17,10 @@ use std::sync::{Arc, Wait};
 /// for each disk. One that comes beyond that is closed at once, and so is what has idled for a second then; for 100 milliseconds none is
 /// accepted.
 ///
+/// A request that comes in pieces waits at the door, and takes no worker's time, until all of it may be there, or 65,536 bytes of it, or its
+/// peer sends no more; 67,108,864 bytes wait at all connections together, and what comes beyond goes to a worker. It has 30 seconds from its
+/// first byte, and a second where there is no room for a new connection.
+///
 /// How long a peer may keep a worker is bounded ([`DoorLimits`]): one that says nothing for 60 seconds between two requests is closed,
 /// and so is one for which a worker has waited for 30 seconds in one stretch, of which each byte that came then gave a millisecond
 /// back. Where peers hold all workers and something else wants one of them, these are 100 milliseconds, of which 1,024 bytes give

@@ -23,7 +23,8 @@ const MS_AT_ONCE: u64 = 100;
 /// content.
 ///
 /// Between two requests, of which `between` tells it, a read answers 0 where nothing is there: without a look where the last read
-/// left nothing, since what comes later is reported anew. Within a request it waits, and answers 0 where it has waited too long in
+/// left nothing, since what comes later is reported anew. Where more of the last request that came has to come, its reader gets none of
+/// it: it goes back to the door with the connection, and is the beginning of another stretch. Within a request it waits, and answers 0 where it has waited too long in
 /// this stretch, or where its peer has sent for too long without a moment between two requests. Each error of the connection is a
 /// fault.
 pub struct TcpSource {
