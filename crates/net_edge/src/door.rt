@@ -141,12 +141,11 @@ impl Door {
         self.is_shut.load(Ordering::SeqCst) || self.is_ending()
     }
 
-    /// There is one piece more of other work. Who tells of it will look for it soon; where more waits, another worker comes as well.
-    pub(crate) fn wake(&self) {
-        self.other_work.tell();
-        if self.other_work.has_many() {
-            self.call_another();
-        }
+    /// There is one piece more of other work. The worker with this bit tells of it, and looks for it next; where more waits than workers come
+    /// for, another comes as well.
+    pub(crate) fn wake(&self, worker: u64) {
+        self.other_work.tell(worker);
+        self.call_another();
     }
 
     /// How many pieces of other work were told.
@@ -180,14 +179,20 @@ impl Door {
     /// falls due.
     pub(crate) fn call_another(&self) {
         if self.resting.has_any()
-            && (self.has_open_work() || self.has_moment() && self.resting.is_unwatched())
+            && (self.wants_another() || self.has_moment() && self.resting.is_unwatched())
         {
             self.bell.ring();
         }
     }
 
+    /// Whether other work waits for which nobody comes, and which one worker more may do.
+    fn wants_another(&self) -> bool {
+        let workers = self.workers.load(Ordering::SeqCst);
+        self.other_work.wants_another(workers)
+    }
+
     /// Whether other work waits that one worker more may do.
-    fn has_open_work(&self) -> bool {
+    pub(crate) fn has_open_work(&self) -> bool {
         let workers = self.workers.load(Ordering::SeqCst);
         self.other_work.is_open(workers)
     }

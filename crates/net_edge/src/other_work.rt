@@ -22,8 +22,9 @@ pub(crate) struct OtherWork {
     taken: AtomicU64,
     /// The least moment that was told and not yet taken, in milliseconds since 1970; `NEVER` where there is none.
     due_at: AtomicU64,
-    /// The bits of those who do other work.
+    /// The bits of those who do other work, and of those who told of a piece and will look for one before anything else.
     at_work: AtomicU64,
+    coming: AtomicU64,
 }
 
 impl OtherWork {
@@ -34,11 +35,13 @@ impl OtherWork {
             taken: AtomicU64::new(0),
             due_at: AtomicU64::new(NEVER),
             at_work: AtomicU64::new(0),
+            coming: AtomicU64::new(0),
         }
     }
 
-    /// There is one piece more.
-    pub(crate) fn tell(&self) {
+    /// There is one piece more, for which the worker with this bit will come.
+    pub(crate) fn tell(&self, worker: u64) {
+        self.coming.fetch_or(worker, Ordering::SeqCst);
         self.told.fetch_add(1, Ordering::SeqCst);
     }
 
@@ -54,17 +57,16 @@ impl OtherWork {
         moment < self.due_at.fetch_min(moment, Ordering::SeqCst)
     }
 
-    /// Whether more than one piece waits.
-    pub(crate) fn has_many(&self) -> bool {
-        let taken = self.taken.load(Ordering::SeqCst);
-        self.told().saturating_sub(taken) > 1
-    }
-
     /// Whether a piece waits, or something is due, of which one worker more may do some, where there are so many.
     pub(crate) fn is_open(&self, workers: u64) -> bool {
         let at_work = self.at_work.load(Ordering::SeqCst);
         u64::from(at_work.count_ones()) < most_at_work(workers)
             && (self.has_told() || self.has_due() && self.is_due())
+    }
+
+    /// Whether one worker more may do some for which nobody comes.
+    pub(crate) fn wants_another(&self, workers: u64) -> bool {
+        self.is_open(workers) && (self.waiting() > self.comers() || self.has_due() && self.is_due())
     }
 
     /// Whether something falls due at some moment.
@@ -95,15 +97,25 @@ impl OtherWork {
         true
     }
 
-    /// The worker with this bit does no other work.
+    /// The worker with this bit does no other work, and has come for more.
     pub(crate) fn end(&self, worker: u64) {
-        if self.at_work.load(Ordering::SeqCst) & worker != 0 {
-            self.at_work.fetch_and(!worker, Ordering::SeqCst);
-        }
+        take_out(&self.at_work, worker);
+        take_out(&self.coming, worker);
+    }
+
+    /// How many pieces wait.
+    fn waiting(&self) -> u64 {
+        let taken = self.taken.load(Ordering::SeqCst);
+        self.told().saturating_sub(taken)
     }
 
     fn has_told(&self) -> bool {
-        self.taken.load(Ordering::SeqCst) < self.told()
+        self.waiting() > 0
+    }
+
+    /// How many workers come.
+    fn comers(&self) -> u64 {
+        u64::from(self.coming.load(Ordering::SeqCst).count_ones())
     }
 
     fn is_due(&self) -> bool {
@@ -143,6 +155,13 @@ impl OtherWork {
     fn take_due(&self) -> bool {
         let at = self.due_at.load(Ordering::SeqCst);
         at <= moment_ms() && exchanged(&self.due_at, at, NEVER)
+    }
+}
+
+/// Takes a worker's bit out of a word.
+fn take_out(word: &AtomicU64, worker: u64) {
+    if word.load(Ordering::SeqCst) & worker != 0 {
+        word.fetch_and(!worker, Ordering::SeqCst);
     }
 }
 

@@ -98,7 +98,7 @@ impl<R: Wait + AllocGlobal> TcpAcceptor<R> {
     fn await_next(&self, spare: &mut Option<Doors>) -> io::Result<Next> {
         self.door.end_work(self.worker);
         let until = now_ms().saturating_add(REST_MS);
-        let mut rests = !self.was_idle;
+        let mut rests = !self.was_idle || !self.door.has_open_work();
         let mut looks = !self.has_begun;
         for _ in self.rt.forever() {
             if self.door.is_over() {
@@ -208,7 +208,7 @@ impl<R: Wait + AllocGlobal> Acceptor for TcpAcceptor<R> {
 
     fn wake(&mut self) {
         self.told = 0;
-        self.door.wake();
+        self.door.wake(self.worker);
     }
 
     fn due(&mut self, moment: Moment) {
