@@ -23,7 +23,7 @@ fn connect_with_half<R: Net<Listener = TcpListener, Stream = TcpStream>>(
     port: u16,
 ) -> io::Result<TcpStream> {
     let mut client = connect(rt, port)?;
-    client.write_all(b"half")?;
+    client.write_all(b"@half")?;
     Ok(client)
 }
 
@@ -43,6 +43,16 @@ pub(crate) fn add_halves<R: Net<Listener = TcpListener, Stream = TcpStream>>(
 /// Whether all of these bytes were sent.
 pub(crate) fn sends(client: &mut TcpStream, bytes: &[u8]) -> bool {
     client.write_all(bytes).is_ok()
+}
+
+/// Whether so many bytes were sent.
+pub(crate) fn sends_many(client: &mut TcpStream, count: usize) -> bool {
+    for _ in 0..count {
+        if !sends(client, b"@") {
+            return false;
+        }
+    }
+    true
 }
 
 /// How many bytes a client reads, in one piece.

@@ -87,7 +87,7 @@ pub(crate) fn answered_in_time<R: Net<Listener = TcpListener, Stream = TcpStream
 ) -> io::Result<usize> {
     let mut whole = connect(rt, port)?;
     whole.set_read_timeout(Some(Duration::from_millis(10_000)))?;
-    whole.write_all(b"whole.")?;
+    whole.write_all(b"@whole.")?;
     piece_of(&mut whole)
 }
 
@@ -101,7 +101,7 @@ fn answered_beside<R: Net<Listener = TcpListener, Stream = TcpStream> + Clock>(
 ) -> io::Result<usize> {
     let mut whole = connect(rt, port)?;
     send_on(rt, clients, piece, pace.pieces, pace.before);
-    whole.write_all(b"whole.")?;
+    whole.write_all(b"@whole.")?;
     send_on(rt, clients, piece, pace.pieces, pace.behind);
     whole.set_nonblocking(true)?;
     piece_of(&mut whole)
@@ -142,7 +142,7 @@ fn answered_behind<
             sleep(rt, Duration::from_millis(HELD_MS));
             answered_in_time(rt, port)
         }
-        Slow::Drips => answered_beside(rt, port, halves, b"half", DRIPS),
+        Slow::Drips => answered_beside(rt, port, halves, b"@half", DRIPS),
         Slow::Floods => {
             set_waiting(halves, false)?;
             answered_beside(rt, port, halves, &[b'a'; 4096], FLOODS)
@@ -155,7 +155,7 @@ fn answered_behind<
         }
         Slow::Whole => {
             sleep(rt, Duration::from_millis(HELD_MS));
-            all_answered_to(halves, &["rest.", "next.", "last."])
+            all_answered_to(halves, &["rest.", "@next.", "@last."])
         }
         Slow::Left => {
             sleep(rt, Duration::from_millis(HELD_MS));

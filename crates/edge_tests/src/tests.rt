@@ -20,6 +20,7 @@ fn short() -> DoorLimits {
         pressed_ms: 20,
         held_ms: 200,
         left_to_worker: 0,
+        left_to_disks: 0,
     }
 }
 
@@ -109,29 +110,51 @@ fn answered_by_line<
 /// What is shown, behind `#`, and a line that is played.
 const SCENES: &str = "\
 # A connection comes back with each request, to any worker.
-standard 2 0+ 0>first. a=6 0<6 0>second. b=7 0<6 0>third. b=6 0<6 0>last. a=5 0<6
+standard 2 0+ 0>@first. a=7 0<6 0>@second. b=8 0<6 0>@third. b=7 0<6 0>@last. a=6 0<6
 # Two connections are served by one worker.
-standard 2 0+ 1+ 0>first. a=6 1>second. a=7 1>third. a=6 0>last. a=5 0<12 1<12
+standard 2 0+ 1+ 0>@first. a=7 1>@second. a=8 1>@third. a=7 0>@last. a=6 0<12 1<12
 # A connection that its client closed comes to its end.
-standard 2 0+ 0>first. a=6 0<6 0x b=0 1+ 1>second. b=7 1<6
+standard 2 0+ 0>@first. a=7 0<6 0x b=0 1+ 1>@second. b=8 1<6
 # The rest of a request is not awaited for ever.
-short 2 0+ 0>half a=4 0<0 1+ 1>half b=4 1<0 2+ 2>whole. a=6 2<6
+short 2 0+ 0>@half a=5 0<0 1+ 1>@half b=5 1<0 2+ 2>@whole. a=7 2<6
 # Other work is told, but not twice in a row.
-standard 2 0+ 0>first. a^ b~ a^ b=6 b~ 0<6
+standard 2 0+ 0>@first. a^ b~ a^ b=7 b~ 0<6
+# All workers but one do other work at a time, whatever waits.
+standard 2 a~ a^ a^ 0+ 0>@first. b:7 0<6 a~
+standard 3 a~ b~ a^ a^ 0+ 0>@first. c:7 0<6 b~
+# What a worker has looked for and not found is not told again.
+standard 1 a~ a^ a^ a~ a. 0+ 0>@first. a:7 0<6 0>@second. a:8 0<6
+# What is told since is.
+standard 1 a~ a^ a~ a^ a. 0+ 0>@first. a:7 0<6 0>@second. a~ a:8 0<6
+# What has fallen due is told once.
+standard 1 a~ a, 0+ 0>@first. a:7 0<6 0>@second. a~ a:8 0<6 0>@third. a:7 0<6
+# Who is refused amid a request may go on sending, and reads the answer.
+standard 1 a~ 0+ 0*500 a% 0*500 a^ a~ a^ a~ 0*500 a^ a~ 0<6 0<0
+# Where a worker leaves, the others find an end, who rests is let go, and another door can be opened at the port.
+standard 2 0+ 0>@first. a=7 0<6 a/ b# 0<0 ?
+# Half a request of HTTP holds no worker: it waits at the door, whether some of its head lacks, or of its content.
+patient 1 a~ 0+ 0[20 a=0 1+ 1>@quick. a=7 1<6 0]20 a=43 0<6
+patient 1 a~ 0+ 0[38 a=0 1+ 1>@quick. a=7 1<6 0]38 a=43 0<6
+patient 1 a~ 0+ 0{50 a=0 1+ 1>@quick. a=7 1<6 0}50 a=62 0<6
+# Nor does it where it stands behind a whole one.
+patient 1 a~ 0+ 0[43 0[38 a=43 0<6 1+ 1>@quick. a=7 1<6 0]38 a=43 0<6
+# It is read on with its connection's end, and is closed where it waits too long.
+patient 1 a~ 0+ 0[20 a=0 0| a=20 0<0 1+ 1[20 1| a=20 1<0
+short 1 a~ 0+ 0[20 a=0 a~ a~ 0<0
 # A shut door is told to all.
-standard 2 0+ 0>first. a=6 0<6 ! a# b# b# a#
+standard 2 0+ 0>@first. a=7 0<6 ! a# b# b# a#
 # What idles too long is closed.
-soon-idle 2 0+ 0>first. a=6 0<6 a~ a~ a~ a~ 0<0
+soon-idle 2 0+ 0>@first. a=7 0<6 a~ a~ 0<0
 # There are more connections than places; the last client may be refused at first.
-small 1 +40 - 0+ 0>first. a@6 0<6
+small 1 +40 - 0+ 0>@first. a@7 0<6
 # Half a request does not hold up other work that was heard of.
-patient 1 *1 a^ a~ a^ a:4 a~
+patient 1 *1 a^ a~ a^ a:5 a~
 # Half a request does not hold up those who wait to connect: the first of sixty finds no place, and the others wait.
-small-and-patient 1 0+ a~ *60 0>half a:4
+small-and-patient 1 a~ 0+ a~ *60 0>@half a:5
 # A client that sends no more is answered, and its connection closed.
-standard 2 0+ 0>first. 0| a=6 0<6 0<0 1+ 1>second. 1| b=7 1<6 1<0
+standard 2 0+ 0>@first. 0| a=7 0<6 0<0 1+ 1>@second. 1| b=8 1<6 1<0
 # What comes while a worker serves is not lost.
-standard 2 0+ 0>first. &second. 0<6 b:7 0<6";
+standard 2 0+ 0>@first. &@second. 0<6 b:8 0<6";
 
 #[test]
 fn each_scene_comes_true(rt: HostRuntime) -> Result<(), Fail> {

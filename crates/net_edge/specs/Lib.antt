@@ -1,2 +1,5 @@
+pub mod AtHand
 pub mod CallTimes
 pub mod Patience
+pub mod Room
+pub mod Turns

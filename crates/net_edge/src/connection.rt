@@ -118,18 +118,20 @@ fn await_room(door: &Door, stream: &TcpStream, pace: &mut Pace, piece: &[u8]) ->
     Ok(0)
 }
 
-/// Ends what is sent, and drops some of what the peer still sends.
-pub(crate) fn part_with(stream: &TcpStream) {
+/// Ends what is sent, and drops some of what the peer still sends. Whether it may send more.
+pub(crate) fn part_with(stream: &TcpStream) -> bool {
     if stream.shutdown(Shutdown::Write).is_err() {
-        return;
+        return false;
     }
     let mut piece = [0u8; 4096];
     for _ in 0..PIECES_DROPPED {
         match read_now(stream, &mut piece) {
             Ok(Some(n)) if n > 0 => {}
-            _ => return,
+            Ok(None) => return true,
+            _ => return false,
         }
     }
+    true
 }
 
 fn is_not_yet(error: &io::Error) -> bool {

@@ -7,9 +7,6 @@ use libc::{RLIMIT_NOFILE, getrlimit};
 /// The most places of a door.
 const MOST_PLACES: u64 = 16_384;
 
-/// How many descriptors are left to what else the process opens.
-const OTHER_DESCRIPTORS: u64 = 64;
-
 /// How long a door waits, in milliseconds, and how many connections it may have.
 #[derive(Clone, Copy)]
 pub struct DoorLimits {
@@ -30,11 +27,14 @@ pub struct DoorLimits {
     pub held_ms: u64,
     /// So many of the greatest places are left to each worker, for the connections by which it calls other programs.
     pub left_to_worker: usize,
+    /// So many are left to the disks.
+    pub left_to_disks: usize,
 }
 
 impl DoorLimits {
-    ghost use Rattle.std.specs.Prelude.{◌≡◌, ◌≤◌, ◌-◌, ◌*◌, true, false};
+    ghost use Rattle.std.specs.Prelude.{◌≡◌, ◌≤◌, ◌<◌, ◌+◌, ◌↔◌, true, false};
     ghost use Rattle.net_edge.specs.Patience.{left_alone, left_while_pressed};
+    ghost use Rattle.net_edge.specs.Room.{places_beside};
 
     /// The limits of the program.
     pub fn standard() -> Self
@@ -45,6 +45,7 @@ impl DoorLimits {
         ensures pressed { result.pressed_ms ≡ 100 }
         ensures held { result.held_ms ≡ 1000 }
         ensures left { result.left_to_worker ≡ 9 }
+        ensures none_left { result.left_to_disks ≡ 0 }
     {
         DoorLimits {
             places: places(),
@@ -54,15 +55,24 @@ impl DoorLimits {
             pressed_ms: 100,
             held_ms: 1_000,
             left_to_worker: 9,
+            left_to_disks: 0,
         }
     }
 
     /// One past the greatest descriptor that a connection may have beside those of so many workers.
     pub(crate) fn places_beside(&self, workers: u64) -> usize
-        ensures { result ≡ self.now.places - self.now.left_to_worker * workers }
+        ensures { result ≡ places_beside self.now workers }
     {
         self.places
             .saturating_sub(self.left_to_worker.saturating_mul(workers as usize))
+            .saturating_sub(self.left_to_disks)
+    }
+
+    /// Whether a connection may have the descriptor behind this one, beside so many workers.
+    pub(crate) fn has_room_behind(&self, last: usize, workers: u64) -> bool
+        ensures { result ≡ true ↔ last + 1 < places_beside self.now workers }
+    {
+        last < self.places_beside(workers).saturating_sub(1)
     }
 
     /// For how many milliseconds more a peer of this pace is waited for, where something else wants its worker and where not.
@@ -80,7 +90,7 @@ impl DoorLimits {
     }
 }
 
-/// As many places as the process may have descriptors, but for some.
+/// As many places as the process may have descriptors.
 fn places() -> usize
     ensures { result ≤ 16384 }
 {
@@ -91,6 +101,5 @@ fn places() -> usize
     if getrlimit(RLIMIT_NOFILE, &mut limit) < 0 {
         return MOST_PLACES as usize;
     }
-    let room = limit.rlim_cur.saturating_sub(OTHER_DESCRIPTORS);
-    room.min(MOST_PLACES) as usize
+    limit.rlim_cur.min(MOST_PLACES) as usize
 }

@@ -2,7 +2,7 @@ ghost use Rattle.std.specs.Prelude.{◌≡◌, None, IfOk};
 ghost use Rattle.side_world.specs.Outside.{IsNewDisk, AreNew};
 
 use crate::start_numbers::StartNumbers;
-use crate::{TcpAcceptor, TcpDoor, TcpLink};
+use crate::{DoorLimits, TcpAcceptor, TcpDoor, TcpLink};
 use host_devices::{FaultCount, HostClock, HostDisk};
 use side_world::{Acceptor, Disk, Failed, Link, Outside, WorkerParts};
 use std::fs::{File, Files};
@@ -36,10 +36,13 @@ where
 type HostParts<R> = WorkerParts<TcpAcceptor<R>, TcpLink<R>, HostClock<R>>;
 
 /// The outside of a program on this host: disks are its files, the workers share one door of 127.0.0.1, and each has a link of
-/// its own and the host's clock. It tells nothing. Each error of the host is a fault, and so is a second port.
+/// its own and the host's clock. It tells nothing. Each error of the host is a fault, and so are a second port, and workers that leave no
+/// descriptor to connections.
 #[derive(Drop)]
 pub struct HostOutside<R> {
     rt: R,
+    /// How many disks it has given.
+    disks: usize,
     door: Option<PortDoor>,
     numbers: StartNumbers,
     faults: FaultCount,
@@ -61,6 +64,7 @@ impl<R: Host + Send> HostOutside<R> {
     {
         Ok(HostOutside {
             rt,
+            disks: 0,
             door: None,
             numbers: StartNumbers::new(&rt)?,
             faults: FaultCount::none(),
@@ -78,12 +82,24 @@ fn open_disk<R: Files<File = File>>(rt: &R, path: &[u8]) -> io::Result<HostDisk>
     }
 }
 
-/// What the next worker at this port has. The first call opens the door.
-fn open_worker<R: Host>(rt: R, door: &mut Option<PortDoor>, port: u16) -> io::Result<HostParts<R>>
+/// What the next worker at this port has. The first call opens the door, which leaves a descriptor to each of so many disks.
+fn open_worker<R: Host>(
+    rt: R,
+    door: &mut Option<PortDoor>,
+    port: u16,
+    disks: usize,
+) -> io::Result<HostParts<R>>
     ensures { IfOk result (AreNew ⟦<TcpAcceptor<R> as Acceptor>⟧ ⟦<TcpLink<R> as Link>⟧) }
 {
     if door.is_none() {
-        let open = TcpDoor::open(&rt, port)?;
+        let open = TcpDoor::open_within(
+            &rt,
+            port,
+            DoorLimits {
+                left_to_disks: disks,
+                ..DoorLimits::standard()
+            },
+        )?;
         *door = Some(PortDoor { port, door: open });
     }
     match door {
@@ -127,6 +143,7 @@ impl<R: Host + Send> Outside for HostOutside<R> {
     ghost faults = { λ o. o.faults };
 
     fn take_disk(&mut self, path: &[u8]) -> Result<HostDisk, Failed> {
+        self.disks = self.disks.saturating_add(1);
         self.faults.counted(open_disk(&self.rt, path))
     }
 
@@ -135,7 +152,7 @@ impl<R: Host + Send> Outside for HostOutside<R> {
     }
 
     fn worker(&mut self, port: u16, _number: u32) -> Result<HostParts<R>, Failed> {
-        let parts = open_worker(self.rt, &mut self.door, port);
+        let parts = open_worker(self.rt, &mut self.door, port, self.disks);
         self.faults.counted(parts)
     }
 

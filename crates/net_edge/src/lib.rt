@@ -2,16 +2,22 @@
 //! over sockets of std and what the system has beside them. They tell no content.
 #![tactic(auto)]
 
+mod begun_request;
 mod call_connection;
 mod call_stream;
 mod call_time;
 mod connection;
 mod door;
 mod door_limits;
+mod entrance;
+mod holders;
 mod host_outside;
+mod other_work;
 mod pace;
+mod parting;
 mod places;
 mod ready_set;
+mod request_at_hand;
 mod start_numbers;
 mod tcp_acceptor;
 mod tcp_door;

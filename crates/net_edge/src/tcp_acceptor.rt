@@ -2,7 +2,9 @@ ghost use Rattle.std.specs.Prelude.{◌≡◌, ◌↔◌, None, IsOk, true};
 
 use crate::call_time::Caller;
 use crate::connection::part_with;
-use crate::door::{Door, LOOK_MS, Look};
+use crate::door::{Door, Look};
+use crate::other_work::REST_MS;
+use crate::places::Taken;
 use crate::tcp_sink::TcpSink;
 use crate::tcp_source::TcpSource;
 use crate::waiting::now_ms;
@@ -13,14 +15,15 @@ use std::io;
 use std::net::TcpStream;
 use std::sync::{Arc, Wait};
 
-/// How many things are looked at in one call.
-const LOOKS: u32 = 1_000;
-
 /// A worker's place at a door: it gives a connection on which something is there to read, whichever worker served it last. It
 /// tells no answers.
 ///
-/// A connection whose stretch ended between two requests goes back to the door, unless all workers end, and any other is closed.
+/// A connection whose stretch ended between two requests goes back to the door, unless all workers end, and any other ends: where its peer may
+/// send still, the door reads on for a second and 16,777,216 bytes at most, so that the peer reads the last response, and closes it then.
 /// Only a door that can't be waited at any more is a fault.
+///
+/// `Idle` is answered at first, to other work, and after a second without anything, but only while others are left to connections: all
+/// workers but one do other work at a time at most, or the one that there is. `Closed` is answered once all workers end.
 #[derive(Drop)]
 pub struct TcpAcceptor<R> {
     rt: R,
@@ -31,6 +34,10 @@ pub struct TcpAcceptor<R> {
     spare: Option<Doors>,
     /// The last answer was `Idle`.
     was_idle: bool,
+    /// Some answer was `Idle`.
+    has_begun: bool,
+    /// How many pieces of other work had been told before the last answer, where that was `Idle` and the worker told of none since; else 0.
+    told: u64,
     faults: FaultCount,
 }
 
@@ -45,7 +52,7 @@ struct Doors {
 #[derive(Drop)]
 enum Next {
     Conn {
-        stream: Arc<TcpStream>,
+        taken: Taken,
         other_stream: Arc<TcpStream>,
         doors: Doors,
         has_ended: bool,
@@ -68,6 +75,8 @@ impl<R: Wait + AllocGlobal> TcpAcceptor<R> {
             worker,
             spare: None,
             was_idle: false,
+            has_begun: false,
+            told: 0,
             faults: FaultCount::none(),
         }
     }
@@ -84,59 +93,52 @@ impl<R: Wait + AllocGlobal> TcpAcceptor<R> {
         &self.faults
     }
 
-    /// Waits for what comes next, until idle work falls due and `LOOK_MS` at most. Other work comes first, but not twice in a row.
+    /// Waits for what comes next: other work that it may do, but not twice in a row where a connection is ready, or a connection. After a second
+    /// without either it looks for other work.
     fn await_next(&self, spare: &mut Option<Doors>) -> io::Result<Next> {
-        if self.door.is_shut() {
-            return Ok(Next::Closed);
-        }
-        if self.door.is_ending() {
-            return Ok(Next::Idle);
-        }
-        if !self.was_idle && self.door.take_other_work() {
-            return Ok(Next::Idle);
-        }
-        let now = now_ms();
-        self.door.sweep(now);
-        let until = now.saturating_add(self.door.rest_ms());
-        let mut ms = ms_until(until);
-        for _ in 0..LOOKS {
-            match self.door.look(&self.rt, ms)? {
-                Look::Conn { stream, has_ended } => return self.shared(stream, has_ended, spare),
-                Look::Went => ms = ms_until(until),
-                Look::Rung if self.door.is_shut() => return Ok(Next::Closed),
-                Look::Rung if self.door.is_ending() => return Ok(Next::Idle),
-                // A connection that is ready comes before other work that follows other work.
-                Look::Rung if self.was_idle => ms = 0,
-                Look::Rung if self.door.take_other_work() => return Ok(Next::Idle),
-                Look::Rung => ms = ms_until(until),
-                Look::Quiet => {
-                    self.door.take_other_work();
-                    return Ok(Next::Idle);
-                }
+        self.door.end_work(self.worker);
+        let until = now_ms().saturating_add(REST_MS);
+        let mut rests = !self.was_idle || !self.door.has_open_work();
+        let mut looks = !self.has_begun;
+        for _ in self.rt.forever() {
+            if self.door.is_over() {
+                return Ok(Next::Closed);
             }
+            if rests && self.door.begin_work(self.worker, looks) {
+                return Ok(Next::Idle);
+            }
+            match self.look(rests, until)? {
+                Look::Conn { taken, has_ended } => {
+                    self.door.call_another();
+                    return self.shared(taken, has_ended, spare);
+                }
+                Look::Quiet => rests = true,
+                Look::Went => {}
+            }
+            looks = looks || now_ms() >= until;
         }
-        Ok(Next::Idle)
+        unreachable!()
     }
 
-    /// Puts a connection back to the door. Where all workers end, it is closed, so that its peer reads the last response.
-    fn let_rest(&self, stream: Arc<TcpStream>, is_awaited: bool) {
-        if self.door.is_ending() {
-            part_with(&stream);
-        } else {
-            self.door.let_rest(&self.rt, stream, is_awaited);
+    /// Looks at the door, and rests there, to this moment or for another second behind it.
+    fn look(&self, rests: bool, until: u64) -> io::Result<Look> {
+        if !rests {
+            return self.door.look(&self.rt, 0);
         }
+        let now = now_ms();
+        let until = if until > now {
+            until
+        } else {
+            now.saturating_add(REST_MS)
+        };
+        self.door.rest(&self.rt, self.worker, until)
     }
 
     /// A connection, for its source and its sink.
-    fn shared(
-        &self,
-        stream: Arc<TcpStream>,
-        has_ended: bool,
-        spare: &mut Option<Doors>,
-    ) -> io::Result<Next> {
+    fn shared(&self, taken: Taken, has_ended: bool, spare: &mut Option<Doors>) -> io::Result<Next> {
         Ok(Next::Conn {
-            other_stream: Arc::try_clone(&stream)?,
-            stream,
+            other_stream: Arc::try_clone(&taken.stream)?,
+            taken,
             doors: self.doors(spare)?,
             has_ended,
         })
@@ -168,20 +170,23 @@ impl<R: Wait + AllocGlobal> Acceptor for TcpAcceptor<R> {
         let next = self.await_next(&mut spare);
         self.spare = spare;
         self.was_idle = false;
+        self.told = 0;
         match self.faults.counted(next) {
             Ok(
                 Next::Conn {
-                    stream,
+                    taken,
                     other_stream,
                     doors,
                     has_ended,
                 },
             ) => Accepted::Conn {
-                source: TcpSource::new(doors.of_source, self.worker, stream, has_ended),
+                source: TcpSource::new(doors.of_source, self.worker, taken, has_ended),
                 sink: TcpSink::new(doors.of_sink, self.worker, other_stream),
             },
             Ok(Next::Idle) => {
                 self.was_idle = true;
+                self.has_begun = true;
+                self.told = self.door.told();
                 Accepted::Idle
             }
             Ok(Next::Closed) => Accepted::Closed,
@@ -191,28 +196,28 @@ impl<R: Wait + AllocGlobal> Acceptor for TcpAcceptor<R> {
 
     fn end(&mut self, source: TcpSource, sink: TcpSink) {
         let is_awaited = source.is_awaited();
+        let may_send = source.may_send();
         match after_stretch(source, sink, &mut self.spare) {
-            Ok(stream) => self.let_rest(stream, is_awaited),
-            Err(stream) => part_with(&stream),
+            Ok(taken) => self.door.let_rest(&self.rt, taken, is_awaited),
+            Err(taken) if may_send => self.door.part(&self.rt, taken.stream),
+            Err(taken) => {
+                part_with(&taken.stream);
+            }
         }
     }
 
     fn wake(&mut self) {
-        self.door.wake();
+        self.told = 0;
+        self.door.wake(self.worker);
     }
 
     fn due(&mut self, moment: Moment) {
-        self.door.tell_due(moment.ms());
+        self.door.tell_due(self.told, moment.ms());
     }
 
     fn leave(&mut self) {
-        self.door.leave();
+        self.door.leave(&self.rt);
     }
-}
-
-/// How many milliseconds are left until then, `LOOK_MS` at most.
-fn ms_until(until: u64) -> i32 {
-    until.saturating_sub(now_ms()).min(LOOK_MS as u64) as i32
 }
 
 /// The connection: `Ok` exactly where it goes on, since its stretch ended between two requests and nothing failed.
@@ -220,15 +225,15 @@ fn after_stretch(
     source: TcpSource,
     sink: TcpSink,
     spare: &mut Option<Doors>,
-) -> Result<Arc<TcpStream>, Arc<TcpStream>>
+) -> Result<Taken, Taken>
     ensures { IsOk result ↔ ((source.rests ≡ true) × (source.faults ≡ 0) × (sink.faults ≡ 0)) }
 {
     let (of_sink, has_failed) = sink.close();
-    let ((of_source, stream), rests) = source.into_parts();
+    let ((of_source, taken), rests) = source.into_parts();
     *spare = Some(Doors { of_source, of_sink });
     if rests && !has_failed {
-        Ok(stream)
+        Ok(taken)
     } else {
-        Err(stream)
+        Err(taken)
     }
 }

@@ -1,6 +1,7 @@
 use crate::door::Door;
 use crate::door_limits::DoorLimits;
 use crate::{TcpAcceptor, TcpLink};
+use libc::EMFILE;
 use side_world::{Acceptor, Link};
 use std::io;
 use std::net::{Net, TcpListener, TcpStream};
@@ -12,8 +13,13 @@ use std::sync::{Arc, Wait};
 /// until one at which, between two requests, nothing more is, or it is others' turn, after 64 reads or 100 milliseconds. Then it waits
 /// at the door again, and takes no worker's time.
 ///
-/// It has as many connections as the process may have descriptors, less 64 and nine for the calls of each worker, and 16,384 less those nine at most. One that comes beyond that is closed at
-/// once, and so is what has idled for a second then; for 100 milliseconds none is accepted.
+/// It has as many connections as the process may have descriptors, 16,384 at most, less what stands open, nine for the calls of each worker, and one
+/// for each disk. One that comes beyond that is closed at once, and so is what has idled for a second then; for 100 milliseconds none is
+/// accepted.
+///
+/// A request that comes in pieces waits at the door, and takes no worker's time, until all of it may be there, or 65,536 bytes of it, or its
+/// peer sends no more; 67,108,864 bytes wait at all connections together, and what comes beyond goes to a worker. It has 30 seconds from its
+/// first byte, and a second where there is no room for a new connection.
 ///
 /// How long a peer may keep a worker is bounded ([`DoorLimits`]): one that says nothing for 60 seconds between two requests is closed,
 /// and so is one for which a worker has waited for 30 seconds in one stretch, of which each byte that came then gave a millisecond
@@ -57,14 +63,18 @@ impl TcpDoor {
 
     /// The port at which it listens.
     pub fn port(&self) -> io::Result<u16> {
-        self.door.port()
+        Ok(self.door.port())
     }
 
-    /// The acceptor of one worker more, which has no faults.
+    /// The acceptor of one worker more, which has no faults. It is an error where the workers leave no descriptor to connections.
     pub fn acceptor<R: Wait + AllocGlobal + Drop>(&self, rt: R) -> io::Result<TcpAcceptor<R>>
         ensures { IfOk result (λ a. ⟦<TcpAcceptor<R> as Acceptor>⟧.faults a ≡ 0) }
     {
-        Ok(TcpAcceptor::new(rt, Arc::try_clone(&self.door)?))
+        let acceptor = TcpAcceptor::new(rt, Arc::try_clone(&self.door)?);
+        if !self.door.has_room() {
+            return Err(io::Error::from_raw_os_error(EMFILE));
+        }
+        Ok(acceptor)
     }
 
     /// The link of the worker of this acceptor, of which no call has failed or expired.

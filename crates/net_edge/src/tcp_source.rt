@@ -1,8 +1,10 @@
 ghost use Rattle.std.specs.Prelude.{◌≡◌, None, true};
 
+use crate::begun_request::BegunRequest;
 use crate::connection::{read_in_time, read_now};
 use crate::door::Door;
 use crate::pace::Pace;
+use crate::places::Taken;
 use crate::waiting::now_ms;
 use host_devices::FaultCount;
 use side_world::{Failed, Source};
@@ -21,7 +23,8 @@ const MS_AT_ONCE: u64 = 100;
 /// content.
 ///
 /// Between two requests, of which `between` tells it, a read answers 0 where nothing is there: without a look where the last read
-/// left nothing, since what comes later is reported anew. Within a request it waits, and answers 0 where it has waited too long in
+/// left nothing, since what comes later is reported anew. Where more of the last request that came has to come, its reader gets none of
+/// it: it goes back to the door with the connection, and is the beginning of another stretch. Within a request it waits, and answers 0 where it has waited too long in
 /// this stretch, or where its peer has sent for too long without a moment between two requests. Each error of the connection is a
 /// fault.
 pub struct TcpSource {
@@ -29,6 +32,10 @@ pub struct TcpSource {
     /// The bit of its worker.
     worker: u64,
     stream: Arc<TcpStream>,
+    /// What the reader has yet to be given of a request that is at hand, or has been told nothing of, since more of it has to come.
+    begun: BegunRequest,
+    /// More of that has to come.
+    waits: bool,
     /// The reader holds no part of a request.
     is_between: bool,
     /// The last read answered that the stretch ended between two requests.
@@ -55,20 +62,18 @@ impl TcpSource {
     ghost use Rattle.std.specs.Prelude.{◌≡◌, ◌≤◌, ◌↔◌, length, true, false, None, IfOk, IfSome};
 
     /// A stretch that begins, which the worker with this bit serves.
-    pub(crate) fn new(
-        door: Arc<Door>,
-        worker: u64,
-        stream: Arc<TcpStream>,
-        has_no_more: bool,
-    ) -> Self
+    pub(crate) fn new(door: Arc<Door>, worker: u64, taken: Taken, has_no_more: bool) -> Self
         ensures no_faults { ⟦<TcpSource as Source>⟧.faults result ≡ 0 }
         ensures not_ended { ⟦<TcpSource as Source>⟧.ended result ≡ false }
         ensures does_not_rest { result.rests ≡ false }
     {
+        let Taken { stream, begun } = taken;
         TcpSource {
             door,
             worker,
             stream,
+            begun,
+            waits: false,
             is_between: true,
             rests: false,
             ended: false,
@@ -87,14 +92,23 @@ impl TcpSource {
         self.is_drained && !self.has_no_more
     }
 
-    /// The door and the connection, and whether its stretch ended between two requests and it didn't fail.
-    pub(crate) fn into_parts(self) -> ((Arc<Door>, Arc<TcpStream>), bool)
+    /// Whether its peer may send more than was read: it hasn't ended, and nothing failed.
+    pub(crate) fn may_send(&self) -> bool
+        ensures { result ≡ true ↔ ((self.now.ended ≡ false) × (self.now.faults ≡ 0)) }
+    {
+        !self.ended && self.faults.is_none()
+    }
+
+    /// The door and the connection with what it has of a request, and whether its stretch ended between two requests and it didn't fail.
+    pub(crate) fn into_parts(self) -> ((Arc<Door>, Taken), bool)
         ensures { result.1 ≡ true ↔ ((self.rests ≡ true) × (self.faults ≡ 0)) }
     {
         let TcpSource {
             door,
             worker,
             stream,
+            begun,
+            waits: _,
             is_between: _,
             rests,
             ended: _,
@@ -109,7 +123,7 @@ impl TcpSource {
         if is_counted {
             door.end_hold(worker);
         }
-        ((door, stream), rests && faults.is_none())
+        ((door, Taken { stream, begun }), rests && faults.is_none())
     }
 
     /// What comes next of a request that has begun; no bytes where its peer's time is over.
@@ -179,15 +193,51 @@ impl TcpSource {
         ensures ended { self.new.ended ≡ self.old.ended }
         ensures faults { self.new.faults ≡ self.old.faults }
     {
+        if self.is_between && self.waits {
+            return Ok(None);
+        }
+        if !self.begun.is_none() {
+            return Ok(Some(self.begun.give(into)));
+        }
         if !self.is_between {
             return Ok(Some(self.rest_of_request(into)?));
         }
         if self.is_awaited() || self.has_had_its_turn() {
             return Ok(None);
         }
+        self.first_of_request(into)
+    }
+
+    /// What comes next between two requests; `None` where there is nothing, or where more of a request has to come, which goes back to the door.
+    fn first_of_request(&mut self, into: &mut [u8]) -> io::Result<Option<usize>>
+        ensures within { IfOk result (λ found. IfSome found (λ n. n ≤ length into.new)) }
+        ensures is_between { self.new.is_between ≡ self.old.is_between }
+        ensures does_not_rest { self.new.rests ≡ self.old.rests }
+        ensures ended { self.new.ended ≡ self.old.ended }
+        ensures faults { self.new.faults ≡ self.old.faults }
+    {
         let found = read_now(&self.stream, into)?;
         self.is_drained = found.is_none_or(|n| n < into.len());
-        Ok(found)
+        match found {
+            Some(n) if n > 0 && !self.has_no_more => Ok(self.whole_of(&into[..n])),
+            _ => Ok(found),
+        }
+    }
+
+    /// How many of these bytes are for the reader now, if any: the last request goes back to the door where more of it has to come.
+    fn whole_of(&mut self, piece: &[u8]) -> Option<usize>
+        ensures within { IfSome result (λ n. n ≤ length piece.now) }
+        ensures is_between { self.new.is_between ≡ self.old.is_between }
+        ensures does_not_rest { self.new.rests ≡ self.old.rests }
+        ensures ended { self.new.ended ≡ self.old.ended }
+        ensures faults { self.new.faults ≡ self.old.faults }
+    {
+        if !self.door.takes_back() {
+            return Some(piece.len());
+        }
+        let count = self.begun.take_back(piece);
+        self.waits = count < piece.len();
+        if count > 0 { Some(count) } else { None }
     }
 }
 
