@@ -27,7 +27,7 @@ use Rattle.delivery_turn.specs.declared.taking.Taking.{Taking}
 use Rattle.delivery_turn.specs.declared.taking.Taking.TheVariants as taking
 use Rattle.delivery_turn.specs.declared.ending.Turn.{Turn}
 use Rattle.delivery_turn.specs.Settling.{Own}
-use Rattle.delivery_turn.specs.Posting.{Heard, replied, missed, lacked}
+use Rattle.delivery_turn.specs.Posting.{Heard, MayLack, for_call, for_letter, replied, missed, lacked}
 use Rattle.delivery_turn.specs.Delivery.{Setting, Delivery, Delivers, Tried}
 use Rattle.delivery_turn.specs.Delivery as delivery
 use Rattle.delivery_turn.specs.Stepping.{AsksApp, AsksLedger, Did, Enters, LedgerGhosts, LedgerSeat, asked_in, entered_in}
@@ -38,22 +38,22 @@ use Rattle.delivery_turn.specs.Turning as turning
 
 module _ (setting : Setting) (row : Row) (settling : Settling) (came : Turn) (post draw settles : List (Event Own)) (so : SettlesSo row settling came settles) where
   -- it is let go, and no word was drawn
-  let_go : (what : Heard) → Tried setting row what post → settling ≡ LetGo early.Held → draw ≡ [] → Delivers setting row (post ++ (draw ++ settles)) came
-  let_go what tried is none-drawn = delivery.cut_short what post settles tried (subst (λ s. SettlesSo row s came settles) is so) (ap (λ l. post ++ (l ++ settles)) none-drawn)
+  let_go : (what : Heard) → Tried setting row what post → MayLack setting.subs row what → settling ≡ LetGo early.Held → draw ≡ [] → Delivers setting row (post ++ (draw ++ settles)) came
+  let_go what tried lacking is none-drawn = delivery.cut_short what post settles tried lacking (subst (λ s. SettlesSo row s came settles) is so) (ap (λ l. post ++ (l ++ settles)) none-drawn)
 
   by_reply : (response : Response) → Tried setting row (replied response) post → Judges setting.subs row response settling draw → Delivers setting row (post ++ (draw ++ settles)) came
   by_reply response tried (turning.judged v drawn dead is-judged is draws) =
       delivery.tried (replied response) post (draw ++ settles) tried
       (record { finish = _; drawn = drawn; dead = dead; draw = draw; settling = settles; is_finish = (v, is-judged, refl); draws = draws; settles = subst (λ s. SettlesSo row s came settles) is so; whole = refl })
       refl
-  by_reply response tried (turning.lacks is none-drawn) = let_go (replied response) tried is none-drawn
+  by_reply response tried (turning.lacks lacking is none-drawn) = let_go (replied response) tried lacking is none-drawn
 
   by_miss : Tried setting row missed post → Retries setting.subs row settling draw → Delivers setting row (post ++ (draw ++ settles)) came
   by_miss tried (turning.again drawn dead is draws) =
       delivery.tried missed post (draw ++ settles) tried
       (record { finish = finish.Retry; drawn = drawn; dead = dead; draw = draw; settling = settles; is_finish = refl; draws = draws; settles = subst (λ s. SettlesSo row s came settles) is so; whole = refl })
       refl
-  by_miss tried (turning.lacks is none-drawn) = let_go missed tried is none-drawn
+  by_miss tried (turning.lacks letter is none-drawn) = let_go missed tried (for_letter refl letter) is none-drawn
 
   delivers : (outcome : Outcome Response Miss) → PostsBy setting row outcome post → Settled setting.subs row outcome settling draw → Delivers setting row (post ++ (draw ++ settles)) came
   delivers (outcome.Good response) posts chosen = by_reply response posts chosen
@@ -66,7 +66,7 @@ module _ (setting : Setting) (row : Row) (settling : Settling) (came : Turn) (po
   delivers (outcome.Exhausted count) (inr untold) chosen = delivery.untold count post settles untold (subst (λ s. SettlesSo row s came settles) chosen.0 so) (ap (λ l. post ++ (l ++ settles)) chosen.1)
   delivers outcome.NoMemory (inl none-asked) chosen =
       subst (λ l. Delivers setting row l came) (sym (ap (λ l. l ++ (draw ++ settles)) none-asked ∙ ap (λ l. l ++ settles) chosen.1)) (delivery.unmade (subst (λ s. SettlesSo row s came settles) chosen.0 so))
-  delivers outcome.NoMemory (inr tried) chosen = let_go lacked tried chosen.0 chosen.1
+  delivers outcome.NoMemory (inr tried) chosen = let_go lacked tried (for_call refl) chosen.0 chosen.1
 
 pub none_taken : (setting : Setting) (events : List (Event Own)) (came : Turn) → TakesNone events came → Delivery setting events came
 none_taken setting events came (turning.idle next answered is) = delivery.idle next answered is

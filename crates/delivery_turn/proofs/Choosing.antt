@@ -1,6 +1,6 @@
 -- How a row is settled, by what was heard.
 use Rattle.std.proofs.Common.{◌≡◌, ◌≢◌, ◌<◌, refl, ap, sym, ◌∙◌, arith, ℕ, zero, suc, true, false, List, [], ◌∷◌, length}
-use Rattle.std.specs.Prelude.{Some, None, Result, Ok, Err, IfOk, slice_index_or}
+use Rattle.std.specs.Prelude.{Some, None, Result, Ok, Err, IfErr, IfOk, slice_index_or}
 use lib.ListN.{get_elem?}
 use mathlib.Core.Option.{some}
 use Rattle.rand_core.specs.Stream.{Stream, next_u64}
@@ -27,10 +27,11 @@ use Rattle.policy_run.specs.Event.{Event, word}
 use Rattle.policy_run.specs.Effects.{AreNone, Clocked, Effects, Made}
 use Rattle.policy_run.proofs.Composed.{no_effects}
 use Rattle.delivery_turn.specs.declared.row.Row.{Row}
+use Rattle.delivery_turn.specs.declared.settling.Early.TheVariants as early
 use Rattle.delivery_turn.specs.declared.settling.Settling.{Settling}
-use Rattle.delivery_turn.specs.declared.settling.Settling.TheVariants.{Concluded}
+use Rattle.delivery_turn.specs.declared.settling.Settling.TheVariants.{Concluded, LetGo}
 use Rattle.delivery_turn.specs.Settling.{Own}
-use Rattle.delivery_turn.specs.Posting.{AimsAt, no_text, matches, DeadAims, nowhere, unreadable, matched, again, otherwise, IsJudged, by_number, read, unread, IsSubOf, finish_of}
+use Rattle.delivery_turn.specs.Posting.{AimsAt, no_text, matches, DeadAims, nowhere, unreadable, matched, again, otherwise, IsJudged, by_number, read, unread, IsSubOf, HasLetter, for_body, for_letter, finish_of}
 use Rattle.delivery_turn.specs.Turning.{Judges, Retries}
 use Rattle.delivery_turn.specs.Turning as turning
 use Rattle.delivery_turn.proofs.Shown.{RootLaw, is_event, is_read}
@@ -73,6 +74,9 @@ module _ (subs : List Sub) (row : Row) (sub : Sub) (is_sub : IsSubOf subs row su
   pub dead_nowhere : (aims : List Aim) → sub.dead ≡ None → aims ≡ [] → DeadAims subs row aims
   dead_nowhere aims is none_there = nowhere sub is_sub is none_there
 
+  pub has_letter : (topic : List ℕ) → sub.dead ≡ Some topic → HasLetter subs row
+  has_letter topic is = record { sub = sub; topic = topic; is_sub = is_sub; dead = is }
+
 pub sub_there : (subs : List Sub) (at : ℕ) (sub other : Sub) → at < length subs → sub ≡ slice_index_or subs at other → get_elem? subs at ≡ some sub
 sub_there [] at sub other inside is = absurd (omega (arith, inside))
 sub_there (one ∷ subs) zero sub other inside is = ap some (sym is)
@@ -101,9 +105,17 @@ concluded subs row response v settling is_judged is other = turning.judged v 0 [
 
 pub judged_retry : (subs : List Sub) (row : Row) (response : Response) (settling : Settling) (events : List (Event Own)) → IsJudged response verdict.Retry → Retries subs row settling events → Judges subs row response settling events
 judged_retry subs row response settling events is_judged (turning.again w dead is draws) = turning.judged verdict.Retry w dead is_judged is draws
-judged_retry subs row response settling events is_judged (turning.lacks is none_drawn) = turning.lacks is none_drawn
+judged_retry subs row response settling events is_judged (turning.lacks letter is none_drawn) = turning.lacks (for_letter (verdict.Retry, is_judged, refl) letter) is none_drawn
+
+-- its body was to be read
+pub unread_body : (subs : List Sub) (row : Row) (response : Response) (settling : Settling) → (is_success response.status ≡ true) × (response.body ≢ []) → settling ≡ LetGo early.Held → Judges subs row response settling []
+unread_body subs row response settling wanted is = turning.lacks (for_body response refl wanted.0 wanted.1) is refl
 
 -- ---- carried on
+
+pub each_err : {T E : Type 0} (result : Result T E) (P : E → Type 0) → ((e : E) → P e) → IfErr result P
+each_err (Ok x) P f = tt
+each_err (Err e) P f = f e
 
 pub more_ok : {T E : Type 0} (result : Result T E) (P Q : T → Type 0) → ((x : T) → P x → Q x) → IfOk result P → IfOk result Q
 more_ok (Ok x) P Q f h = f x h

@@ -19,11 +19,11 @@ use Rattle.delivery_turn.specs.Turning as turning
 module _ (subs : List Sub) (row : Row) (settling : Settling) (events : List (Event Own)) where
   judged_within : (response : Response) → Judges subs row response settling events → IsWithinYears settling
   judged_within response (turning.judged v drawn dead is_judged is draws) = subst IsWithinYears (sym is) tt
-  judged_within response (turning.lacks is none_drawn) = subst IsWithinYears (sym is) tt
+  judged_within response (turning.lacks lacking is none_drawn) = subst IsWithinYears (sym is) tt
 
   retried_within : Retries subs row settling events → IsWithinYears settling
   retried_within (turning.again drawn dead is draws) = subst IsWithinYears (sym is) tt
-  retried_within (turning.lacks is none_drawn) = subst IsWithinYears (sym is) tt
+  retried_within (turning.lacks lacking is none_drawn) = subst IsWithinYears (sym is) tt
 
   pub within_years : (came : Outcome Response Miss) → Settled subs row came settling events → ((until : ℕ) → came ≡ outcome.Refused (refusal.Opened until) → until < 253402300800000 + 31536000000) → IsWithinYears settling
   within_years (outcome.Good response) chosen bound = judged_within response chosen
@@ -38,11 +38,11 @@ module _ (subs : List Sub) (row : Row) (settling : Settling) (events : List (Eve
   module _ (count : ℕ) (spent : early_of settling ≡ Some (early.Exhausted count)) where
     judged_unspent : (response : Response) → Judges subs row response settling events → ⊥
     judged_unspent response (turning.judged v drawn dead is_judged is draws) = (let e = ap early_of (sym is) ∙ spent in let bad : ⊥ = cc in bad)
-    judged_unspent response (turning.lacks is none_drawn) = (let e = ap early_of (sym is) ∙ spent in let bad : ⊥ = cc in bad)
+    judged_unspent response (turning.lacks lacking is none_drawn) = (let e = ap early_of (sym is) ∙ spent in let bad : ⊥ = cc in bad)
 
     retried_unspent : Retries subs row settling events → ⊥
     retried_unspent (turning.again drawn dead is draws) = (let e = ap early_of (sym is) ∙ spent in let bad : ⊥ = cc in bad)
-    retried_unspent (turning.lacks is none_drawn) = (let e = ap early_of (sym is) ∙ spent in let bad : ⊥ = cc in bad)
+    retried_unspent (turning.lacks lacking is none_drawn) = (let e = ap early_of (sym is) ∙ spent in let bad : ⊥ = cc in bad)
 
     pub spent_by : (came : Outcome Response Miss) → Settled subs row came settling events → came ≡ outcome.Exhausted count
     spent_by (outcome.Good response) chosen = absurd (judged_unspent response chosen)

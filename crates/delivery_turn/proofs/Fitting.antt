@@ -90,7 +90,7 @@ module _ (setting : Setting) (row : Row) where
   delivers events turn (turns.tried what first rest t c whole) = joined events first rest whole (tried what first t) (concluded what rest turn c)
   delivers events turn (turns.refused h) = postponed events turn h
   delivers events turn (turns.unmade h) = let_go Held events turn h
-  delivers events turn (turns.cut_short what first rest t h whole) = joined events first rest whole (tried what first t) (let_go Held rest turn h)
+  delivers events turn (turns.cut_short what first rest t m h whole) = joined events first rest whole (tried what first t) (let_go Held rest turn h)
   delivers events turn (turns.unasked count first rest u h whole) = joined events first rest whole (stuck first u.1) (let_go (Exhausted count) rest turn h)
   delivers events turn (turns.untold count first rest u h whole) = joined events first rest whole (untold first u) (let_go (Exhausted count) rest turn h)
 

@@ -165,7 +165,7 @@ module _ (setting : Setting) (row : Row) (turn : Turn) where
   delivers events (turns.tried what first rest t c e) = served setting row turn events first rest e (tried_part setting row what turn first t) (concluded setting row what rest turn c)
   delivers events (turns.refused h) = postponed_part events h
   delivers events (turns.unmade h) = served setting row turn events [] events refl (nothing refl) (let_go Held events h)
-  delivers events (turns.cut_short what first rest t h e) = served setting row turn events first rest e (tried_part setting row what turn first t) (let_go Held rest h)
+  delivers events (turns.cut_short what first rest t m h e) = served setting row turn events first rest e (tried_part setting row what turn first t) (let_go Held rest h)
   delivers events (turns.unasked count first rest u h e) = served setting row turn events first rest e (nothing (stuck first u.1)) (let_go (Exhausted count) rest h)
   delivers events (turns.untold count first rest u h e) = let shown = spent count rest h in served setting row turn events first rest e (untold_part setting row shown.0 turn first shown.1 u) (let_go (Exhausted count) rest h)
 

@@ -15,7 +15,7 @@ use Rattle.policy_run.specs.Turn.{Asks, LetsThrough, IsReported, reply_of}
 use Rattle.delivery_turn.specs.declared.ending.Turn.{Turn}
 use Rattle.delivery_turn.specs.declared.ending.Turn.TheVariants.{Idle, Held, Exhausted}
 use Rattle.delivery_turn.specs.Settling.{Own, Answered, Stuck, Row, Settles, LetsGo, postponed}
-use Rattle.delivery_turn.specs.Posting.{Heard, heard, is_good, Posts, IsFinish, Draws}
+use Rattle.delivery_turn.specs.Posting.{Heard, heard, is_good, Posts, IsFinish, MayLack, Draws}
 
 -- what a turn stands on: the app's port, the subscriptions, and what is bound to deliveries of the ledger's component
 pub record Setting : Type 0 where
@@ -89,8 +89,8 @@ pub data Delivers (setting : Setting) (row : Row) (events : List (Event Own)) (t
   refused : Postponed setting row events turn → Delivers setting row events turn
   -- there is no memory for the request, which is made before the breaker is asked
   unmade : LetsGo row Held events turn → Delivers setting row events turn
-  -- there is none for the link, to read the reply, or to make the settling
-  cut_short : (what : Heard) (first rest : List (Event Own)) → Tried setting row what first → LetsGo row Held rest turn → events ≡ first ++ rest → Delivers setting row events turn
+  -- there is none for the link, for the reply's body, or for the dead letter; where none of these was wanted, the row is settled by what was heard
+  cut_short : (what : Heard) (first rest : List (Event Own)) → Tried setting row what first → MayLack setting.subs row what → LetsGo row Held rest turn → events ≡ first ++ rest → Delivers setting row events turn
   -- the breaker's cell is exhausted as it is to be asked, or to be told
   unasked : (count : ℕ) (first rest : List (Event Own)) → Unheard setting first → LetsGo row (Exhausted count) rest turn → events ≡ first ++ rest → Delivers setting row events turn
   untold : (count : ℕ) (first rest : List (Event Own)) → Untold setting row first → LetsGo row (Exhausted count) rest turn → events ≡ first ++ rest → Delivers setting row events turn

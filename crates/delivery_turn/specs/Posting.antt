@@ -106,6 +106,19 @@ pub data DeadAims (subs : List Sub) (row : Row) (aims : List Aim) : Type 0 where
   matched : (sub : Sub) (topic : List ℕ) (values : Forest) → IsSubOf subs row sub → sub.dead ≡ Some topic → IsRead row.event values → aims ≡ aims_at subs row sub topic values
       → DeadAims subs row aims
 
+-- the subscription of the row has a dead-letter topic
+pub record HasLetter (subs : List Sub) (row : Row) : Type 0 where
+  pub sub : Sub
+  pub topic : List ℕ
+  pub is_sub : IsSubOf subs row sub
+  pub dead : sub.dead ≡ Some topic
+
+-- Where memory is wanted once the app was asked: by the link, for the JSON text of a body that counts, and for the aims of a dead letter. Nothing else that is heard asks for any
+pub data MayLack (subs : List Sub) (row : Row) (what : Heard) : Type 0 where
+  for_call : what ≡ lacked → MayLack subs row what
+  for_body : (response : Response) → what ≡ replied response → is_success response.status ≡ true → response.body ≢ [] → MayLack subs row what
+  for_letter : IsFinish what finish.Retry → HasLetter subs row → MayLack subs row what
+
 -- What a settling draws and names: a random word, and the aims of the dead letter, exactly where it is `Retry`
 pub data Draws (subs : List Sub) (row : Row) (ends : Finish) (drawn : ℕ) (aims : List Aim) (events : List (Event Own)) : Type 0 where
   again : ends ≡ finish.Retry → DeadAims subs row aims → events ≡ word drawn ∷ [] → Draws subs row ends drawn aims events

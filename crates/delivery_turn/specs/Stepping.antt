@@ -5,7 +5,7 @@ use Rattle.turn_cell.specs.declared.object.Object.{Ghosts}
 use Rattle.turn_cell.specs.Growth.{Grew}
 use Rattle.turn_cell.specs.Sitting.{Begun, Sitting}
 use Rattle.side_world.specs.declared.link.LinkCall.{LinkCall}
-use Rattle.link_call.specs.LinkAt.{LinkAt, Asks}
+use Rattle.link_call.specs.LinkAt.{LinkAt, Links, Asks}
 use Rattle.ledger_core.specs.declared.ledger.Ledger.{Ledger}
 use Rattle.ledger_core.specs.declared.plan.Plan.{Plan}
 use Rattle.ledger_core.specs.declared.command.LedgerCmd.{LedgerCmd}
@@ -68,6 +68,10 @@ asked_in (asked call) = call ∷ []
 pub record Did (object : LedgerGhosts) (cell : Begun Ledger) (seat seat' : LedgerSeat) (link link' : LinkAt) (owns : List Own) : Type 0 where
   pub steps : Grew object cell.first seat (flat_map entered_in owns) seat'
   pub calls : Asks link (flat_map asked_in owns) link'
+
+-- the same of what the link shows before and after
+abbrev pub DidBy : LedgerGhosts → Begun Ledger → LedgerSeat → LedgerSeat → Links → List Own → Type 0
+DidBy object cell seat seat' link owns = Did object cell seat seat' link.before link.after owns
 
 -- the link alone was asked
 pub record AsksApp (link link' : LinkAt) (owns : List Own) : Type 0 where

@@ -15,7 +15,10 @@ use Rattle.policy_run.specs.declared.outcome.Outcome.{Outcome}
 use Rattle.policy_run.specs.declared.outcome.Outcome.TheVariants as outcome
 use Rattle.policy_run.specs.declared.outcome.Refusal.TheVariants as refusal
 use Rattle.policy_run.specs.Event.{Event}
+use Rattle.breaker_core.specs.Course.{Step as BreakerStep}
+use Rattle.policy_run.specs.Effects.{Made, Times}
 use Rattle.policy_run.specs.Turn.{Asks, reply_of}
+use Rattle.link_call.specs.LinkAt.{Links}
 use Rattle.link_call.specs.declared.miss.Miss.{Miss}
 use Rattle.link_call.specs.declared.miss.Miss.TheVariants as miss
 use Rattle.delivery_turn.specs.declared.deliveries.Deliveries.{Deliveries}
@@ -28,12 +31,17 @@ use Rattle.delivery_turn.specs.declared.taking.Taking.TheVariants as taking
 use Rattle.delivery_turn.specs.declared.ending.Turn.{Turn}
 use Rattle.delivery_turn.specs.declared.ending.Turn.TheVariants as turn
 use Rattle.delivery_turn.specs.Settling.{Own, Answered, Stuck, Row, settle, Settles, LetsGo, postponed, at_once}
-use Rattle.delivery_turn.specs.Posting.{IsJudged, finish_of, Draws, replied, missed, lacked}
-use Rattle.delivery_turn.specs.Delivery.{Setting, guarded, Unheard, Tried, Untold, Takes}
+use Rattle.delivery_turn.specs.Posting.{HasLetter, IsJudged, MayLack, finish_of, Draws, replied, missed, lacked}
+use Rattle.delivery_turn.specs.Delivery.{Setting, guarded, Unheard, Tried, Untold, Takes, Delivery}
+use Rattle.delivery_turn.specs.Stepping.{AsksApp}
 
 -- what a turn stands on
 abbrev pub setting_of : Deliveries → Setting
 setting_of d = record { port = d.port; subs = d.subs.now; bound = d.bound.now }
+
+-- there are events that are a turn which came to this, and which had these effects
+abbrev pub DeliversBy : Setting → Turn → (List Own → Type 0) → (List BreakerStep → Type 0) → Times → (List ℕ → Type 0) → Type 0
+DeliversBy setting came did held clock drawn = Made (λ events. Delivery setting events came) did held clock drawn
 
 -- ---- taking
 
@@ -68,17 +76,21 @@ PostsBy setting row (outcome.Refused why) events = (guarded setting ≡ true) ×
 PostsBy setting row (outcome.Exhausted count) events = Unheard setting events ⊎ Untold setting row events
 PostsBy setting row outcome.NoMemory events = (events ≡ []) ⊎ Tried setting row lacked events
 
+-- there are events by which a post came to this, and which had these effects; of its own it asked the link alone
+abbrev pub PostedBy : Setting → Row → Outcome Response Miss → Links → (List BreakerStep → Type 0) → Times → (List ℕ → Type 0) → Type 0
+PostedBy setting row came link held clock drawn = Made (λ events. PostsBy setting row came events) (AsksApp link.before link.after) held clock drawn
+
 -- ---- choosing
 
--- a reply gives a verdict, by which the row is settled; or there is no memory
+-- a reply gives a verdict, by which the row is settled; or some memory was wanted, and there is none
 pub data Judges (subs : List Sub) (row : Row) (response : Response) (settling : Settling) (events : List (Event Own)) : Type 0 where
   judged : (v : Verdict) (drawn : ℕ) (dead : List Aim) → IsJudged response v → settling ≡ Concluded (finish_of v) drawn dead → Draws subs row (finish_of v) drawn dead events → Judges subs row response settling events
-  lacks : settling ≡ LetGo early.Held → events ≡ [] → Judges subs row response settling events
+  lacks : MayLack subs row (replied response) → settling ≡ LetGo early.Held → events ≡ [] → Judges subs row response settling events
 
--- without a reply it is delivered again
+-- without a reply it is delivered again; there may be no memory for the dead letter
 pub data Retries (subs : List Sub) (row : Row) (settling : Settling) (events : List (Event Own)) : Type 0 where
   again : (drawn : ℕ) (dead : List Aim) → settling ≡ Concluded finish.Retry drawn dead → Draws subs row finish.Retry drawn dead events → Retries subs row settling events
-  lacks : settling ≡ LetGo early.Held → events ≡ [] → Retries subs row settling events
+  lacks : HasLetter subs row → settling ≡ LetGo early.Held → events ≡ [] → Retries subs row settling events
 
 -- how a row is settled by what its post came to
 abbrev pub Settled : List Sub → Row → Outcome Response Miss → Settling → List (Event Own) → Type 0

@@ -1,9 +1,9 @@
 //! How a delivery is settled, by what was heard of the app.
-ghost use Rattle.std.specs.Prelude.{◌≡◌, ◌≢◌, ◌<◌, [], true, false, length, IfOk, IsOk};
+ghost use Rattle.std.specs.Prelude.{◌≡◌, ◌≢◌, ◌<◌, [], true, length, IfErr, IfOk};
 ghost use Rattle.cloud_events.specs.Verdict.{is_good};
 ghost use Rattle.ledger_core.specs.Aims.{AreAims};
 ghost use Rattle.policy_run.specs.Effects.{AreNone, Clocked, Draws as DrawsWords, Made};
-ghost use Rattle.delivery_turn.specs.Posting.{AimsAt, DeadAims, IsJudged};
+ghost use Rattle.delivery_turn.specs.Posting.{AimsAt, DeadAims, HasLetter, IsJudged};
 ghost use Rattle.delivery_turn.specs.Turning.{AreSettlingAims, Judges, Retries, Settled};
 
 use crate::Deliveries;
@@ -70,7 +70,7 @@ fn by_reply<R: Rng>(what: &Deliveries<'_>, row: &Row, response: &Response, rng: 
 /// The verdict on a reply. Outside 200 to 299, and where it is empty, its body isn't read.
 fn judged(alloc: Global, response: &Response) -> Result<Verdict, NoMemory>
     ensures judged { IfOk result (IsJudged response.now) }
-    ensures unread { is_good response.now.status ≡ false → IsOk result }
+    ensures lacks { IfErr result (λ e. (is_good response.now.status ≡ true) × (response.now.body ≢ [])) }
 {
     if !is_good(response.status) {
         return Ok(verdict(response.status, None));
@@ -135,6 +135,7 @@ fn dead_aims(what: &Deliveries<'_>, row: &Row) -> Result<Aims, NoMemory>
     requires { row.now.sub < length what.now.subs.now }
     ensures aims { IfOk result (DeadAims what.now.subs.now row.now) }
     ensures given { IfOk result (AreAims (length what.now.subs.now)) }
+    ensures lacks { IfErr result (λ e. HasLetter what.now.subs.now row.now) }
 {
     let sub = what.subs.at(row.sub as usize);
     match &sub.dead {

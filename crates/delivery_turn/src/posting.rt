@@ -2,11 +2,10 @@
 ghost use Rattle.std.specs.Prelude.{◌≡◌, ◌<◌, ◌+◌, ◌∷◌, [], ℕ, codes, is_some, IfOk};
 ghost use Rattle.retry_core.specs.Bound.{IsWithinLimit};
 ghost use Rattle.policy_run.specs.declared.outcome.Refusal.TheVariants as why;
-ghost use Rattle.policy_run.specs.Effects.{Draws as DrawsWords, Made, Runs, times};
-ghost use Rattle.link_call.specs.LinkAt.{link_at};
+ghost use Rattle.policy_run.specs.Effects.{Draws, Runs, times};
+ghost use Rattle.link_call.specs.LinkAt.{links};
 ghost use Rattle.delivery_turn.specs.Posting.{request_of};
-ghost use Rattle.delivery_turn.specs.Stepping.{AsksApp};
-ghost use Rattle.delivery_turn.specs.Turning.{PostsBy, once, setting_of};
+ghost use Rattle.delivery_turn.specs.Turning.{PostedBy, once, setting_of};
 
 use crate::Deliveries;
 use crate::row::Row;
@@ -32,7 +31,7 @@ pub(crate) fn post<L: Link, G: Guard, C: Clock, R: Rng, W: Wait>(
     requires limits { IsWithinLimit what.now.bound.now }
     requires breaker { G.there guard.old ≡ is_some what.now.bound.now.breaker }
     requires guard { G.ready guard.old }
-    ensures posts { Made (λ events. PostsBy (setting_of what.now) row.now result events) (AsksApp (link_at L.Link link.old) (link_at L.Link link.new)) (Runs G.held guard.old guard.new) (times C.Clock clock.old clock.new) (DrawsWords R.stream rng.old rng.new) }
+    ensures posts { PostedBy (setting_of what.now) row.now result (links L.Link link.old link.new) (Runs G.held guard.old guard.new) (times C.Clock clock.old clock.new) (Draws R.stream rng.old rng.new) }
     ensures there { G.there guard.new ≡ G.there guard.old }
     ensures shows { (count : ℕ) → result ≡ Outcome.Exhausted count → G.shows guard.new count }
     ensures until { (until : ℕ) → result ≡ Outcome.Refused (why.Opened until) → until < 253402300800000 + 31536000000 }

@@ -3,12 +3,11 @@ ghost use Rattle.std.specs.Prelude.{◌≡◌, ◌⊎◌, ℕ, Some, is_some, le
 ghost use Rattle.turn_cell.specs.Sitting.{IsSeatOf};
 ghost use Rattle.retry_core.specs.Bound.{IsWithinLimit};
 ghost use Rattle.ledger_core.specs.Ledger.{plans_of};
-ghost use Rattle.policy_run.specs.Effects.{Draws as DrawsWords, Made, Runs, times};
-ghost use Rattle.link_call.specs.LinkAt.{link_at};
+ghost use Rattle.policy_run.specs.Effects.{Draws, Runs, times};
+ghost use Rattle.link_call.specs.LinkAt.{links};
 ghost use Rattle.delivery_turn.specs.declared.ending.Turn.TheVariants as ended;
-ghost use Rattle.delivery_turn.specs.Delivery.{Delivery};
-ghost use Rattle.delivery_turn.specs.Stepping.{Did};
-ghost use Rattle.delivery_turn.specs.Turning.{setting_of};
+ghost use Rattle.delivery_turn.specs.Stepping.{DidBy};
+ghost use Rattle.delivery_turn.specs.Turning.{DeliversBy, setting_of};
 
 use crate::judging::settling_of;
 use crate::posting::post;
@@ -42,7 +41,8 @@ pub fn turn<L: Link, G: Guard, C: Clock, R: Rng, W: Wait>(
     requires limits { IsWithinLimit what.now.bound.now }
     requires breaker { G.there guard.old ≡ is_some what.now.bound.now.breaker }
     requires guard { G.ready guard.old }
-    ensures delivers { Made (λ events. Delivery (setting_of what.now) events result) (Did ⟦<Ledger as Object>⟧ cell.now seat.old seat.new (link_at L.Link link.old) (link_at L.Link link.new)) (Runs G.held guard.old guard.new) (times C.Clock clock.old clock.new) (DrawsWords R.stream rng.old rng.new) }
+    ensures delivers { DeliversBy (setting_of what.now) result (DidBy ⟦<Ledger as Object>⟧ cell.now seat.old seat.new (links L.Link link.old link.new))
+        (Runs G.held guard.old guard.new) (times C.Clock clock.old clock.new) (Draws R.stream rng.old rng.new) }
     ensures there { G.there guard.new ≡ G.there guard.old }
     ensures shows { (count : ℕ) → result ≡ ended.Exhausted count → G.shows guard.new count ⊎ (seat.new.count ≡ Some count) }
 {

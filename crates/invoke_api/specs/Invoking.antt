@@ -1,5 +1,5 @@
 -- A call of a method of an app: of the own one, or of another one at its sidecar.
-use Rattle.std.specs.Prelude.{◌≡◌, ◌≢◌, ℕ, List, ◌++◌, codes, Option, None, Result, Ok, Err}
+use Rattle.std.specs.Prelude.{◌≡◌, ◌≢◌, ℕ, List, ◌++◌, codes, None, Result, Err}
 use Rattle.side_base.specs.declared.message.LinkRequest.{LinkRequest}
 use Rattle.side_base.specs.declared.message.Request.{Request}
 use Rattle.side_base.specs.declared.message.Response.{Response}
@@ -23,7 +23,7 @@ use Rattle.side_world.specs.declared.link.LinkCall.{LinkCall}
 use Rattle.invoke_api.specs.declared.placing.Place.{Place}
 use Rattle.invoke_api.specs.declared.placing.Unplaced.{Unplaced}
 use Rattle.invoke_api.specs.declared.placing.Unplaced.TheVariants as unplaced
-use Rattle.invoke_api.specs.Places.{Apps, IsPlace, request_at}
+use Rattle.invoke_api.specs.Places.{Apps, Call, IsPlace, request_at}
 
 -- an error of this route
 abbrev pub not_invoked : List ℕ → Response
@@ -63,5 +63,5 @@ pub data Invokes {E : Type 0} (ran : LinkRequest → List E → Outcome Response
   called : (place : Place) → IsPlace apps id rest place → Invoked ran (request_at place request) events reply → Invokes ran apps request id rest events reply
 
 -- the same by calls of a link, under what is bound to the app
-abbrev pub InvokesBy : Bound → Apps → Request → List ℕ → List ℕ → Result Response ApiErr → Links → Times → List (Event LinkCall) → Type 0
-InvokesBy bound apps request id rest reply link clock events = Invokes (Came bound link.before link.after clock) apps request id rest events reply
+abbrev pub InvokesBy : Bound → Call → Result Response ApiErr → Links → Times → List (Event LinkCall) → Type 0
+InvokesBy bound call reply link clock events = Invokes (Came bound link.before link.after clock) call.apps call.request call.id call.rest events reply

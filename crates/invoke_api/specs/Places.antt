@@ -19,6 +19,16 @@ pub record Apps : Type 0 where
 abbrev pub apps_of : Peers → Apps
 apps_of peers = record { own = peers.app.now; port = peers.app_port; peers = peers.others.now }
 
+-- what is called: the method of an app, by a request; `rest` is the target from the method's name on
+pub record Call : Type 0 where
+  pub apps : Apps
+  pub request : Request
+  pub id : List ℕ
+  pub rest : List ℕ
+
+abbrev pub call_of : Peers → Request → List ℕ → List ℕ → Call
+call_of peers request id rest = record { apps = apps_of peers; request = request; id = id; rest = rest }
+
 -- the own app listens on 127.0.0.1; `rest` is the target from the method's name on
 abbrev pub own_place : ℕ → List ℕ → Place
 own_place port rest = record { host = codes "127.0.0.1"; port = port; target = codes "/" ++ rest }

@@ -5,7 +5,7 @@ ghost use Rattle.policy_run.specs.Effects.{Draws, Runs, times};
 ghost use Rattle.link_call.specs.Came.{Calls};
 ghost use Rattle.link_call.specs.LinkAt.{links};
 ghost use Rattle.invoke_api.specs.Invoking.{InvokesBy};
-ghost use Rattle.invoke_api.specs.Places.{apps_of};
+ghost use Rattle.invoke_api.specs.Places.{call_of};
 
 use crate::Peers;
 use crate::placing::request_for;
@@ -41,7 +41,8 @@ pub fn invoke<L: Link, G: Guard, C: Clock, R: Rng, W: Wait>(
     requires limits { IsWithinLimit bound.now }
     requires breaker { G.there guard.old ≡ is_some bound.now.breaker }
     requires guard { G.ready guard.old }
-    ensures invokes { Calls (InvokesBy bound.now (apps_of peers.entry) request.now app.now rest.now result) (links L.Link link.old link.new) (Runs G.held guard.old guard.new) (times C.Clock clock.old clock.new) (Draws R.stream rng.old rng.new) }
+    ensures invokes { Calls (InvokesBy bound.now (call_of peers.entry request.now app.now rest.now) result)
+        (links L.Link link.old link.new) (Runs G.held guard.old guard.new) (times C.Clock clock.old clock.new) (Draws R.stream rng.old rng.new) }
     ensures there { G.there guard.new ≡ G.there guard.old }
     ensures shows { (count : ℕ) → result ≡ Err (error.Exhausted count) → G.shows guard.new count }
     ensures status { IfOk result (λ response. (200 ≤ response.status) × (response.status ≤ 599)) }

@@ -1,5 +1,5 @@
 -- What is done and answered, carried from one function to the next.
-use Rattle.std.proofs.Common.{◌≡◌, ℕ, List, [], Some, Result, Ok, Err, inl, inr, subst, ap, refl}
+use Rattle.std.proofs.Common.{◌≡◌, ◌⊎◌, ℕ, List, [], Some, Result, Ok, Err, inl, inr, sym, subst, ap, refl}
 use Rattle.side_base.specs.declared.message.Request.{Request}
 use Rattle.side_base.specs.declared.message.Response.{Response}
 use Rattle.turn_cell.specs.declared.error.ApiErr.{ApiErr}
@@ -13,6 +13,7 @@ use Rattle.state_api.specs.declared.what.StateErr.{StateErr}
 use Rattle.state_api.specs.declared.what.StateErr.TheVariants as fault
 use Rattle.state_api.specs.Given.{Tells}
 use Rattle.state_api.specs.Asked.{Asks, IsState}
+use Rattle.state_api.specs.Response.{done}
 use Rattle.meta_api.specs.declared.command.NotesReply.{NotesReply}
 use Rattle.meta_api.specs.declared.command.NotesReply.TheVariants as told
 use Rattle.meta_api.specs.Body.{IsPutReply, put_response}
@@ -20,9 +21,10 @@ use Rattle.sidecar_core.specs.declared.config.Config.{Config}
 use Rattle.sidecar_objects.specs.declared.doing.Doing.{Doing}
 use Rattle.sidecar_core.specs.Site.{Site}
 use Rattle.sidecar_objects.specs.Kind.{SeatsAt}
-use Rattle.link_call.specs.Came.{IsOr}
+use Rattle.link_call.specs.Came.{Gives, IsOr}
 use Rattle.sidecar_core.specs.Exchange.{Answered, AtSite, AtStore, FaultGives, PutReplies, store_in}
 use Rattle.sidecar_core.specs.Exchange as exchange
+use Rattle.sidecar_core.specs.Responses.{not_yet}
 use Rattle.sidecar_core.specs.Shown.{RouteShows, StoreShows}
 
 -- a response, or the want of memory for it, is no exhausted cell
@@ -48,7 +50,28 @@ has_store route.Metadata name is = absurd (cc)
 has_store (route.SetMetadata other) name is = absurd (cc)
 has_store route.Shutdown name is = absurd (cc)
 
+-- one of the routes of the state API, with this store
+pub names_store : (asked : Route) (store : List ℕ) → (asked ≡ route.Save store) ⊎ (((key : List ℕ) × (asked ≡ route.Get store key)) ⊎ (((key : List ℕ) × (asked ≡ route.Delete store key)) ⊎ ((asked ≡ route.Bulk store) ⊎ (asked ≡ route.Transact store))))
+    → store_in asked ≡ Some store
+names_store asked store (inl is) = ap store_in is
+names_store asked store (inr (inl of)) = ap store_in of.1
+names_store asked store (inr (inr (inl of))) = ap store_in of.1
+names_store asked store (inr (inr (inr (inl is)))) = ap store_in is
+names_store asked store (inr (inr (inr (inr is)))) = ap store_in is
+
 module _ (config : Config) (request : Request) (events : List Doing) (reply : Result Response ApiErr) where
+  -- one of the routes of actors
+  pub actors_answered : (asked : Route) → ((actor : List ℕ) × (id : List ℕ) × (asked ≡ route.ActorCall actor id)) ⊎ (((actor : List ℕ) × (id : List ℕ) × (key : List ℕ) × (asked ≡ route.ActorGet actor id key)) ⊎ ((actor : List ℕ) × (id : List ℕ) × (asked ≡ route.ActorChange actor id)))
+      → Gives not_yet events reply → Answered config request (Ok asked) events reply
+  actors_answered asked (inl of) gives = subst (λ a. Answered config request (Ok a) events reply) (sym of.2) gives
+  actors_answered asked (inr (inl of)) gives = subst (λ a. Answered config request (Ok a) events reply) (sym of.3) gives
+  actors_answered asked (inr (inr of)) gives = subst (λ a. Answered config request (Ok a) events reply) (sym of.2) gives
+
+  -- one of those that are answered at once
+  pub done_answered : (asked : Route) → (asked ≡ route.Health) ⊎ (asked ≡ route.Shutdown) → Gives done events reply → Answered config request (Ok asked) events reply
+  done_answered asked (inl is) gives = subst (λ a. Answered config request (Ok a) events reply) (sym is) gives
+  done_answered asked (inr is) gives = subst (λ a. Answered config request (Ok a) events reply) (sym is) gives
+
   of_name : (asked : Route) (name s : List ℕ) → Some s ≡ Some name → AtStore config request asked name events reply → AtStore config request asked s events reply
   of_name asked name s is at = let same : name ≡ s = cc in subst (λ n. AtStore config request asked n events reply) same at
 

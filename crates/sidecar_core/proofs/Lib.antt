@@ -4,7 +4,10 @@ mod Booked
 mod Closed
 mod Doings
 mod Gathered
+mod Linked
 mod Moved
+mod Over
+mod Requested
 mod Rooted
 mod Routed
 mod Statuses

@@ -1,12 +1,11 @@
 -- The status of each response is from 100 to 999.
-use Rattle.std.proofs.Common.{◌≡◌, ℕ, List, Result, Ok, Err, inl, inr, sym, subst, arith}
+use Rattle.std.proofs.Common.{◌≡◌, ◌≤◌, ℕ, List, Result, Ok, Err, inl, inr, sym, subst, arith}
 use Rattle.std.specs.Prelude.{IfOk}
 use Rattle.http.specs.StatusCode.{IsStatusCode}
 use Rattle.side_base.specs.declared.message.Request.{Request}
 use Rattle.side_base.specs.declared.message.Response.{Response}
 use Rattle.turn_cell.specs.declared.error.ApiErr.{ApiErr}
 use Rattle.api_routes.specs.declared.route.Route.{Route}
-use Rattle.api_routes.specs.declared.route.Route.TheVariants as route
 use Rattle.api_routes.specs.declared.route.RouteErr.{RouteErr}
 use Rattle.api_routes.specs.declared.route.RouteErr.TheVariants.{NotFound, MethodNotAllowed, BadEscape, NoMemory}
 use Rattle.state_core.specs.declared.command.Cmd.{Cmd}
@@ -15,13 +14,14 @@ use Rattle.state_core.specs.declared.reply.Reply.TheVariants as reply
 use Rattle.state_api.specs.declared.running.Ran.{Ran}
 use Rattle.state_api.specs.declared.running.Ran.TheVariants.{Replied, Refused}
 use Rattle.state_api.specs.Response.{response_to, response_of}
+use Rattle.meta_api.specs.declared.command.NotesCmd.TheVariants as ask
 use Rattle.meta_api.specs.declared.command.NotesReply.{NotesReply}
 use Rattle.meta_api.specs.declared.command.NotesReply.TheVariants as told
 use Rattle.sidecar_core.specs.declared.config.Config.{Config}
 use Rattle.sidecar_core.specs.Site.{Site}
 use Rattle.sidecar_objects.specs.declared.doing.Doing.{Doing}
 use Rattle.link_call.specs.Came.{IsOr}
-use Rattle.sidecar_core.specs.Exchange.{Answered, AtSite, AtStore, ListReplies, NotesReplies, PutReplies, Replies, SetsNote}
+use Rattle.sidecar_core.specs.Exchange.{Answered, AtNotes, AtSite, AtStore, ListReplies, NotesReplies, PutReplies, Replies, SetsNote}
 use Rattle.sidecar_core.specs.Exchange as exchange
 
 of_two : (given response : Response) → IsStatusCode given.status → IsOr given (Ok response) → IsStatusCode response.status
@@ -84,28 +84,38 @@ fine_set name value events response (exchange.lacks none-there) = no_response re
 fine_set name value events response (exchange.refused not-text gives) = of_two _ response (omega arith, omega arith) gives.1
 fine_set name value events response (exchange.noted text at) = fine_ran PutReplies at.ran response (λ answer. fine_put answer response) at.says
 
-fine_answered : (config : Config) (request : Request) (routed : Result Route RouteErr) (events : List Doing) (response : Response) → Answered config request routed events (Ok response) → IsStatusCode response.status
-fine_answered config request (Ok (route.Save store)) events response at = fine_store config request (route.Save store) store events response at
-fine_answered config request (Ok (route.Get store key)) events response at = fine_store config request (route.Get store key) store events response at
-fine_answered config request (Ok (route.Delete store key)) events response at = fine_store config request (route.Delete store key) store events response at
-fine_answered config request (Ok (route.Bulk store)) events response at = fine_store config request (route.Bulk store) store events response at
-fine_answered config request (Ok (route.Transact store)) events response at = fine_store config request (route.Transact store) store events response at
-fine_answered config request (Ok (route.Invoke app rest)) events response at = of_two _ response (omega arith, omega arith) at.1
-fine_answered config request (Ok (route.Publish pubsub topic)) events response at = of_two _ response (omega arith, omega arith) at.1
-fine_answered config request (Ok (route.Binding name)) events response at = of_two _ response (omega arith, omega arith) at.1
-fine_answered config request (Ok (route.ActorCall actor id)) events response at = of_two _ response (omega arith, omega arith) at.1
-fine_answered config request (Ok (route.ActorGet actor id key)) events response at = of_two _ response (omega arith, omega arith) at.1
-fine_answered config request (Ok (route.ActorChange actor id)) events response at = of_two _ response (omega arith, omega arith) at.1
-fine_answered config request (Ok route.Health) events response at = of_two _ response (omega arith, omega arith) at.1
-fine_answered config request (Ok route.Metadata) events response at = fine_ran (ListReplies config) at.ran response (λ answer. fine_list config answer response) at.says
-fine_answered config request (Ok (route.SetMetadata name)) events response at = fine_set name request.body events response at
-fine_answered config request (Ok route.Shutdown) events response at = of_two _ response (omega arith, omega arith) at.1
-fine_answered config request (Err NotFound) events response at = of_two _ response (omega arith, omega arith) at.1
-fine_answered config request (Err (MethodNotAllowed allow)) events response at = of_two _ response (omega arith, omega arith) at.1
-fine_answered config request (Err (BadEscape place)) events response at = of_two _ response (omega arith, omega arith) at.1
-fine_answered config request (Err NoMemory) events response at = no_response response _ at.1
+-- ---- of what is answered
 
--- of what is answered to a request
-pub fine_reply : (config : Config) (request : Request) (routed : Result Route RouteErr) (events : List Doing) (answer : Result Response ApiErr) → Answered config request routed events answer → IfOk answer (λ response. IsStatusCode response.status)
-fine_reply config request routed events (Ok response) at = fine_answered config request routed events response at
-fine_reply config request routed events (Err e) at = tt
+pub fine_given : (given : Response) (answer : Result Response ApiErr) → IsStatusCode given.status → IsOr given answer → IfOk answer (λ response. IsStatusCode response.status)
+fine_given given (Ok response) fine says = of_two given response fine says
+fine_given given (Err e) fine says = tt
+
+pub fine_at_store : (config : Config) (request : Request) (asked : Route) (name : List ℕ) (events : List Doing) (answer : Result Response ApiErr) → AtStore config request asked name events answer → IfOk answer (λ response. IsStatusCode response.status)
+fine_at_store config request asked name events (Ok response) at = fine_store config request asked name events response at
+fine_at_store config request asked name events (Err e) at = tt
+
+pub fine_at_list : (config : Config) (events : List Doing) (answer : Result Response ApiErr) → AtNotes ask.List (ListReplies config) events answer → IfOk answer (λ response. IsStatusCode response.status)
+fine_at_list config events (Ok response) at = fine_ran (ListReplies config) at.ran response (λ said. fine_list config said response) at.says
+fine_at_list config events (Err e) at = tt
+
+pub fine_at_set : (name value : List ℕ) (events : List Doing) (answer : Result Response ApiErr) → SetsNote name value events answer → IfOk answer (λ response. IsStatusCode response.status)
+fine_at_set name value events (Ok response) at = fine_set name value events response at
+fine_at_set name value events (Err e) at = tt
+
+-- those of calls and of messages
+pub given_between : (given : Response) (answer : Result Response ApiErr) → (200 ≤ given.status) × (given.status ≤ 599) → IsOr given answer → IfOk answer (λ response. (200 ≤ response.status) × (response.status ≤ 599))
+given_between given (Ok response) low (inl is) = let same : response ≡ given = cc in subst (λ (r : Response). (200 ≤ r.status) × (r.status ≤ 599)) (sym same) low
+given_between given (Ok response) low (inr is) = absurd (cc)
+given_between given (Err e) low says = tt
+
+pub fine_between : (answer : Result Response ApiErr) → IfOk answer (λ response. (200 ≤ response.status) × (response.status ≤ 599)) → IfOk answer (λ response. IsStatusCode response.status)
+fine_between (Ok response) low = (omega (arith, low.0), omega (arith, low.1))
+fine_between (Err e) low = tt
+
+-- of a request without a route
+pub fine_refusal : (config : Config) (request : Request) (e : RouteErr) (events : List Doing) (answer : Result Response ApiErr) → Answered config request (Err e) events answer → IfOk answer (λ response. IsStatusCode response.status)
+fine_refusal config request NotFound events answer at = fine_given _ answer (omega arith, omega arith) at.1
+fine_refusal config request (MethodNotAllowed allow) events answer at = fine_given _ answer (omega arith, omega arith) at.1
+fine_refusal config request (BadEscape place) events answer at = fine_given _ answer (omega arith, omega arith) at.1
+fine_refusal config request NoMemory events (Ok response) at = no_response response _ at.1
+fine_refusal config request NoMemory events (Err e) at = tt

@@ -14,6 +14,7 @@ use Rattle.state_api.specs.declared.running.Ran.{Ran}
 use Rattle.meta_api.specs.declared.command.NotesCmd.{NotesCmd}
 use Rattle.meta_api.specs.declared.command.NotesReply.{NotesReply}
 use Rattle.meta_api.specs.declared.command.NotesReply.TheVariants as told
+use Rattle.resource_spec.specs.Component.{Loaded}
 use Rattle.sidecar_core.specs.declared.config.Config.{Config}
 use Rattle.sidecar_core.specs.Site.{Site}
 use Rattle.sidecar_objects.specs.declared.doing.Doing.{Doing}
@@ -22,6 +23,7 @@ use Rattle.sidecar_objects.specs.Did.{Standing, Did}
 use Rattle.sidecar_objects.specs.Passes.{IsPassOf}
 use Rattle.sidecar_objects.specs.Composed.{did_nothing, did_on, pass_stays}
 use Rattle.link_call.specs.Came.{Gives}
+use Rattle.sidecar_core.specs.Called.{AtApp, AtBinding, AtBroker, AtLedger, AtService, Says, broker, known, no_broker, unknown_name}
 use Rattle.sidecar_core.specs.Exchange.{Answered, AtNotes, AtSite, AtStore, Exchange, ListReplies, NotesReplies, PutReplies, Replies, SetsNote, lacks, refused, called, unknown, found, noted}
 
 -- which borrows a desk holds
@@ -110,15 +112,39 @@ set_unsaid name value events response (lacks none-there) = lacks (none-there.0, 
 set_unsaid name value events response (refused not-text gives) = refused not-text (gives_unsaid _ events response gives)
 set_unsaid name value events response (noted text at) = noted text (notes_unsaid _ PutReplies events response (λ answer. put_unsaid answer response) at)
 
+says_unsaid : (answer : Result Response ApiErr) (response : Response) → Says answer (Ok response) → Says answer no_room
+says_unsaid (Ok given) response says = inr refl
+says_unsaid (Err e) response says = absurd (subst is_ok says tt)
+
+app_unsaid : (config : Config) (request : Request) (id rest : List ℕ) (events : List Doing) (response : Response) → AtApp config request id rest events (Ok response) → AtApp config request id rest events no_room
+app_unsaid config request id rest events response at = record { attempts = at.attempts; answer = at.answer; invokes = at.invokes; whole = at.whole; says = says_unsaid at.answer response at.says }
+
+service_unsaid : (config : Config) (request : Request) (name : List ℕ) (component : Loaded) (events : List Doing) (response : Response) → AtService config request name component events (Ok response)
+    → AtService config request name component events no_room
+service_unsaid config request name component events response at = record { attempts = at.attempts; answer = at.answer; binds = at.binds; whole = at.whole; says = says_unsaid at.answer response at.says }
+
+binding_unsaid : (config : Config) (request : Request) (name : List ℕ) (events : List Doing) (response : Response) → AtBinding config request name events (Ok response) → AtBinding config request name events no_room
+binding_unsaid config request name events response (unknown_name is gives) = unknown_name is (gives_unsaid _ events response gives)
+binding_unsaid config request name events response (known place component named kind at) = known place component named kind (service_unsaid config request name component events response at)
+
+ledger_unsaid : (config : Config) (request : Request) (component : Loaded) (topic : List ℕ) (ledger : ℕ) (events : List Doing) (response : Response) → AtLedger config request component topic ledger events (Ok response)
+    → AtLedger config request component topic ledger events no_room
+ledger_unsaid config request component topic ledger events response at =
+    record { what = at.what; is = at.is; steps = at.steps; answer = at.answer; publishes = at.publishes; whole = at.whole; says = says_unsaid at.answer response at.says }
+
+broker_unsaid : (config : Config) (request : Request) (name topic : List ℕ) (events : List Doing) (response : Response) → AtBroker config request name topic events (Ok response) → AtBroker config request name topic events no_room
+broker_unsaid config request name topic events response (no_broker is gives) = no_broker is (gives_unsaid _ events response gives)
+broker_unsaid config request name topic events response (broker place component named kind at) = broker place component named kind (ledger_unsaid config request component topic _ events response at)
+
 answered_unsaid : (config : Config) (request : Request) (routed : Result Route RouteErr) (events : List Doing) (response : Response) → Answered config request routed events (Ok response) → Answered config request routed events no_room
 answered_unsaid config request (Ok (route.Save store)) events response at = store_unsaid config request (route.Save store) store events response at
 answered_unsaid config request (Ok (route.Get store key)) events response at = store_unsaid config request (route.Get store key) store events response at
 answered_unsaid config request (Ok (route.Delete store key)) events response at = store_unsaid config request (route.Delete store key) store events response at
 answered_unsaid config request (Ok (route.Bulk store)) events response at = store_unsaid config request (route.Bulk store) store events response at
 answered_unsaid config request (Ok (route.Transact store)) events response at = store_unsaid config request (route.Transact store) store events response at
-answered_unsaid config request (Ok (route.Invoke app rest)) events response at = gives_unsaid _ events response at
-answered_unsaid config request (Ok (route.Publish pubsub topic)) events response at = gives_unsaid _ events response at
-answered_unsaid config request (Ok (route.Binding name)) events response at = gives_unsaid _ events response at
+answered_unsaid config request (Ok (route.Invoke app rest)) events response at = app_unsaid config request app rest events response at
+answered_unsaid config request (Ok (route.Publish pubsub topic)) events response at = broker_unsaid config request pubsub topic events response at
+answered_unsaid config request (Ok (route.Binding name)) events response at = binding_unsaid config request name events response at
 answered_unsaid config request (Ok (route.ActorCall actor id)) events response at = gives_unsaid _ events response at
 answered_unsaid config request (Ok (route.ActorGet actor id key)) events response at = gives_unsaid _ events response at
 answered_unsaid config request (Ok (route.ActorChange actor id)) events response at = gives_unsaid _ events response at

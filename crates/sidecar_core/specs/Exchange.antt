@@ -32,6 +32,7 @@ use Rattle.sidecar_objects.specs.declared.doing.Doing.TheVariants.{Stepped}
 use Rattle.sidecar_objects.specs.declared.doing.SlotStep.TheVariants.{Book}
 use Rattle.link_call.specs.Came.{IsOr, Lacks, Gives}
 use Rattle.sidecar_core.specs.Ran.{StoreRan}
+use Rattle.sidecar_core.specs.Called.{AtApp, AtBinding, AtBroker}
 use Rattle.sidecar_core.specs.Responses.{no_route, not_allowed, bad_escape, not_yet, no_store}
 use Rattle.sidecar_core.specs.Sites.{sites_of, place_named, IsSite, notes_of, sub_notes_of}
 
@@ -122,16 +123,16 @@ pub data SetsNote (name value : List ℕ) (events : List Doing) (reply : Result 
 
 -- ---- all routes
 
--- What a route's request is answered. Calls of apps, messages, requests to output bindings and requests for actors are not served yet
+-- What a route's request is answered. Requests for actors are not served yet
 abbrev pub Answered : Config → Request → Result Route RouteErr → List Doing → Result Response ApiErr → Type 0
 Answered config request (Ok (route.Save store)) events reply = AtStore config request (route.Save store) store events reply
 Answered config request (Ok (route.Get store key)) events reply = AtStore config request (route.Get store key) store events reply
 Answered config request (Ok (route.Delete store key)) events reply = AtStore config request (route.Delete store key) store events reply
 Answered config request (Ok (route.Bulk store)) events reply = AtStore config request (route.Bulk store) store events reply
 Answered config request (Ok (route.Transact store)) events reply = AtStore config request (route.Transact store) store events reply
-Answered config request (Ok (route.Invoke app rest)) events reply = Gives not_yet events reply
-Answered config request (Ok (route.Publish pubsub topic)) events reply = Gives not_yet events reply
-Answered config request (Ok (route.Binding name)) events reply = Gives not_yet events reply
+Answered config request (Ok (route.Invoke app rest)) events reply = AtApp config request app rest events reply
+Answered config request (Ok (route.Publish pubsub topic)) events reply = AtBroker config request pubsub topic events reply
+Answered config request (Ok (route.Binding name)) events reply = AtBinding config request name events reply
 Answered config request (Ok (route.ActorCall actor id)) events reply = Gives not_yet events reply
 Answered config request (Ok (route.ActorGet actor id key)) events reply = Gives not_yet events reply
 Answered config request (Ok (route.ActorChange actor id)) events reply = Gives not_yet events reply

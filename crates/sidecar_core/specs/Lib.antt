@@ -4,6 +4,8 @@ pub mod Site
 pub mod Sites
 pub mod Plans
 pub mod Responses
+pub mod Named
+pub mod Called
 pub mod Exchange
 pub mod Shown
 pub mod Desk

@@ -5,6 +5,7 @@ use Rattle.api_error.specs.declared.code.Code.TheVariants as code
 use Rattle.api_error.specs.Body.{error_response, error_body, json_type}
 use Rattle.api_routes.specs.declared.methods.Methods.{Methods}
 use Rattle.api_routes.specs.Methods.{allow_text}
+use Rattle.bind_api.specs.Binding.{not_bound}
 
 abbrev pub no_route : Response
 no_route = error_response 404 code.NotFound (codes "no route")
@@ -22,6 +23,9 @@ bad_escape at = error_response 400 code.MalformedRequest (codes "escape at " ++ 
 
 abbrev pub not_yet : Response
 not_yet = error_response 400 code.NotYet (codes "not yet")
+
+abbrev pub no_binding : List ℕ → Response
+no_binding name = not_bound (codes "unknown binding " ++ name)
 
 abbrev pub no_store : List ℕ → Response
 no_store name = error_response 400 code.StateStoreNotFound (codes "state store " ++ name ++ codes " is not found")

@@ -8,8 +8,8 @@ ghost use Rattle.sidecar_objects.specs.Pass.{DoesAlone, cells_of, seats_of};
 ghost use Rattle.sidecar_core.specs.Exchange.{AtNotes, ListReplies, NotesRan, PutReplies, SetsNote};
 
 use crate::Shared;
-use crate::given::given;
 use keeper_core::Keeper;
+use link_call::given;
 use meta_api::laws::replies_fit;
 use meta_api::{NoteErr, NotesCmd, NotesReply, metadata, put_command, put_response};
 use side_base::{Response, Text};

@@ -1,23 +1,26 @@
-ghost use Rattle.std.specs.Prelude.{◌≡◌, ℕ, [], None, Ok, Err, IfOk, option_map};
+ghost use Rattle.std.specs.Prelude.{◌≡◌, ℕ, [], Ok, Err, IfOk};
 ghost use Rattle.http.specs.StatusCode.{IsStatusCode};
 ghost use Rattle.side_base.specs.declared.message.Request.{Request as RequestRecord};
 ghost use Rattle.turn_cell.specs.declared.error.ApiErr.TheVariants as error;
 ghost use Rattle.sidecar_objects.specs.Passes.{IsPassOf};
 ghost use Rattle.sidecar_core.specs.declared.config.Config.{Config as ConfigRecord};
-ghost use Rattle.sidecar_objects.specs.Pass.{DoesAlone, DoesBy, cells_of, seats_of};
-ghost use Rattle.sidecar_core.specs.Exchange.{Answered, Exchange, store_in};
+ghost use Rattle.sidecar_objects.specs.Pass.{DoesBy, cells_of, seats_of};
+ghost use Rattle.sidecar_core.specs.Exchange.{Answered, Exchange};
 ghost use Rattle.sidecar_core.specs.Shown.{RouteShows, ShownFor};
 
 use crate::Shared;
-use crate::given::given;
+use crate::app_request::at_app;
+use crate::binding_request::at_binding;
 use crate::note_request::{list, put};
+use crate::publish_request::at_broker;
 use crate::refusing::{bad_escape, no_route, not_allowed, not_yet};
 use crate::state_request::at_store;
 use api_routes::{Route, RouteErr};
 use keeper_core::Keeper;
+use link_call::given;
 use meta_api::health;
 use rand_core::Rng;
-use side_base::{Request, Response, Text};
+use side_base::{Request, Response};
 use side_world::{Clock, Link};
 use sidecar_objects::{ObjectKinds, Pass};
 use state_core::Store;
@@ -64,66 +67,29 @@ fn answer<K: Keeper, L: Link, C: Clock, R: Rng, W: Wait>(
     requires pass { IsPassOf (cells_of shared.now.objects) (seats_of pass.old) }
     ensures does { DoesBy ⟦<Store<K> as ObjectKinds>⟧.kinds L.Link C.Clock R.stream shared.now.objects pass.old pass.new link.old link.new clock.old clock.new rng.old rng.new (Answered shared.now.config request.now (Ok route.now)) result }
     ensures shows { (count : ℕ) → result ≡ Err (error.Exhausted count) → RouteShows shared.now.config (seats_of pass.new) route.now count }
-{
-    let _ = link;
-    match store_in(route) {
-        Some(name) => at_store(rt, shared, pass, request, route, name, clock, rng),
-        None => answer_plainly(rt, shared, pass, request, route),
-    }
-}
-
-/// The name of the store of a request of the state API.
-fn store_in(route: &Route) -> Option<&Text>
-    ensures { option_map (λ name. name.now) result ≡ store_in route.now }
+    ensures status { IfOk result (λ response. IsStatusCode response.status) }
 {
     match route {
         Route::Save { store }
         | Route::Get { store, .. }
         | Route::Delete { store, .. }
         | Route::Bulk { store }
-        | Route::Transact { store } => Some(store),
-        Route::Invoke { .. }
-        | Route::Publish { .. }
-        | Route::Binding { .. }
-        | Route::ActorCall { .. }
-        | Route::ActorGet { .. }
-        | Route::ActorChange { .. }
-        | Route::Health
-        | Route::Metadata
-        | Route::SetMetadata { .. }
-        | Route::Shutdown => None,
-    }
-}
-
-/// Answers a request of a route that is none of the state API.
-fn answer_plainly<K: Keeper, W: Wait>(
-    rt: &W,
-    shared: &Shared<K>,
-    pass: &mut Pass<K>,
-    request: &Request,
-    route: &Route,
-) -> Result<Response, ApiErr>
-    requires pass { IsPassOf (cells_of shared.now.objects) (seats_of pass.old) }
-    requires route { store_in route.now ≡ None }
-    ensures does { DoesAlone ⟦<Store<K> as ObjectKinds>⟧.kinds shared.now.objects pass.old pass.new (Answered shared.now.config request.now (Ok route.now)) result }
-    ensures shows { (count : ℕ) → result ≡ Err (error.Exhausted count) → RouteShows shared.now.config (seats_of pass.new) route.now count }
-{
-    match route {
-        Route::Health => Ok(health(shared.alloc)),
-        Route::Shutdown => Ok(health(shared.alloc)),
+        | Route::Transact { store } => {
+            at_store(rt, shared, pass, request, route, store, clock, rng)
+        }
+        Route::Invoke { app, rest } => {
+            at_app(rt, shared, pass, request, app, rest, link, clock, rng)
+        }
+        Route::Publish { pubsub, topic } => {
+            at_broker(rt, shared, pass, request, pubsub, topic, clock, rng)
+        }
+        Route::Binding { name } => at_binding(rt, shared, pass, request, name, link, clock, rng),
         Route::Metadata => list(rt, shared, pass),
         Route::SetMetadata { name } => put(rt, shared, pass, name, request.body.bytes()),
-        Route::Invoke { .. } => given(not_yet(shared.alloc)),
-        Route::Publish { .. } => given(not_yet(shared.alloc)),
-        Route::Binding { .. } => given(not_yet(shared.alloc)),
-        Route::ActorCall { .. } => given(not_yet(shared.alloc)),
-        Route::ActorGet { .. } => given(not_yet(shared.alloc)),
-        Route::ActorChange { .. } => given(not_yet(shared.alloc)),
-        Route::Save { .. }
-        | Route::Get { .. }
-        | Route::Delete { .. }
-        | Route::Bulk { .. }
-        | Route::Transact { .. } => unreachable!(),
+        Route::Health | Route::Shutdown => Ok(health(shared.alloc)),
+        Route::ActorCall { .. } | Route::ActorGet { .. } | Route::ActorChange { .. } => {
+            given(not_yet(shared.alloc))
+        }
     }
 }
 

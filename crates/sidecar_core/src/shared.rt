@@ -1,4 +1,6 @@
-ghost use Rattle.std.specs.Prelude.{◌≡◌, ◌<◌, ℕ, length};
+ghost use Rattle.std.specs.Prelude.{◌≡◌, ◌<◌, ℕ, All, length};
+ghost use Rattle.ledger_core.specs.Ledger.{plans_of};
+ghost use Rattle.sidecar_core.specs.Plans.{plans_in};
 ghost use mathlib.Core.Option.{some};
 ghost use lib.ListN.{get_elem?};
 ghost use Rattle.sidecar_core.specs.Site.{Site};
@@ -30,6 +32,7 @@ pub struct Shared<K: Keeper> {
     ghost has_sub_notes: { sub_notes ≡ sub_notes_of config },
     ghost stores: { length objects.stores.items ≡ length sites.items },
     ghost ledgers: { length objects.ledgers.items ≡ length (pubsubs_of config.components) },
+    ghost plans: { All (λ cell. plans_of cell.first ≡ plans_in config) objects.ledgers.items },
     ghost breakers: { length objects.breakers.items ≡ length config.policies.breakers },
     ghost bounds: { (k : ℕ) (site : Site) → get_elem? sites.items k ≡ some site → HasBreakerOf (length config.policies.breakers) site.bound },
 }

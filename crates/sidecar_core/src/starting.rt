@@ -201,7 +201,7 @@ fn is_store(kind: ComponentKind) -> bool
 }
 
 /// Whether it is a broker.
-fn is_pubsub(kind: ComponentKind) -> bool
+pub(crate) fn is_pubsub(kind: ComponentKind) -> bool
     ensures { result ≡ is_pubsub kind }
 {
     match kind {

@@ -12,12 +12,12 @@ ghost use Rattle.sidecar_core.specs.Ran.{IsShown};
 ghost use Rattle.sidecar_core.specs.Shown.{StoreShows};
 ghost use Rattle.sidecar_core.specs.Sites.{HasBreakerOf};
 
-use crate::given::given;
 use crate::refusing::no_store;
 use crate::storing::run_store;
 use crate::{Shared, StoreSite};
 use api_routes::Route;
 use keeper_core::Keeper;
+use link_call::given;
 use rand_core::Rng;
 use retry_core::Bound;
 use side_base::{Request, Response, Text};

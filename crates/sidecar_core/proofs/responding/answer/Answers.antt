@@ -1,15 +1,46 @@
-use Rattle.std.proofs.Common.{sym}
-use Rattle.sidecar_objects.specs.Composed.{does_as}
-use Rattle.sidecar_objects.specs.Pass.{seats_of}
-use Rattle.sidecar_core.proofs.Answering.{state_answered, state_shows}
+use Rattle.std.proofs.Common.{Ok, inl, refl, subst, arith}
+use Rattle.policy_run.specs.Effects.{clocked}
+use Rattle.link_call.specs.LinkAt.{link_at}
+use Rattle.sidecar_objects.specs.Composed.{does_nothing, does_as}
+use Rattle.sidecar_core.specs.Exchange.{SetsNote}
+use Rattle.sidecar_core.proofs.Answering.{actors_answered, done_answered, names_store, not_exhausted, state_answered}
+use Rattle.sidecar_core.proofs.Statuses.{fine_at_list, fine_at_set, fine_at_store, fine_given}
 use Rattle.sidecar_core.proofs.responding.answer.Goals as goal
 
-pub returns-in-Some-clause-does : goal.returns-in-Some-clause-does
-returns-in-Some-clause-does g c = does_as _ _ _ _ _ _
-    (λ events at. state_answered c.args.shared.now.config c.args.request.now events c.at_store.result c.args.route.now c.in-Some.name.now (sym c.in-Some.ensures) at) (c.at_store.ensures.does _)
+pub returns-in-Publish-clause-does : goal.returns-in-Publish-clause-does
+returns-in-Publish-clause-does g c = does_as _ _ _ _ _ _ (λ events at. rw c.in-Publish.is at) (c.at_broker.ensures.does (link_at g.L.Link c.args.link.now))
 
-pub returns-in-Some-clause-shows : goal.returns-in-Some-clause-shows
-returns-in-Some-clause-shows g c = λ count is. state_shows c.args.shared.now.config (seats_of c.at_store.new.pass) count c.args.route.now c.in-Some.name.now (sym c.in-Some.ensures) (c.at_store.ensures.shows count is)
+pub returns-in-Binding-clause-does : goal.returns-in-Binding-clause-does
+returns-in-Binding-clause-does g c = does_as _ _ _ _ _ _ (λ events at. rw c.in-Binding.is at) c.at_binding.ensures.does
 
-pub returns-in-None-clause-does : goal.returns-in-None-clause-does
-returns-in-None-clause-does g c = c.answer_plainly.ensures.does _ _ _
+pub returns-in-Metadata-clause-does : goal.returns-in-Metadata-clause-does
+returns-in-Metadata-clause-does g c = does_as _ _ _ _ _ _ (λ events at. rw c.in-Metadata.is at) (c.list.ensures.does (clocked g.C.Clock c.args.clock.now) (link_at g.L.Link c.args.link.now) (g.R.Rng.stream c.args.rng.now))
+
+pub returns-in-Metadata-clause-status : goal.returns-in-Metadata-clause-status
+returns-in-Metadata-clause-status g c = let d = c.list.ensures.does (clocked g.C.Clock c.args.clock.now) (link_at g.L.Link c.args.link.now) (g.R.Rng.stream c.args.rng.now) in fine_at_list c.args.shared.now.config d.events c.list.result d.held
+
+pub returns-in-SetMetadata-clause-does : goal.returns-in-SetMetadata-clause-does
+returns-in-SetMetadata-clause-does g c = does_as _ _ _ _ _ _ (λ events at. rw c.in-SetMetadata.is (subst (λ v. SetsNote c.in-SetMetadata.name v events c.put.result) c.bytes.ensures at))
+    (c.put.ensures.does (clocked g.C.Clock c.args.clock.now) (link_at g.L.Link c.args.link.now) (g.R.Rng.stream c.args.rng.now))
+
+pub returns-in-SetMetadata-clause-status : goal.returns-in-SetMetadata-clause-status
+returns-in-SetMetadata-clause-status g c = let d = c.put.ensures.does (clocked g.C.Clock c.args.clock.now) (link_at g.L.Link c.args.link.now) (g.R.Rng.stream c.args.rng.now) in fine_at_set _ _ d.events c.put.result d.held
+
+pub returns-in-ActorCall-clause-does : goal.returns-in-ActorCall-clause-does
+returns-in-ActorCall-clause-does g c = does_nothing _ _ _ _ (actors_answered c.args.shared.now.config c.args.request.now _ c.given.result c.args.route.now c.in-ActorCall.is (refl, c.given.ensures _ c.not_yet.ensures))
+
+pub returns-in-ActorCall-clause-shows : goal.returns-in-ActorCall-clause-shows
+returns-in-ActorCall-clause-shows g c = λ count is. not_exhausted _ c.given.result count (c.given.ensures _ c.not_yet.ensures) is
+
+pub returns-in-ActorCall-clause-status : goal.returns-in-ActorCall-clause-status
+returns-in-ActorCall-clause-status g c = fine_given _ c.given.result (omega arith, omega arith) (c.given.ensures _ c.not_yet.ensures)
+
+pub returns-in-Health-clause-does : goal.returns-in-Health-clause-does
+returns-in-Health-clause-does g c = does_nothing _ _ _ _ (done_answered c.args.shared.now.config c.args.request.now _ _ c.args.route.now c.in-Health.is (refl, inl (λ i. Ok (c.health.ensures i))))
+
+pub returns-in-Save-clause-does : goal.returns-in-Save-clause-does
+returns-in-Save-clause-does g c = does_as _ _ _ _ _ _
+    (λ events at. state_answered c.args.shared.now.config c.args.request.now events c.at_store.result c.args.route.now c.in-Save.store (names_store c.args.route.now c.in-Save.store c.in-Save.is) at) (c.at_store.ensures.does (link_at g.L.Link c.args.link.now))
+
+pub returns-in-Save-clause-status : goal.returns-in-Save-clause-status
+returns-in-Save-clause-status g c = let d = c.at_store.ensures.does (link_at g.L.Link c.args.link.now) in fine_at_store c.args.shared.now.config c.args.request.now c.args.route.now c.in-Save.store d.events c.at_store.result d.held

@@ -2,7 +2,7 @@ use Rattle.std.proofs.Common.{Ok, Err, subst}
 use Rattle.api_routes.specs.Route.{Answers}
 use Rattle.sidecar_objects.specs.Composed.{does_nothing, pass_stays, does_as}
 use Rattle.sidecar_core.proofs.Answering.{refusal_shows_nothing}
-use Rattle.sidecar_core.proofs.Statuses.{fine_reply}
+use Rattle.sidecar_core.proofs.Statuses.{fine_refusal}
 use Rattle.sidecar_core.proofs.responding.respond.Goals as goal
 
 pub returns-in-Ok-clause-exchange : goal.returns-in-Ok-clause-exchange
@@ -13,7 +13,7 @@ pub returns-in-Ok-clause-pass : goal.returns-in-Ok-clause-pass
 returns-in-Ok-clause-pass g c = let d = c.answer.ensures.does in pass_stays _ _ _ d.events _ d.went c.requires.pass
 
 pub returns-in-Ok-clause-status : goal.returns-in-Ok-clause-status
-returns-in-Ok-clause-status g c = let d = c.answer.ensures.does in fine_reply c.args.shared.now.config c.args.request.now (Ok c.in-Ok.route) d.events c.answer.result d.held
+returns-in-Ok-clause-status g c = c.answer.ensures.status
 
 pub returns-in-Ok-clause-shows : goal.returns-in-Ok-clause-shows
 returns-in-Ok-clause-shows g c = λ count is. record { asked = c.in-Ok.route; means = subst (Answers c.args.request.now.method c.args.request.now.target) c.in-Ok.is c.route.ensures; shown = c.answer.ensures.shows count is }
@@ -26,4 +26,4 @@ pub returns-in-Err-clause-shows : goal.returns-in-Err-clause-shows
 returns-in-Err-clause-shows g c = λ count is. refusal_shows_nothing c.args.shared.now.config c.args.request.now c.in-Err.error c.given_refusal.result count (c.given_refusal.ensures c.args.shared.now.config c.args.request.now) is
 
 pub returns-in-Err-clause-status : goal.returns-in-Err-clause-status
-returns-in-Err-clause-status g c = fine_reply c.args.shared.now.config c.args.request.now (Err c.in-Err.error) _ c.given_refusal.result (c.given_refusal.ensures c.args.shared.now.config c.args.request.now)
+returns-in-Err-clause-status g c = fine_refusal c.args.shared.now.config c.args.request.now c.in-Err.error _ c.given_refusal.result (c.given_refusal.ensures c.args.shared.now.config c.args.request.now)

@@ -18,6 +18,7 @@ invariant_of-shared g c =
       has_sub_notes = tables.sub_notes;
       stores = as_many (λ cell. keeper_of cell.first) c.in_ok-objects.objects.stores.items c.args.keepers.items started.stores ∙ c.requires ∙ sym (ap length tables.sites ∙ length-map (stores_of c.args.config.components) (site_of c.args.config));
       ledgers = started.ledgers;
+      plans = started.plans;
       breakers = as_many (λ cell. policy_of cell.first) c.in_ok-objects.objects.breakers.items c.args.config.policies.breakers started.breakers;
       bounds = all_at (λ site. ForSome site.bound.breaker (λ place. place < length c.args.config.policies.breakers)) c.in_ok-tables.tables.sites.items tables.bounds;
     }

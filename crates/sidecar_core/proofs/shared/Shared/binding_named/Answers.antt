@@ -1,0 +1,33 @@
+use Rattle.std.proofs.Common.{◌≡◌, ◌∙◌, ◌⊎◌, None, Some, inl, inr, sym}
+use Rattle.resource_spec.specs.Component.{Loaded}
+use Rattle.resource_spec.specs.declared.component.ComponentKind.{ComponentKind}
+use Rattle.resource_spec.specs.declared.component.ComponentKind.TheVariants as kinds
+use Rattle.sidecar_core.proofs.Requested.{first_named, found_first, none_first}
+use Rattle.sidecar_core.proofs.shared.Shared.binding_named.Goals as goal
+
+pub returns-in-BindingHttp-clause-found : goal.returns-in-BindingHttp-clause-found
+returns-in-BindingHttp-clause-found g c =
+    let first = first_named c.args.self.now.config c.args.name.now c.bytes.result.now c.place_of.result c.in_ok-place.place c.bytes.ensures.value c.place_of.ensures c.in_ok-place.was in
+    found_first c.args.self.now.config c.args.name.now c.in_ok-place.place c.at.result.now first c.at.ensures kinds.BindingHttp (sym c.kind.ensures.kind ∙ c.in-BindingHttp.is)
+
+-- a kind that was told is another
+far_binding : (told : ComponentKind) (component : Loaded) → told ≡ component.kind → (told ≡ kinds.StateMemory) ⊎ ((told ≡ kinds.StateJournal) ⊎ ((told ≡ kinds.PubsubMemory) ⊎ (told ≡ kinds.BindingCron))) → component.kind ≡ kinds.BindingHttp → ⊥
+far_binding told component same (inl is) of = differs (sym is ∙ same ∙ of) where
+  differs : ◌≡◌ {A = ComponentKind} kinds.StateMemory kinds.BindingHttp → ⊥
+  differs e = absurd (cc)
+far_binding told component same (inr (inl is)) of = differs (sym is ∙ same ∙ of) where
+  differs : ◌≡◌ {A = ComponentKind} kinds.StateJournal kinds.BindingHttp → ⊥
+  differs e = absurd (cc)
+far_binding told component same (inr (inr (inl is))) of = differs (sym is ∙ same ∙ of) where
+  differs : ◌≡◌ {A = ComponentKind} kinds.PubsubMemory kinds.BindingHttp → ⊥
+  differs e = absurd (cc)
+far_binding told component same (inr (inr (inr is))) of = differs (sym is ∙ same ∙ of) where
+  differs : ◌≡◌ {A = ComponentKind} kinds.BindingCron kinds.BindingHttp → ⊥
+  differs e = absurd (cc)
+
+pub returns-in-StateMemory : goal.returns-in-StateMemory
+returns-in-StateMemory g c =
+    let first = first_named c.args.self.now.config c.args.name.now c.bytes.result.now c.place_of.result c.in_ok-place.place c.bytes.ensures.value c.place_of.ensures c.in_ok-place.was in record {
+      found = λ place is. absurd (cc);
+      none = λ none-there. none_first c.args.self.now.config c.args.name.now c.in_ok-place.place c.at.result.now first c.at.ensures kinds.BindingHttp (far_binding c.kind.result c.at.result.now c.kind.ensures.kind c.in-StateMemory.is);
+    }
