@@ -66,12 +66,12 @@ abbrev pub setting_at : ℕ → List Sub → Bound → Setting
 setting_at port subs bound = record { port = port; subs = subs; bound = bound }
 
 -- without an app port there is no step, and nothing will be due; with one, a turn on the ledgers of all brokers in order
-abbrev pub DeliversBy : Option ℕ → List Bound → List Sub → List Doing → Turn → Type 0
-DeliversBy None inbound subs events turn = (events ≡ []) × (turn ≡ Idle None)
-DeliversBy (Some port) inbound subs events turn = DeliversFrom 0 (map (setting_at port subs) inbound) events turn
+abbrev pub DeliversToApp : Option ℕ → List Bound → List Sub → List Doing → Turn → Type 0
+DeliversToApp None inbound subs events turn = (events ≡ []) × (turn ≡ Idle None)
+DeliversToApp (Some port) inbound subs events turn = DeliversFrom 0 (map (setting_at port subs) inbound) events turn
 
 abbrev pub Delivers : Sites → List Sub → List Doing → Turn → Type 0
-Delivers sites subs events turn = DeliversBy sites.port sites.inbound subs events turn
+Delivers sites subs events turn = DeliversToApp sites.port sites.inbound subs events turn
 
 -- ---- exhausted cells
 
