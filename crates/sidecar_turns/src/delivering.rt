@@ -4,7 +4,7 @@ ghost use Rattle.delivery_turn.specs.declared.ending.Turn.TheVariants as ended;
 ghost use Rattle.sidecar_objects.specs.Passes.{IsPassOf};
 ghost use Rattle.sidecar_objects.specs.Pass.{DoesBy, cells_of, seats_of};
 ghost use Rattle.sidecar_turns.specs.Brokers.{AreOf, Sites};
-ghost use Rattle.sidecar_turns.specs.Delivering.{Delivers, ShowsOne, earlier};
+ghost use Rattle.sidecar_turns.specs.Delivering.{Delivers, DeliversEach, ShowsOne, earlier};
 
 use crate::Brokers;
 use crate::at_ledger::turn_at;
@@ -74,7 +74,7 @@ fn deliver_each<K: Keeper, L: Link, C: Clock, R: Rng, W: Wait>(
     requires pass { IsPassOf (cells_of objects.now) (seats_of pass.old) }
     requires cells { AreOf (cells_of objects.now) (record { port = Some app.now.port; inbound = app.now.inbound.now }) app.now.subs.now }
     requires limits { All IsWithinLimit app.now.inbound.now }
-    ensures does { DoesBy ⟦<Store<K> as ObjectKinds>⟧.kinds L.Link C.Clock R.stream objects.now pass.old pass.new link.old link.new clock.old clock.new rng.old rng.new (Delivers (record { port = Some app.now.port; inbound = app.now.inbound.now }) app.now.subs.now) result }
+    ensures does { DoesBy ⟦<Store<K> as ObjectKinds>⟧.kinds L.Link C.Clock R.stream objects.now pass.old pass.new link.old link.new clock.old clock.new rng.old rng.new (DeliversEach app.now.port app.now.subs.now app.now.inbound.now) result }
     ensures shows { (count : ℕ) → result ≡ ended.Exhausted count → ShowsOne app.now.inbound.now (seats_of pass.new) count }
 {
     let mut next = None;

@@ -92,7 +92,8 @@ fn drain_once<K: Keeper, L: Link, C: Clock, R: Rng, W: Wait>(
 ) -> Option<Drained>
     requires pass { IsPassOf (cells_of duty.now.objects.now) (seats_of pass.old) }
     requires cells { AreOf (cells_of duty.now.objects.now) duty.now.brokers.now duty.now.subs.now }
-    ensures does { DoesBy ⟦<Store<K> as ObjectKinds>⟧.kinds L.Link C.Clock R.stream duty.now.objects.now pass.old pass.new link.old link.new clock.old clock.new rng.old rng.new (StepsOn duty.now.brokers.now duty.now.subs.now duty.now.began) result }
+    ensures does { DoesBy ⟦<Store<K> as ObjectKinds>⟧.kinds L.Link C.Clock R.stream duty.now.objects.now pass.old pass.new link.old link.new clock.old clock.new rng.old rng.new
+        (StepsOn duty.now.brokers.now duty.now.subs.now duty.now.began) result }
     ensures shows { (count : ℕ) → result ≡ Some (Drained.Spent count) → ShowsOne duty.now.brokers.now.inbound (seats_of pass.new) count }
 {
     let turn = deliver(
