@@ -15,7 +15,7 @@ use Rattle.resource_spec.specs.Component.{Loaded}
 use Rattle.sidecar_objects.specs.Composed.{lone_stays, pass_stays, sound_stays}
 use Rattle.sidecar_objects.specs.Kind.{CellsAt, Kinds, SeatsAt}
 use Rattle.sidecar_objects.specs.Passes.{IsLone, IsPassOf, IsSoundPass}
-use Rattle.sidecar_core.specs.Sites.{is_pubsub, pubsubs_of}
+use Rattle.sidecar_turns.specs.Brokers.{is_broker, brokers_of}
 use Rattle.sidecar_cli.specs.Counting.{AreCountedOf, IsCountedOf, IsTold, none, more}
 use Rattle.sidecar_cli.specs.Note.{AreNoted, IsNoted}
 use Rattle.sidecar_cli.proofs.Noted.{noted_more}
@@ -41,9 +41,9 @@ or_none None = refl
 or_none (Some x) = refl
 
 -- there are no more brokers than components
-pub few : (components : List Loaded) → length (pubsubs_of components) ≤ length components
+pub few : (components : List Loaded) → length (brokers_of components) ≤ length components
 few components =
-    let both = length-filter_both (λ (c : Loaded). is_pubsub c.kind) (λ (c : Loaded). not (is_pubsub c.kind)) (λ c. refl) components in
+    let both = length-filter_both (λ (c : Loaded). is_broker c.kind) (λ (c : Loaded). not (is_broker c.kind)) (λ c. refl) components in
     omega (arith, both)
 
 module _ {O : Type 0} (kinds : Kinds O) (cells : CellsAt O) where
@@ -74,9 +74,9 @@ module _ {O : Type 0} (kinds : Kinds O) (cells : CellsAt O) where
 
   -- the brokers among the components before a place are counted
   pub record CountedSoFar (components : List Loaded) (at place : ℕ) (seats seats' : SeatsAt O) (note note' : SinkAt) (spent : Option ℕ) : Type 0 where
-    pub wide : place ≡ length (pubsubs_of (take at components))
+    pub wide : place ≡ length (brokers_of (take at components))
     pub texts : List (List ℕ)
-    pub counted : AreCountedOf kinds cells 0 (pubsubs_of (take at components)) seats texts spent seats'
+    pub counted : AreCountedOf kinds cells 0 (brokers_of (take at components)) seats texts spent seats'
     pub noted : AreNoted note note' texts
     pub pass : IsPassOf cells seats'
 
@@ -87,43 +87,43 @@ module _ {O : Type 0} (kinds : Kinds O) (cells : CellsAt O) where
     one_more : take (at + 1) components ≡ take at components ++ c ∷ []
     one_more = take_more components at c low ∙ (λ j. take at components ++ sym is j ∷ [])
 
-    pubsubs_more : pubsubs_of (take (at + 1) components) ≡ pubsubs_of (take at components) ++ pubsubs_of (c ∷ [])
-    pubsubs_more = ap pubsubs_of one_more ∙ filter-append (λ (d : Loaded). is_pubsub d.kind) (take at components) (c ∷ [])
+    pubsubs_more : brokers_of (take (at + 1) components) ≡ brokers_of (take at components) ++ brokers_of (c ∷ [])
+    pubsubs_more = ap brokers_of one_more ∙ filter-append (λ (d : Loaded). is_broker d.kind) (take at components) (c ∷ [])
 
-    alone_in : (chosen : Bool) → is_pubsub c.kind ≡ chosen → pubsubs_of (c ∷ []) ≡ cond chosen (c ∷ []) []
+    alone_in : (chosen : Bool) → is_broker c.kind ≡ chosen → brokers_of (c ∷ []) ≡ cond chosen (c ∷ []) []
     alone_in chosen kind = ap (λ b. cond b (c ∷ []) []) kind
 
     -- a broker's ledger stands at the place that is counted next
-    pub place_within : (place : ℕ) → is_pubsub c.kind ≡ true → place ≡ length (pubsubs_of (take at components)) → place < length (pubsubs_of components)
+    pub place_within : (place : ℕ) → is_broker c.kind ≡ true → place ≡ length (brokers_of (take at components)) → place < length (brokers_of components)
     place_within place chosen wide =
-        let whole : pubsubs_of components ≡ pubsubs_of (take at components) ++ (pubsubs_of (c ∷ []) ++ pubsubs_of (drop (suc at) components)) =
-        ap pubsubs_of (sym (take-append-drop at components) ∙ ap (λ l. take at components ++ l) (drop-cons components at c low ∙ (λ j. sym is j ∷ drop (suc at) components)))
-        ∙ filter-append (λ (d : Loaded). is_pubsub d.kind) (take at components) (c ∷ drop (suc at) components)
-        ∙ ap (λ l. pubsubs_of (take at components) ++ l) (filter-append (λ (d : Loaded). is_pubsub d.kind) (c ∷ []) (drop (suc at) components)) in
-        let one : length (pubsubs_of (c ∷ [])) ≡ 1 = ap length (alone_in true chosen) in
-        let all : length (pubsubs_of components) ≡ length (pubsubs_of (take at components)) + (length (pubsubs_of (c ∷ [])) + length (pubsubs_of (drop (suc at) components))) =
-        ap length whole ∙ length-append (pubsubs_of (take at components)) (pubsubs_of (c ∷ []) ++ pubsubs_of (drop (suc at) components)) ∙ ap (λ n. length (pubsubs_of (take at components)) + n) (length-append (pubsubs_of (c ∷ [])) (pubsubs_of (drop (suc at) components))) in
+        let whole : brokers_of components ≡ brokers_of (take at components) ++ (brokers_of (c ∷ []) ++ brokers_of (drop (suc at) components)) =
+        ap brokers_of (sym (take-append-drop at components) ∙ ap (λ l. take at components ++ l) (drop-cons components at c low ∙ (λ j. sym is j ∷ drop (suc at) components)))
+        ∙ filter-append (λ (d : Loaded). is_broker d.kind) (take at components) (c ∷ drop (suc at) components)
+        ∙ ap (λ l. brokers_of (take at components) ++ l) (filter-append (λ (d : Loaded). is_broker d.kind) (c ∷ []) (drop (suc at) components)) in
+        let one : length (brokers_of (c ∷ [])) ≡ 1 = ap length (alone_in true chosen) in
+        let all : length (brokers_of components) ≡ length (brokers_of (take at components)) + (length (brokers_of (c ∷ [])) + length (brokers_of (drop (suc at) components))) =
+        ap length whole ∙ length-append (brokers_of (take at components)) (brokers_of (c ∷ []) ++ brokers_of (drop (suc at) components)) ∙ ap (λ n. length (brokers_of (take at components)) + n) (length-append (brokers_of (c ∷ [])) (brokers_of (drop (suc at) components))) in
         omega (arith, wide, one, all)
 
-    pub one_counted : (place : ℕ) (seats between seats' : SeatsAt O) (note mid note' : SinkAt) (spent later : Option ℕ) (text name : List ℕ) → name ≡ c.name → is_pubsub c.kind ≡ true → CountedSoFar components at place seats between note mid spent
+    pub one_counted : (place : ℕ) (seats between seats' : SeatsAt O) (note mid note' : SinkAt) (spent later : Option ℕ) (text name : List ℕ) → name ≡ c.name → is_broker c.kind ≡ true → CountedSoFar components at place seats between note mid spent
         → IsCountedOf kinds cells name place between text later seats' → IsNoted mid note' text → CountedSoFar components (at + 1) (place + 1) seats seats' note note' (option_or spent later)
     one_counted place seats between seats' note mid note' spent later text name named chosen so_far counted noted =
-        let more_of : pubsubs_of (take (at + 1) components) ≡ pubsubs_of (take at components) ++ c ∷ [] = pubsubs_more ∙ ap (λ l. pubsubs_of (take at components) ++ l) (alone_in true chosen) in
-        let count : length (pubsubs_of (take (at + 1) components)) ≡ length (pubsubs_of (take at components)) + 1 = ap length more_of ∙ length-append (pubsubs_of (take at components)) (c ∷ []) in
+        let more_of : brokers_of (take (at + 1) components) ≡ brokers_of (take at components) ++ c ∷ [] = pubsubs_more ∙ ap (λ l. brokers_of (take at components) ++ l) (alone_in true chosen) in
+        let count : length (brokers_of (take (at + 1) components)) ≡ length (brokers_of (take at components)) + 1 = ap length more_of ∙ length-append (brokers_of (take at components)) (c ∷ []) in
         let one : IsCountedOf kinds cells c.name place between text later seats' = subst (λ n. IsCountedOf kinds cells n place between text later seats') named counted in
         let wide = so_far.wide in
-        let from_none : place ≡ 0 + length (pubsubs_of (take at components)) = omega (arith, wide) in
+        let from_none : place ≡ 0 + length (brokers_of (take at components)) = omega (arith, wide) in
         record {
           wide = omega (arith, count, wide);
           texts = so_far.texts ++ text ∷ [];
-          counted = subst (λ l. AreCountedOf kinds cells 0 l seats (so_far.texts ++ text ∷ []) (option_or spent later) seats') (sym more_of) (counted_on 0 place c (pubsubs_of (take at components)) seats between seats' so_far.texts text spent later from_none so_far.counted one);
+          counted = subst (λ l. AreCountedOf kinds cells 0 l seats (so_far.texts ++ text ∷ []) (option_or spent later) seats') (sym more_of) (counted_on 0 place c (brokers_of (take at components)) seats between seats' so_far.texts text spent later from_none so_far.counted one);
           noted = noted_more note mid note' so_far.texts text so_far.noted noted;
           pass = pass_counted c.name place between seats' text later one so_far.pass;
         }
 
-    pub passed_over : (place : ℕ) (seats seats' : SeatsAt O) (note note' : SinkAt) (spent : Option ℕ) → is_pubsub c.kind ≡ false → CountedSoFar components at place seats seats' note note' spent → CountedSoFar components (at + 1) place seats seats' note note' spent
+    pub passed_over : (place : ℕ) (seats seats' : SeatsAt O) (note note' : SinkAt) (spent : Option ℕ) → is_broker c.kind ≡ false → CountedSoFar components at place seats seats' note note' spent → CountedSoFar components (at + 1) place seats seats' note note' spent
     passed_over place seats seats' note note' spent chosen so_far =
-        let same : pubsubs_of (take (at + 1) components) ≡ pubsubs_of (take at components) = pubsubs_more ∙ ap (λ l. pubsubs_of (take at components) ++ l) (alone_in false chosen) ∙ append-nil (pubsubs_of (take at components)) in
+        let same : brokers_of (take (at + 1) components) ≡ brokers_of (take at components) = pubsubs_more ∙ ap (λ l. brokers_of (take at components) ++ l) (alone_in false chosen) ∙ append-nil (brokers_of (take at components)) in
         record {
           wide = so_far.wide ∙ ap length (sym same);
           texts = so_far.texts;
@@ -135,7 +135,7 @@ module _ {O : Type 0} (kinds : Kinds O) (cells : CellsAt O) where
   pub all_counted : (components : List Loaded) (at place : ℕ) (seats seats' : SeatsAt O) (note note' : SinkAt) (spent : Option ℕ) → length components ≤ at → CountedSoFar components at place seats seats' note note' spent → IsTold kinds cells components seats seats' note note' spent
   all_counted components at place seats seats' note note' spent high so_far = record {
     texts = so_far.texts;
-    counted = subst (λ l. AreCountedOf kinds cells 0 (pubsubs_of l) seats so_far.texts spent seats') (take_all at components high) so_far.counted;
+    counted = subst (λ l. AreCountedOf kinds cells 0 (brokers_of l) seats so_far.texts spent seats') (take_all at components high) so_far.counted;
     noted = so_far.noted;
   }
 

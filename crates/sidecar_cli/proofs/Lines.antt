@@ -13,11 +13,11 @@ use Rattle.ledger_core.specs.declared.reply.LedgerReply.{LedgerReply}
 use Rattle.ledger_core.specs.Message.{Step}
 use Rattle.resource_spec.specs.Component.{Loaded}
 use Rattle.sidecar_objects.specs.declared.doing.Doing.{Doing}
-use Rattle.sidecar_core.specs.Delivery.{Counted}
+use Rattle.sidecar_turns.specs.Counting.{Counted}
 use Rattle.sidecar_core.specs.Delivery as delivery
 use Rattle.sidecar_objects.specs.Kind.{CellsAt, Kinds, SeatsAt, ledgers}
 use Rattle.sidecar_objects.specs.Doing.{steps_at}
-use Rattle.sidecar_core.specs.Sites.{pubsubs_of}
+use Rattle.sidecar_turns.specs.Brokers.{brokers_of}
 use Rattle.sidecar_cli.specs.Counting.{AreCountedOf, line_told, none, more}
 use Rattle.sidecar_cli.specs.Lines.{HasCounted, HaveOwnLines, counted, exhausted}
 use Rattle.sidecar_cli.proofs.Countings.{silent, still, unasked}
@@ -117,9 +117,9 @@ module _ {O : Type 0} (kinds : Kinds O) (cells : CellsAt O) where
       own_more place c cs seats between seats' text texts one.result d.events (one_counted place d.events one.result d.held) one.text_is (d.went.grew ledgers) (own_from (suc place) cs between seats' texts later rest)
 
   -- each broker has its own line
-  pub own_lines : (components : List Loaded) (seats seats' : SeatsAt O) (texts : List (List ℕ)) (spent : Option ℕ) → AreCountedOf kinds cells 0 (pubsubs_of components) seats texts spent seats' → HaveOwnLines kinds cells components seats seats' texts
+  pub own_lines : (components : List Loaded) (seats seats' : SeatsAt O) (texts : List (List ℕ)) (spent : Option ℕ) → AreCountedOf kinds cells 0 (brokers_of components) seats texts spent seats' → HaveOwnLines kinds cells components seats seats' texts
   own_lines components seats seats' texts spent all =
-      let o = own_from 0 (pubsubs_of components) seats seats' texts spent all in
+      let o = own_from 0 (brokers_of components) seats seats' texts spent all in
       record {
         made = o.made;
         grew = o.grew;

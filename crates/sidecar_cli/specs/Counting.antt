@@ -12,8 +12,8 @@ use Rattle.resource_spec.specs.Component.{Loaded}
 use Rattle.sidecar_objects.specs.Kind.{CellsAt, Kinds, SeatsAt}
 use Rattle.sidecar_objects.specs.Did.{Does}
 use Rattle.sidecar_objects.specs.Shown.{ShowsAt}
-use Rattle.sidecar_core.specs.Delivery.{Counted}
-use Rattle.sidecar_core.specs.Sites.{pubsubs_of}
+use Rattle.sidecar_turns.specs.Counting.{Counted}
+use Rattle.sidecar_turns.specs.Brokers.{brokers_of}
 use Rattle.sidecar_cli.specs.Note.{AreNoted, IsNoted}
 
 -- the line of a broker: how many deliveries are owed, done, dropped and dead-lettered
@@ -51,5 +51,5 @@ pub data AreCountedOf {O : Type 0} (kinds : Kinds O) (cells : CellsAt O) : ℕ �
 -- all brokers were counted, in order, and the text of each was written to the note
 pub record IsTold {O : Type 0} (kinds : Kinds O) (cells : CellsAt O) (components : List Loaded) (seats seats' : SeatsAt O) (note note' : SinkAt) (spent : Option ℕ) : Type 0 where
   pub texts : List (List ℕ)
-  pub counted : AreCountedOf kinds cells 0 (pubsubs_of components) seats texts spent seats'
+  pub counted : AreCountedOf kinds cells 0 (brokers_of components) seats texts spent seats'
   pub noted : AreNoted note note' texts

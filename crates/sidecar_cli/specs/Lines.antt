@@ -10,7 +10,7 @@ use Rattle.ledger_core.specs.Message.{Step}
 use Rattle.conn_serve.specs.Ends.{SinkAt}
 use Rattle.resource_spec.specs.Component.{Loaded}
 use Rattle.sidecar_objects.specs.Kind.{CellsAt, Kinds, SeatsAt, ledgers}
-use Rattle.sidecar_core.specs.Sites.{pubsubs_of}
+use Rattle.sidecar_turns.specs.Brokers.{brokers_of}
 use Rattle.sidecar_cli.specs.Counting.{IsTold, line_told}
 
 -- what a seat did to give this answer: one step, which counts; or none, where its cell is exhausted
@@ -30,9 +30,9 @@ pub record HasOwnLine (brokers : List Loaded) (texts : List (List ℕ)) (made : 
 pub record HaveOwnLines {O : Type 0} (kinds : Kinds O) (cells : CellsAt O) (components : List Loaded) (seats seats' : SeatsAt O) (texts : List (List ℕ)) : Type 0 where
   pub made : ℕ → List Step
   pub grew : EachGrew (kinds ledgers) cells.ledgers seats.ledgers made seats'.ledgers
-  pub wide : length texts ≡ length (pubsubs_of components)
-  pub own : (k : ℕ) → k < length (pubsubs_of components) → HasOwnLine (pubsubs_of components) texts made k
-  pub others : (k : ℕ) → length (pubsubs_of components) ≤ k → made k ≡ []
+  pub wide : length texts ≡ length (brokers_of components)
+  pub own : (k : ℕ) → k < length (brokers_of components) → HasOwnLine (brokers_of components) texts made k
+  pub others : (k : ℕ) → length (brokers_of components) ≤ k → made k ≡ []
 
 module _ {O : Type 0} (kinds : Kinds O) where
   -- the texts that are written as all brokers are counted and told are such lines

@@ -4,7 +4,7 @@ ghost use Rattle.ledger_core.specs.declared.reply.LedgerReply.TheVariants as say
 ghost use Rattle.std.specs.Prelude.{◌++◌, decimal};
 ghost use Rattle.sidecar_objects.specs.Passes.{IsPassOf};
 ghost use Rattle.sidecar_objects.specs.Pass.{cells_of, seats_of};
-ghost use Rattle.sidecar_core.specs.Sites.{is_pubsub};
+ghost use Rattle.sidecar_turns.specs.Brokers.{is_pubsub};
 ghost use Rattle.sidecar_cli.specs.Counting.{counts_line, IsTold, IsToldOf};
 ghost use Rattle.sidecar_cli.specs.Note.{IsNoted};
 

@@ -1,4 +1,4 @@
--- One call of the book of metadata, or of one ledger, as what was done.
+-- One call of the book of metadata, as what was done.
 use Rattle.std.proofs.Common.{◌≡◌, ◌∙◌, ℕ, List, [], ◌∷◌, ◌++◌, set, Option, Some, Result, Ok, Err, refl, sym, ap, subst, le_refl, flat_map}
 use Rattle.std.specs.Prelude.{IfOk, IfErr}
 use mathlib.Core.Option.{some}
@@ -11,10 +11,6 @@ use Rattle.turn_cell.specs.declared.object.Object.{Ghosts}
 use Rattle.turn_cell.specs.Sitting.{Begun, Sitting, Extends, Exhausts, entry_by}
 use Rattle.turn_cell.specs.Growth.{Grew, EachGrew}
 use Rattle.turn_cell.proofs.Growing as growing
-use Rattle.ledger_core.specs.declared.ledger.Ledger.{Ledger}
-use Rattle.ledger_core.specs.declared.command.LedgerCmd.{LedgerCmd}
-use Rattle.ledger_core.specs.declared.command.LedgerCmd.TheVariants.{Counts}
-use Rattle.ledger_core.specs.declared.reply.LedgerReply.{LedgerReply}
 use Rattle.meta_api.specs.declared.notes.Notes.{Notes}
 use Rattle.meta_api.specs.declared.command.NotesCmd.{NotesCmd}
 use Rattle.meta_api.specs.declared.command.NotesReply.{NotesReply}
@@ -31,8 +27,6 @@ use Rattle.sidecar_objects.proofs.Laid.{here_at, elsewhere_at}
 use Rattle.sidecar_objects.proofs.Single.{one_grew}
 use Rattle.sidecar_core.specs.Exchange.{NotesRan}
 use Rattle.sidecar_core.specs.Exchange as exchange
-use Rattle.sidecar_core.specs.Delivery.{Counted}
-use Rattle.sidecar_core.specs.Delivery as delivery
 
 module _ {O : Type 0} (kinds : Kinds O) (cells : CellsAt O) (seats : SeatsAt O) (clock : Clocked) (link : LinkAt) (words : Stream) where
   abbrev at_seats : SeatsAt O → Standing O
@@ -69,37 +63,6 @@ module _ {O : Type 0} (kinds : Kinds O) (cells : CellsAt O) (seats : SeatsAt O) 
       went = unstepped (record seats { notes = after }) (by_kind _ (still stores _ (λ k. refl)) (still ledgers _ (λ k. refl)) (still breakers _ (λ k. refl))
           (one_grew cells.notes seats.notes (kinds book) after (λ k. []) (growing.exhausted (kinds book) cells.notes.first seats.notes count after did) (λ k far. refl)));
     }
-
-  -- ---- the ledger at a place
-
-  module _ (place : ℕ) (cell : Begun Ledger) (seat after : Sitting Ledger LedgerCmd LedgerReply) (at : get_elem? cells.ledgers place ≡ some cell) (here : get_elem? seats.ledgers place ≡ some seat) where
-    -- one step of it
-    pub counted_by : (reply : LedgerReply) → Extends (kinds ledgers) cell.first seat Counts reply after → Does kinds cells (at_seats seats) (at_seats (record seats { ledgers = set seats.ledgers place after })) (λ events. Counted place events (Ok reply))
-    counted_by reply did = let step = entry_by seat Counts reply did.mark in record {
-      events = Stepped (slot.Ledger place step) ∷ [];
-      held = delivery.stepped step refl refl refl;
-      went = stepped (record seats { ledgers = set seats.ledgers place after }) (slot.Ledger place step) (by_kind _ (still stores _ (λ k. refl))
-          (growing.each_one (kinds ledgers) cells.ledgers seats.ledgers (λ k. flat_map (steps_at ledgers k) (Stepped (slot.Ledger place step) ∷ [])) place cell seat after at here
-          (subst (λ l. Grew (kinds ledgers) cell.first seat l after) (sym (λ i. here_at place step i ++ [])) (growing.called (kinds ledgers) cell.first seat Counts reply after did))
-          (λ k far. (λ i. elsewhere_at place k far step i ++ [])))
-          (still breakers _ (λ k. refl)) (still book _ (λ k. refl)));
-    }
-
-    -- or it is exhausted
-    pub uncounted : (e : Exhausted) → Exhausts (kinds ledgers) cell.first seat e.count after → Does kinds cells (at_seats seats) (at_seats (record seats { ledgers = set seats.ledgers place after })) (λ events. Counted place events (Err e))
-    uncounted e did = record {
-      events = [];
-      held = delivery.exhausted e refl refl;
-      went = unstepped (record seats { ledgers = set seats.ledgers place after }) (by_kind _ (still stores _ (λ k. refl))
-          (growing.each_one (kinds ledgers) cells.ledgers seats.ledgers (λ k. []) place cell seat after at here (growing.exhausted (kinds ledgers) cell.first seat e.count after did) (λ k far. refl))
-          (still breakers _ (λ k. refl)) (still book _ (λ k. refl)));
-    }
-
-    -- whatever it answers
-    pub counted : (result : Result LedgerReply Exhausted) → IfOk result (λ reply. Extends (kinds ledgers) cell.first seat Counts reply after) → IfErr result (λ e. Exhausts (kinds ledgers) cell.first seat e.count after)
-        → Does kinds cells (at_seats seats) (at_seats (record seats { ledgers = set seats.ledgers place after })) (λ events. Counted place events result)
-    counted (Ok reply) ok err = counted_by reply ok
-    counted (Err e) ok err = uncounted e err
 
 -- an exhausted cell's seat shows the count
 pub shown_count : {O C R : Type 0} (object : Ghosts O C R) (first : O) (seat after : Sitting O C R) (count : ℕ) (result : Result R Exhausted) → IfErr result (λ e. Exhausts object first seat e.count after) → result ≡ Err (record { count = count }) → after.count ≡ Some count

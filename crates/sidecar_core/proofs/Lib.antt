@@ -1,6 +1,7 @@
 mod Answering
 mod Beginning
 mod Booked
+mod Brought
 mod Closed
 mod Doings
 mod Gathered

@@ -27,7 +27,7 @@ use Rattle.bind_api.specs.Binding as binding
 use Rattle.sidecar_core.specs.declared.config.Config.{Config}
 use Rattle.sidecar_core.specs.Called.{AtApp, AtService, Says, Tried, apps_in, asked_under}
 use Rattle.sidecar_core.specs.Named.{IsNamed, IsNone}
-use Rattle.sidecar_core.specs.Sites.{is_pubsub, pubsubs_of}
+use Rattle.sidecar_turns.specs.Brokers.{is_broker, brokers_of}
 
 -- attempts whose cause is known are attempts
 pub invokes_tried : (bound : Bound) (link link' : LinkAt) (clock : Times) (apps : Apps) (request : Request) (id rest : List ℕ) (events : List (Event LinkCall)) (reply : Result Response ApiErr)
@@ -78,13 +78,13 @@ pub breaker_low : (count : ℕ) (bound : Bound) (k : ℕ) → IsBoundWithin coun
 breaker_low count bound k within is = within.place k is
 
 -- the ledger of a pub/sub component is one of those of all
-pub ledger_low : (components : List Loaded) (place : ℕ) (component : Loaded) → get_elem? components place ≡ some component → component.kind ≡ kinds.PubsubMemory → length (pubsubs_of (take place components)) < length (pubsubs_of components)
+pub ledger_low : (components : List Loaded) (place : ℕ) (component : Loaded) → get_elem? components place ≡ some component → component.kind ≡ kinds.PubsubMemory → length (brokers_of (take place components)) < length (brokers_of components)
 ledger_low [] place component there is = absurd (some-ne-none component (sym there))
-ledger_low (first ∷ others) zero component there is = subst (λ (c : Loaded). 0 < length (pubsubs_of (c ∷ others))) (some-injective component first (sym there)) (here component is) where
-  here : (c : Loaded) → c.kind ≡ kinds.PubsubMemory → 0 < length (pubsubs_of (c ∷ others))
-  here c is = let chosen : is_pubsub c.kind ≡ true = ap is_pubsub is in subst (λ b. 0 < length (cond b (c ∷ pubsubs_of others) (pubsubs_of others))) (sym chosen) (omega arith)
-ledger_low (first ∷ others) (suc place) component there is = let below = ledger_low others place component there is in by below (is_pubsub first.kind) where
-  by : length (pubsubs_of (take place others)) < length (pubsubs_of others) → (b : Bool) → length (cond b (first ∷ pubsubs_of (take place others)) (pubsubs_of (take place others))) < length (cond b (first ∷ pubsubs_of others) (pubsubs_of others))
+ledger_low (first ∷ others) zero component there is = subst (λ (c : Loaded). 0 < length (brokers_of (c ∷ others))) (some-injective component first (sym there)) (here component is) where
+  here : (c : Loaded) → c.kind ≡ kinds.PubsubMemory → 0 < length (brokers_of (c ∷ others))
+  here c is = let chosen : is_broker c.kind ≡ true = ap is_broker is in subst (λ b. 0 < length (cond b (c ∷ brokers_of others) (brokers_of others))) (sym chosen) (omega arith)
+ledger_low (first ∷ others) (suc place) component there is = let below = ledger_low others place component there is in by below (is_broker first.kind) where
+  by : length (brokers_of (take place others)) < length (brokers_of others) → (b : Bool) → length (cond b (first ∷ brokers_of (take place others)) (brokers_of (take place others))) < length (cond b (first ∷ brokers_of others) (brokers_of others))
   by below true = omega (arith, below)
   by below false = below
 

@@ -1,21 +1,21 @@
--- Deliveries, and the counts of a ledger.
-use Rattle.std.specs.Prelude.{◌≡◌, ℕ, List, [], ◌∷◌, None, Result, Ok, Err}
-use Rattle.turn_cell.specs.declared.error.Exhausted.{Exhausted}
-use Rattle.ledger_core.specs.declared.command.LedgerCmd.TheVariants.{Counts}
-use Rattle.ledger_core.specs.declared.reply.LedgerReply.{LedgerReply}
-use Rattle.ledger_core.specs.Message.{Step}
+-- Deliveries of what is configured.
+use Rattle.std.specs.Prelude.{ℕ, List}
+use Rattle.delivery_turn.specs.declared.ending.Turn.{Turn}
 use Rattle.sidecar_objects.specs.declared.doing.Doing.{Doing}
-use Rattle.sidecar_objects.specs.declared.doing.Doing.TheVariants.{Stepped}
-use Rattle.sidecar_objects.specs.declared.doing.SlotStep.TheVariants.{Ledger}
-use Rattle.sidecar_core.specs.declared.delivering.Turn.{Turn}
-use Rattle.sidecar_core.specs.declared.delivering.Turn.TheVariants.{Idle}
+use Rattle.sidecar_turns.specs.declared.draining.Drained.{Drained}
+use Rattle.sidecar_turns.specs.Brokers.{Sites, sites_of}
+use Rattle.sidecar_turns.specs.Draining.{Drains}
+use Rattle.sidecar_turns.specs.Idling.{Idles}
+use Rattle.sidecar_core.specs.declared.config.Config.{Config}
 
--- one step of the ledger at this place that counts, and its reply; or its cell is exhausted, and there is no step
-pub data Counted (place : ℕ) (events : List Doing) (result : Result LedgerReply Exhausted) : Type 0 where
-  stepped : (step : Step) → step.cmd ≡ Counts → events ≡ Stepped (Ledger place step) ∷ [] → result ≡ Ok step.reply → Counted place events result
-  exhausted : (e : Exhausted) → events ≡ [] → result ≡ Err e → Counted place events result
+-- what deliveries need of a configuration
+abbrev pub brokers_in : Config → Sites
+brokers_in config = sites_of config.app_port config.components config.policies
 
--- a turn of delivery of a sidecar without an app port: it makes no step
-pub record Delivers (events : List Doing) (turn : Turn) : Type 0 where
-  pub quiet : events ≡ []
-  pub idle : turn ≡ Idle None
+-- what a worker does when no connection came
+abbrev pub IdlesIn : Config → List Doing → Turn → Type 0
+IdlesIn config events turn = Idles (brokers_in config) config.subs events turn
+
+-- what is delivered behind the connection of a run on standard input, from this moment on
+abbrev pub DrainsIn : Config → ℕ → List Doing → Drained → Type 0
+DrainsIn config began events how = Drains (brokers_in config) config.subs began events how

@@ -5,7 +5,7 @@ use lib.ListN.{get_elem?}
 use Rattle.resource_spec.specs.declared.component.ComponentKind.{ComponentKind}
 use Rattle.resource_spec.specs.Component.{Loaded}
 use Rattle.sidecar_core.specs.declared.config.Config.{Config}
-use Rattle.sidecar_core.specs.Sites.{pubsubs_of}
+use Rattle.sidecar_turns.specs.Brokers.{brokers_of}
 
 -- the component of this name, and its place
 pub record IsNamed (config : Config) (name : List ℕ) (place : ℕ) (component : Loaded) : Type 0 where
@@ -18,4 +18,4 @@ IsNone kind config name = (place : ℕ) (component : Loaded) → IsNamed config 
 
 -- the place of the ledger of the pub/sub component at this place: as many of those stand before it
 abbrev pub ledger_of : Config → ℕ → ℕ
-ledger_of config place = length (pubsubs_of (take place config.components))
+ledger_of config place = length (brokers_of (take place config.components))

@@ -21,20 +21,9 @@ is_store kinds.PubsubMemory = false
 is_store kinds.BindingHttp = false
 is_store kinds.BindingCron = false
 
-abbrev pub is_pubsub : ComponentKind → Bool
-is_pubsub kinds.StateMemory = false
-is_pubsub kinds.StateJournal = false
-is_pubsub kinds.PubsubMemory = true
-is_pubsub kinds.BindingHttp = false
-is_pubsub kinds.BindingCron = false
-
 -- the state components, in order
 abbrev pub stores_of : List Loaded → List Loaded
 stores_of components = filter (λ (c : Loaded). is_store c.kind) components
-
--- the pub/sub components, in order
-abbrev pub pubsubs_of : List Loaded → List Loaded
-pubsubs_of components = filter (λ (c : Loaded). is_pubsub c.kind) components
 
 -- what stands before a store's keys, and what is bound to the calls that are sent to it
 abbrev pub site_of : Config → Loaded → Site

@@ -14,14 +14,14 @@ use Rattle.sidecar_objects.specs.Passes.{AreRoots}
 use Rattle.sidecar_objects.specs.Pass.{cells_of, seats_of}
 use Rattle.sidecar_core.specs.declared.room.Room.{Room}
 use Rattle.sidecar_core.specs.Plans.{plans_in}
-use Rattle.sidecar_core.specs.Sites.{pubsubs_of}
+use Rattle.sidecar_turns.specs.Brokers.{brokers_of}
 
 -- the stores have the keepers, in order; each broker has a ledger with the plans of all subscriptions; the breakers have their policies, in order; the book is empty; and the
 -- pass is that of the root seats
 pub record IsStarted {K : Type 0} {keeper : Ghosts K} (config : Config) (keepers : List K) (config' : Config) (objects : Objects K keeper) (pass : Pass K keeper) : Type 0 where
   pub same : config' ≡ config
   pub stores : map (λ cell. keeper_of cell.first) objects.stores.items ≡ keepers
-  pub ledgers : length objects.ledgers.items ≡ length (pubsubs_of config.components)
+  pub ledgers : length objects.ledgers.items ≡ length (brokers_of config.components)
   pub plans : All (λ cell. plans_of cell.first ≡ plans_in config) objects.ledgers.items
   pub breakers : map (λ cell. policy_of cell.first) objects.breakers.items ≡ config.policies.breakers
   pub notes : pairs_of objects.notes.first ≡ []

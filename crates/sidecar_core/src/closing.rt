@@ -26,6 +26,7 @@ impl<K: Keeper> Shared<K> {
             alloc: _,
             routers: _,
             sites: _,
+            brokers: _,
             notes: _,
             sub_notes: _,
         } = self;

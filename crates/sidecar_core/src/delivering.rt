@@ -1,39 +1,23 @@
+//! What a sidecar does of itself, beside answering requests.
 ghost use Rattle.std.specs.Prelude.{◌≡◌, ◌<◌, ℕ, length, Err};
+ghost use Rattle.delivery_turn.specs.declared.ending.Turn.TheVariants as ended;
 ghost use Rattle.sidecar_objects.specs.Passes.{IsPassOf};
-ghost use Rattle.sidecar_objects.specs.Shown.{ShowsAt};
+ghost use Rattle.sidecar_objects.specs.Shown.{Shows, ShowsAt};
 ghost use Rattle.sidecar_objects.specs.Pass.{DoesAlone, DoesBy, cells_of, seats_of};
-ghost use Rattle.sidecar_core.specs.Delivery.{Counted, Delivers};
+ghost use Rattle.sidecar_turns.specs.Counting.{Counted};
+ghost use Rattle.sidecar_core.specs.Delivery.{DrainsIn, IdlesIn};
 
 use crate::Shared;
 use keeper_core::Keeper;
-use ledger_core::{LedgerCmd, LedgerReply};
+use ledger_core::LedgerReply;
 use rand_core::Rng;
+use side_base::Moment;
 use side_world::{Clock, Link};
 use sidecar_objects::{ObjectKinds, Pass};
+use sidecar_turns::{Drained, Turn};
 use state_core::Store;
 use std::sync::Wait;
 use turn_cell::Exhausted;
-
-/// What a turn of delivery came to.
-#[derive(Debug, Drop)]
-pub enum Turn {
-    /// The delivery of message `no` to the subscription at the place `sub` was settled, with this reply.
-    Delivered {
-        no: u64,
-        sub: u32,
-        settled: LedgerReply,
-    },
-    /// No delivery is due. The first that will be is due at `next`, in milliseconds since 1970.
-    Idle {
-        next: Option<u64>,
-    },
-    /// There was no memory; the delivery is due again.
-    Held,
-    /// A cell has no ticket left; `count` was read in it, and its seat shows it.
-    Exhausted {
-        count: u64,
-    },
-}
 
 impl<K: Keeper> Shared<K> {
     /// How many deliveries of each status the ledger at a place has, by one step of it; the ledgers stand in the order of their components.
@@ -50,14 +34,14 @@ impl<K: Keeper> Shared<K> {
         ensures does { DoesAlone ⟦<Store<K> as ObjectKinds>⟧.kinds self.now.objects pass.old pass.new (Counted place) result }
         ensures shows { (count : ℕ) → result ≡ Err (record { count = count }) → ShowsAt place count pass.new.ledgers.items }
     {
-        self.objects.ledgers[place].call(rt, &mut pass.ledgers[place], &LedgerCmd::Counts)
+        sidecar_turns::counts(rt, &self.objects, pass, place)
     }
 }
 
-/// Takes one turn on the first ledger, in the order of their components, that isn't idle. A sidecar without an app port has nothing to
-/// deliver: it makes no step, and is idle.
-pub fn deliver<K: Keeper, L: Link, C: Clock, R: Rng, W: Wait>(
-    _rt: &W,
+/// What a worker does when no connection came: one turn of delivery, on the first ledger that isn't idle, in the order of their components. A sidecar
+/// without an app port has nothing to deliver: it makes no step, and is idle.
+pub fn idle_turn<K: Keeper, L: Link, C: Clock, R: Rng, W: Wait>(
+    rt: &W,
     shared: &Shared<K>,
     pass: &mut Pass<K>,
     link: &mut L,
@@ -65,7 +49,44 @@ pub fn deliver<K: Keeper, L: Link, C: Clock, R: Rng, W: Wait>(
     rng: &mut R,
 ) -> Turn
     requires pass { IsPassOf (cells_of shared.now.objects) (seats_of pass.old) }
-    ensures does { DoesBy ⟦<Store<K> as ObjectKinds>⟧.kinds L.Link C.Clock R.stream shared.now.objects pass.old pass.new link.old link.new clock.old clock.new rng.old rng.new Delivers result }
+    ensures does { DoesBy ⟦<Store<K> as ObjectKinds>⟧.kinds L.Link C.Clock R.stream shared.now.objects pass.old pass.new link.old link.new clock.old clock.new rng.old rng.new (IdlesIn shared.now.config) result }
+    ensures shows { (count : ℕ) → result ≡ ended.Exhausted count → Shows (seats_of pass.new) count }
 {
-    Turn::Idle { next: None }
+    sidecar_turns::idle_turn(
+        rt,
+        &shared.brokers,
+        &shared.config.subs,
+        &shared.objects,
+        pass,
+        link,
+        clock,
+        rng,
+    )
+}
+
+/// Delivers what is due, and waits for what will be due within 60,000 ms of the moment `began`, in at most 4,096 turns.
+pub fn drain<K: Keeper, L: Link, C: Clock, R: Rng, W: Wait>(
+    rt: &W,
+    shared: &Shared<K>,
+    pass: &mut Pass<K>,
+    began: Moment,
+    link: &mut L,
+    clock: &mut C,
+    rng: &mut R,
+) -> Drained
+    requires pass { IsPassOf (cells_of shared.now.objects) (seats_of pass.old) }
+    ensures does { DoesBy ⟦<Store<K> as ObjectKinds>⟧.kinds L.Link C.Clock R.stream shared.now.objects pass.old pass.new link.old link.new clock.old clock.new rng.old rng.new (DrainsIn shared.now.config began) result }
+    ensures shows { (count : ℕ) → result ≡ Drained.Spent count → Shows (seats_of pass.new) count }
+{
+    sidecar_turns::drain(
+        rt,
+        &shared.brokers,
+        &shared.config.subs,
+        &shared.objects,
+        pass,
+        began,
+        link,
+        clock,
+        rng,
+    )
 }

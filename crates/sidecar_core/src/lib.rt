@@ -4,7 +4,7 @@
 //!   begin and its end, and `room` is what the end needs.
 //! - `responding` answers a request by its route: `state_request` at a store, where `storing` makes the call, `note_request` at the book of
 //!   metadata, `app_request` and `binding_request` by the link, and `publish_request` at a ledger; `naming` finds their components, and `refusing`
-//!   has the responses that need no object. `delivering` makes deliveries, and counts them.
+//!   has the responses that need no object. `delivering` has the deliveries of what is configured, by `sidecar_turns`.
 //! - `desk` answers the requests of connections, and `connection` serves one.
 #![tactic(auto)]
 
@@ -29,11 +29,12 @@ mod storing;
 
 pub use config::Config;
 pub use connection::serve_connection;
-pub use delivering::{Turn, deliver};
+pub use delivering::{drain, idle_turn};
 pub use responding::respond;
 pub use room::Room;
 pub use shared::Shared;
 pub use sidecar_objects::{Doing, ObjectKinds, Objects, Pass, SlotStep};
+pub use sidecar_turns::{Drained, Turn, deliver};
 pub use site::StoreSite;
 pub use starting::count_of_stores;
 pub use storing::run_store;

@@ -3,10 +3,10 @@ ghost use Rattle.std.specs.Prelude.{◌≡◌, ◌≤◌, ◌∷◌, [], ℕ, So
 ghost use Rattle.resource_spec.specs.Component.{Loaded};
 ghost use Rattle.resource_spec.specs.declared.component.ComponentKind.TheVariants as kinds;
 ghost use Rattle.sidecar_core.specs.Named.{IsNamed, IsNone, ledger_of};
-ghost use Rattle.sidecar_core.specs.Sites.{pubsubs_of};
+ghost use Rattle.sidecar_turns.specs.Brokers.{brokers_of};
 
 use crate::Shared;
-use crate::starting::is_pubsub;
+use crate::starting::is_broker;
 use keeper_core::Keeper;
 use resource_spec::{Component, ComponentKind};
 use side_base::Text;
@@ -57,8 +57,8 @@ impl<K: Keeper> Shared<K> {
 
 /// 1 for a pub/sub component, and 0 for another.
 fn brokers_in(component: &Component) -> usize
-    ensures exact { result ≡ length (pubsubs_of (component.now ∷ [])) }
+    ensures exact { result ≡ length (brokers_of (component.now ∷ [])) }
     ensures within { result ≤ 1 }
 {
-    if is_pubsub(component.kind()) { 1 } else { 0 }
+    if is_broker(component.kind()) { 1 } else { 0 }
 }

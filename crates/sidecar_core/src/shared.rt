@@ -1,10 +1,13 @@
 ghost use Rattle.std.specs.Prelude.{◌≡◌, ◌<◌, ℕ, All, length};
 ghost use Rattle.ledger_core.specs.Ledger.{plans_of};
 ghost use Rattle.sidecar_core.specs.Plans.{plans_in};
+ghost use Rattle.sidecar_turns.specs.Brokers.{HaveBreakers};
+ghost use Rattle.sidecar_core.specs.Delivery.{brokers_in};
 ghost use mathlib.Core.Option.{some};
 ghost use lib.ListN.{get_elem?};
 ghost use Rattle.sidecar_core.specs.Site.{Site};
-ghost use Rattle.sidecar_core.specs.Sites.{sites_of, notes_of, pubsubs_of, sub_notes_of, HasBreakerOf};
+ghost use Rattle.sidecar_turns.specs.Brokers.{brokers_of};
+ghost use Rattle.sidecar_core.specs.Sites.{sites_of, notes_of, sub_notes_of, HasBreakerOf};
 
 use crate::{Config, StoreSite};
 use api_routes::{Route, RouteErr, Routers};
@@ -12,6 +15,7 @@ use keeper_core::Keeper;
 use meta_api::{ComponentNotes, SubscriptionNotes};
 use side_base::{Request, Text};
 use sidecar_objects::Objects;
+use sidecar_turns::Brokers;
 use std::alloc::Global;
 
 /// What all passes share: the configuration, and a cell for each store, each ledger, each breaker and for the book of metadata.
@@ -23,6 +27,8 @@ pub struct Shared<K: Keeper> {
     pub(crate) routers: Routers,
     /// The stores, at the places of their cells.
     pub(crate) sites: Vec<StoreSite>,
+    /// What deliveries need of the brokers.
+    pub(crate) brokers: Brokers,
     /// The components, as metadata tells them.
     pub(crate) notes: ComponentNotes,
     /// The subscriptions, as metadata tells them.
@@ -30,10 +36,12 @@ pub struct Shared<K: Keeper> {
     ghost has_sites: { sites.items ≡ sites_of config },
     ghost has_notes: { notes ≡ notes_of config },
     ghost has_sub_notes: { sub_notes ≡ sub_notes_of config },
+    ghost has_brokers: { brokers ≡ brokers_in config },
     ghost stores: { length objects.stores.items ≡ length sites.items },
-    ghost ledgers: { length objects.ledgers.items ≡ length (pubsubs_of config.components) },
+    ghost ledgers: { length objects.ledgers.items ≡ length (brokers_of config.components) },
     ghost plans: { All (λ cell. plans_of cell.first ≡ plans_in config) objects.ledgers.items },
     ghost breakers: { length objects.breakers.items ≡ length config.policies.breakers },
+    ghost inbound: { HaveBreakers (length config.policies.breakers) brokers.inbound },
     ghost bounds: { (k : ℕ) (site : Site) → get_elem? sites.items k ≡ some site → HasBreakerOf (length config.policies.breakers) site.bound },
 }
 

@@ -8,8 +8,11 @@ ghost use Rattle.ledger_core.specs.Plan.{AreWithinLimit};
 ghost use Rattle.ledger_core.specs.Ledger.{plans_of};
 ghost use Rattle.breaker_core.specs.Breaker.{policy_of};
 ghost use Rattle.meta_api.specs.Notes.{pairs_of};
+ghost use Rattle.sidecar_turns.specs.Brokers.{HaveBreakers as HaveInbound};
+ghost use Rattle.sidecar_core.specs.Delivery.{brokers_in};
 ghost use Rattle.sidecar_core.specs.Plans.{plan_of, plans_in};
-ghost use Rattle.sidecar_core.specs.Sites.{HasBreakerOf, HaveBreakers, is_store, is_pubsub, notes_of, note_of, pubsubs_of, site_of, sites_of, stores_of, sub_note_of, sub_notes_of};
+ghost use Rattle.sidecar_turns.specs.Brokers.{is_broker, brokers_of};
+ghost use Rattle.sidecar_core.specs.Sites.{HasBreakerOf, HaveBreakers, is_store, notes_of, note_of, site_of, sites_of, stores_of, sub_note_of, sub_notes_of};
 ghost use Rattle.sidecar_objects.specs.Passes.{IsPassOf, IsLone, IsSoundPass};
 ghost use Rattle.sidecar_objects.specs.Pass.{cells_of, seats_of};
 ghost use Rattle.sidecar_core.specs.Started.{IsStarted, IsRoomFor};
@@ -24,6 +27,7 @@ use policy_spec::{BreakerPolicies, Policies, Target, bind, breakers};
 use resource_spec::{Component, ComponentKind, Components};
 use side_base::{NoMemory, Text};
 use sidecar_objects::{ObjectKinds, Objects, Pass};
+use sidecar_turns::Brokers;
 use state_core::{Prefix, Store};
 use std::alloc::Global;
 use topic_spec::{Sub, Subs};
@@ -52,6 +56,7 @@ impl<K: Keeper> Shared<K> {
         let Tables {
             routers,
             sites,
+            brokers,
             notes,
             sub_notes,
         } = tables;
@@ -61,6 +66,7 @@ impl<K: Keeper> Shared<K> {
             alloc,
             routers,
             sites,
+            brokers,
             notes,
             sub_notes,
         };
@@ -73,6 +79,7 @@ impl<K: Keeper> Shared<K> {
 struct Tables {
     routers: Routers,
     sites: Vec<StoreSite>,
+    brokers: Brokers,
     notes: ComponentNotes,
     sub_notes: SubscriptionNotes,
 }
@@ -81,16 +88,20 @@ struct Tables {
 fn tables_for(alloc: Global, config: &Config) -> Result<Tables, NoMemory>
     ensures sites { IfOk result (λ tables. tables.sites.items ≡ sites_of config.now) }
     ensures bounds { IfOk result (λ tables. HaveBreakers config.now tables.sites.items) }
+    ensures brokers { IfOk result (λ tables. tables.brokers ≡ brokers_in config.now) }
+    ensures inbound { IfOk result (λ tables. HaveInbound (length config.now.policies.breakers) tables.brokers.inbound) }
     ensures notes { IfOk result (λ tables. tables.notes ≡ notes_of config.now) }
     ensures sub_notes { IfOk result (λ tables. tables.sub_notes ≡ sub_notes_of config.now) }
 {
     let sites = sites_for(alloc, config)?;
+    let brokers = Brokers::new(alloc, config.app_port, &config.components, &config.policies)?;
     let notes = notes_for(alloc, &config.components)?;
     let sub_notes = sub_notes_for(alloc, &config.subs)?;
     let routers = Routers::new(alloc)?;
     Ok(Tables {
         routers,
         sites,
+        brokers,
         notes,
         sub_notes,
     })
@@ -201,8 +212,8 @@ fn is_store(kind: ComponentKind) -> bool
 }
 
 /// Whether it is a broker.
-pub(crate) fn is_pubsub(kind: ComponentKind) -> bool
-    ensures { result ≡ is_pubsub kind }
+pub(crate) fn is_broker(kind: ComponentKind) -> bool
+    ensures { result ≡ is_broker kind }
 {
     match kind {
         ComponentKind::PubsubMemory => true,
@@ -271,7 +282,7 @@ fn sub_note_for(sub: &Sub) -> Result<SubscriptionNote, NoMemory>
 
 /// A ledger for each broker, with the plans of all subscriptions.
 fn ledgers_for(alloc: Global, config: &Config) -> Result<Vec<Ledger>, NoMemory>
-    ensures wide { IfOk result (λ ledgers. length ledgers.items ≡ length (pubsubs_of config.now.components)) }
+    ensures wide { IfOk result (λ ledgers. length ledgers.items ≡ length (brokers_of config.now.components)) }
     ensures planned { IfOk result (λ ledgers. All (λ ledger. plans_of ledger ≡ plans_in config.now) ledgers.items) }
     ensures unused { IfOk result (λ ledgers. All (λ ledger. ⟦<Ledger as Object>⟧.used ledger ≡ 0) ledgers.items) }
 {
@@ -289,11 +300,11 @@ fn add_ledger(
     component: &Component,
     ledgers: &mut Vec<Ledger>,
 ) -> Result<(), NoMemory>
-    ensures wide { OnOk result (length ledgers.new.items ≡ length ledgers.old.items + length (pubsubs_of (component.now ∷ []))) }
+    ensures wide { OnOk result (length ledgers.new.items ≡ length ledgers.old.items + length (brokers_of (component.now ∷ []))) }
     ensures planned { OnOk result (All (λ ledger. plans_of ledger ≡ plans_in config.now) ledgers.old.items → All (λ ledger. plans_of ledger ≡ plans_in config.now) ledgers.new.items) }
     ensures unused { OnOk result (All (λ ledger. ⟦<Ledger as Object>⟧.used ledger ≡ 0) ledgers.old.items → All (λ ledger. ⟦<Ledger as Object>⟧.used ledger ≡ 0) ledgers.new.items) }
 {
-    if !is_pubsub(component.kind()) {
+    if !is_broker(component.kind()) {
         return Ok(());
     }
     let plans = plans_for(alloc, &config.policies, &config.subs)?;

@@ -1,9 +1,11 @@
 -- What deliveries need of a configuration.
-use Rattle.std.specs.Prelude.{◌≡◌, ◌<◌, ℕ, List, [], ◌∷◌, map, filter, is_some, length, Option, refl}
+use Rattle.std.specs.Prelude.{◌≡◌, ◌<◌, ℕ, Bool, true, false, List, [], ◌∷◌, map, filter, is_some, length, Option, refl}
 use Rattle.std.proofs.Common.{◌∙◌, ap}
 use Rattle.std.specs.List.{All}
 use Rattle.std.specs.Option.{ForSome}
 use Rattle.retry_core.specs.declared.policy.Bound.{Bound}
+use Rattle.resource_spec.specs.declared.component.ComponentKind.{ComponentKind}
+use Rattle.resource_spec.specs.declared.component.ComponentKind.TheVariants as kinds
 use Rattle.resource_spec.specs.Component.{Loaded}
 use Rattle.policy_spec.specs.Policies.{Binding, bound_by, inbound}
 use Rattle.turn_cell.specs.Sitting.{Begun}
@@ -11,7 +13,6 @@ use Rattle.ledger_core.specs.declared.ledger.Ledger.{Ledger}
 use Rattle.ledger_core.specs.declared.plan.Plan.{Plan}
 use Rattle.ledger_core.specs.Ledger.{plans_of}
 use Rattle.topic_spec.specs.declared.sub.Sub.{Sub}
-use Rattle.topic_spec.specs.Aiming.{is_pubsub}
 use Rattle.sidecar_objects.specs.Kind.{CellsAt}
 
 -- the port at which the app listens, if it has one, and what is bound to what comes from each broker, in order
@@ -19,9 +20,16 @@ pub record Sites : Type 0 where
   pub port : Option ℕ
   pub inbound : List Bound
 
--- the brokers: the pub/sub components, in order
-abbrev pub pubsubs_of : List Loaded → List Loaded
-pubsubs_of components = filter (λ (c : Loaded). is_pubsub c.kind) components
+-- a broker is a pub/sub component
+abbrev pub is_broker : ComponentKind → Bool
+is_broker kinds.StateMemory = false
+is_broker kinds.StateJournal = false
+is_broker kinds.PubsubMemory = true
+is_broker kinds.BindingHttp = false
+is_broker kinds.BindingCron = false
+
+abbrev pub brokers_of : List Loaded → List Loaded
+brokers_of components = filter (λ (c : Loaded). is_broker c.kind) components
 
 -- what is bound to what comes from a component
 abbrev pub inbound_of : Binding → Loaded → Bound
@@ -29,7 +37,7 @@ inbound_of policies c = bound_by policies (inbound c.name)
 
 -- of the brokers among these components, in their order
 abbrev pub sites_of : Option ℕ → List Loaded → Binding → Sites
-sites_of port components policies = record { port = port; inbound = map (inbound_of policies) (pubsubs_of components) }
+sites_of port components policies = record { port = port; inbound = map (inbound_of policies) (brokers_of components) }
 
 -- the breaker that is bound, if one is, is one of so many
 abbrev pub HasBreakerOf : ℕ → Bound → Type 0

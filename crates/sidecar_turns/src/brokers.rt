@@ -1,7 +1,6 @@
 ghost use Rattle.std.specs.Prelude.{◌≡◌, ◌++◌, ◌∷◌, [], All, IfOk, OnOk, length, map};
 ghost use Rattle.retry_core.specs.Bound.{IsWithinLimit};
-ghost use Rattle.topic_spec.specs.Aiming.{is_pubsub};
-ghost use Rattle.sidecar_turns.specs.Brokers.{HasBreakerOf, HaveBreakers, inbound_of, pubsubs_of, sites_of};
+ghost use Rattle.sidecar_turns.specs.Brokers.{HasBreakerOf, HaveBreakers, inbound_of, is_broker, brokers_of, sites_of};
 
 use policy_spec::{Policies, Target, bind};
 use resource_spec::{Component, ComponentKind, Components};
@@ -74,7 +73,7 @@ fn inbound_for(
     components: &Components,
     policies: &Policies,
 ) -> Result<Vec<Bound>, NoMemory>
-    ensures exact { IfOk result (λ inbound. inbound.items ≡ map (inbound_of policies.now) (pubsubs_of components.now)) }
+    ensures exact { IfOk result (λ inbound. inbound.items ≡ map (inbound_of policies.now) (brokers_of components.now)) }
     ensures within { IfOk result (λ inbound. All IsWithinLimit inbound.items) }
     ensures breakers { IfOk result (λ inbound. HaveBreakers (length policies.now.breakers) inbound.items) }
 {
@@ -91,11 +90,11 @@ fn add_broker(
     component: &Component,
     inbound: &mut Vec<Bound>,
 ) -> Result<(), NoMemory>
-    ensures added { OnOk result (inbound.new.items ≡ inbound.old.items ++ map (inbound_of policies.now) (pubsubs_of (component.now ∷ []))) }
+    ensures added { OnOk result (inbound.new.items ≡ inbound.old.items ++ map (inbound_of policies.now) (brokers_of (component.now ∷ []))) }
     ensures within { OnOk result (All IsWithinLimit inbound.old.items → All IsWithinLimit inbound.new.items) }
     ensures breakers { OnOk result (HaveBreakers (length policies.now.breakers) inbound.old.items → HaveBreakers (length policies.now.breakers) inbound.new.items) }
 {
-    if !is_pubsub(component.kind()) {
+    if !is_broker(component.kind()) {
         return Ok(());
     }
     inbound.push(inbound_of(policies, component))?;
@@ -113,8 +112,8 @@ fn inbound_of(policies: &Policies, component: &Component) -> Bound
 }
 
 /// Whether it is a broker.
-fn is_pubsub(kind: ComponentKind) -> bool
-    ensures { result ≡ is_pubsub kind }
+fn is_broker(kind: ComponentKind) -> bool
+    ensures { result ≡ is_broker kind }
 {
     match kind {
         ComponentKind::PubsubMemory => true,

@@ -16,9 +16,11 @@ invariant_of-shared g c =
       has_sites = tables.sites;
       has_notes = tables.notes;
       has_sub_notes = tables.sub_notes;
+      has_brokers = tables.brokers;
       stores = as_many (λ cell. keeper_of cell.first) c.in_ok-objects.objects.stores.items c.args.keepers.items started.stores ∙ c.requires ∙ sym (ap length tables.sites ∙ length-map (stores_of c.args.config.components) (site_of c.args.config));
       ledgers = started.ledgers;
       plans = started.plans;
+      inbound = tables.inbound;
       breakers = as_many (λ cell. policy_of cell.first) c.in_ok-objects.objects.breakers.items c.args.config.policies.breakers started.breakers;
       bounds = all_at (λ site. ForSome site.bound.breaker (λ place. place < length c.args.config.policies.breakers)) c.in_ok-tables.tables.sites.items tables.bounds;
     }
