@@ -2,28 +2,17 @@
 ghost use Rattle.std.specs.Prelude.{◌≡◌, is_some};
 ghost use Rattle.retry_core.specs.Bound.{IsWithinLimit};
 
-use crate::bound::bound_in;
-use crate::given::{OwnApp, binding_of, own_app, peers_of, request_of, text};
-use crate::same_word::SameWord;
-use crate::told::add_answer;
+use crate::given::{OwnApp, binding_of, own_app, peers_of, request_of};
 use app_peers::PeerList;
 use case_text::{Lines, Section, first_word};
+use case_world::{World, add_answer, bound_in, text};
 use invoke_api::Peers;
 use policy_run::Guard;
 use retry_core::Bound;
 use side_base::{Blob, Request, Response};
-use side_memory::{MemoryClock, MemoryLink};
 use std::alloc::Global;
 use std::sync::Wait;
 use turn_cell::ApiErr;
-
-/// What the calls of a case work with.
-#[derive(Drop)]
-pub(crate) struct World {
-    pub(crate) link: MemoryLink,
-    pub(crate) clock: MemoryClock,
-    pub(crate) word: SameWord,
-}
 
 /// What the calls of a case have in common.
 #[derive(Drop)]

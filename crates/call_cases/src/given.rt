@@ -4,61 +4,11 @@ ghost use Rattle.resource_spec.specs.declared.component.ComponentKind.TheVariant
 ghost use Rattle.resource_spec.specs.Component.{HasUrl};
 
 use app_peers::{PeerList, read_peers};
-use case_text::{Section, first_word, joined_text, long_number_in, name_in, text_of};
+use case_text::{Section, first_word, joined_text, name_in};
+use case_world::{number, request_fields, text};
 use resource_spec::{Component, ComponentKind, Setting, Settings, url_of};
-use side_base::{Blob, Field, Fields, Method, Moment, Request, Text};
+use side_base::{Blob, Method, Request, Text};
 use std::alloc::Global;
-
-/// The number that a text begins with.
-pub(crate) fn number(text: &str) -> u64 {
-    long_number_in(text.as_bytes())
-}
-
-/// The number of a section of this word; 0 where there is none.
-pub(crate) fn number_named(sections: &[Section<'_>], word: &str) -> u64 {
-    number(name_in(sections, word).unwrap_or("0"))
-}
-
-/// A copy of a text.
-pub(crate) fn text(alloc: Global, text: &str) -> Text {
-    match Text::from_str(alloc, text) {
-        Ok(copy) => copy,
-        Err(_) => Text::from_static(alloc, "no memory"),
-    }
-}
-
-/// The moment that a case begins at.
-pub(crate) fn start_of(sections: &[Section<'_>]) -> Moment {
-    match Moment::at(number_named(sections, "start")) {
-        Some(moment) => moment,
-        None => first_moment(),
-    }
-}
-
-fn first_moment() -> Moment {
-    match Moment::at(0) {
-        Some(moment) => moment,
-        None => unreachable!(),
-    }
-}
-
-/// Adds the field that a section says.
-pub(crate) fn add_field(alloc: Global, fields: &mut Fields, section: &Section<'_>) {
-    let _ = fields.push(Field {
-        name: text(alloc, section.name),
-        value: text_of(alloc, section),
-    });
-}
-
-fn fields_of(alloc: Global, sections: &[Section<'_>]) -> Fields {
-    let mut fields = Fields::new(alloc);
-    for section in sections {
-        if section.word == "field" {
-            add_field(alloc, &mut fields, section);
-        }
-    }
-    fields
-}
 
 fn method_of(word: &str) -> Method {
     match word {
@@ -78,7 +28,7 @@ pub(crate) fn request_of(alloc: Global, sections: &[Section<'_>]) -> Request {
         method: method_of(name_in(sections, "method").unwrap_or("post")),
         target: Blob::new(alloc),
         minor: 1,
-        fields: fields_of(alloc, sections),
+        fields: request_fields(alloc, sections),
         body: joined_text(alloc, sections, "body"),
     }
 }

@@ -2,13 +2,9 @@
 //! answered. Prints each case that differs, and at the end how many there were.
 #![tactic(auto)]
 
-mod bound;
 mod calls;
 mod given;
 mod playing;
-mod same_word;
-mod script;
-mod told;
 
 use crate::playing::Cases;
 use case_text::play_cases;

@@ -1,28 +1,14 @@
 // A case, played and compared.
 ghost use Rattle.turn_cell.specs.Sitting.{IsSeatOf};
 
-use crate::bound::breaker_in;
-use crate::calls::{World, calls, common_to};
-use crate::given::number_named;
-use crate::same_word::SameWord;
-use crate::script::{clock_of, link_of};
-use crate::told::{add_asked, add_clock};
+use crate::calls::{calls, common_to};
 use breaker_core::Breaker;
 use case_text::{Lines, Piece, Player, Section, joined_text, sections};
+use case_world::{World, add_asked, add_clock, breaker_in};
 use policy_run::{BreakerAt, NoBreaker};
 use std::alloc::Global;
 use std::sync::Wait;
 use turn_cell::{Seat, TurnCell};
-
-fn world_of(alloc: Global, sections: &[Section<'_>]) -> World {
-    World {
-        link: link_of(alloc, sections),
-        clock: clock_of(alloc, sections),
-        word: SameWord {
-            word: number_named(sections, "word"),
-        },
-    }
-}
 
 // The calls without a breaker.
 fn unguarded<W: Wait>(
@@ -71,7 +57,7 @@ fn play_calls<W: Wait>(
 
 // All that came of a case.
 fn came<W: Wait>(rt: &W, alloc: Global, sections: &[Section<'_>], lines: &mut Lines) {
-    let mut world = world_of(alloc, sections);
+    let mut world = World::new(alloc, sections);
     play_calls(rt, alloc, sections, &mut world, lines);
     add_asked(lines, &world.link);
     add_clock(lines, &mut world.clock);

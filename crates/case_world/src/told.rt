@@ -1,4 +1,4 @@
-// What came of a case, as a text: each response, what was asked of the link, and where the clock stands.
+//! What came of a case, as a text: each response, what was asked of the link, and where the clock stands.
 
 use case_text::Lines;
 use side_base::{Fields, LinkRequest, Method, Response};
@@ -50,12 +50,16 @@ fn method_name(method: Method) -> &'static str {
     }
 }
 
-fn add_request(lines: &mut Lines, request: &LinkRequest, limit_ms: u64) {
+fn add_head(lines: &mut Lines, request: &LinkRequest, limit_ms: u64) {
     lines.add(method_name(request.method));
     lines.add(request.host.as_str());
     lines.add_number(" ", u64::from(request.port));
     lines.add_shown(" ", request.target.bytes());
     lines.add_number_line(" within ", limit_ms);
+}
+
+fn add_request(lines: &mut Lines, request: &LinkRequest, limit_ms: u64) {
+    add_head(lines, request, limit_ms);
     add_fields(lines, &request.fields);
     add_body(lines, request.body.bytes());
 }
@@ -67,7 +71,7 @@ fn add_response(lines: &mut Lines, response: &Response) {
 }
 
 /// Adds what a call was answered.
-pub(crate) fn add_answer(lines: &mut Lines, answer: &Result<Response, ApiErr>) {
+pub fn add_answer(lines: &mut Lines, answer: &Result<Response, ApiErr>) {
     match answer {
         Ok(response) => add_response(lines, response),
         Err(ApiErr::NoMemory) => lines.add("no memory\n"),
@@ -76,7 +80,7 @@ pub(crate) fn add_answer(lines: &mut Lines, answer: &Result<Response, ApiErr>) {
 }
 
 /// Adds what the link was asked.
-pub(crate) fn add_asked(lines: &mut Lines, link: &MemoryLink) {
+pub fn add_asked(lines: &mut Lines, link: &MemoryLink) {
     match link.calls() {
         Some(calls) => add_calls(lines, calls),
         None => lines.lack(),
@@ -89,8 +93,22 @@ fn add_calls(lines: &mut Lines, calls: &[LinkCall]) {
     }
 }
 
+/// Adds what the link was asked, each without its fields and its content.
+pub fn add_asked_briefly(lines: &mut Lines, link: &MemoryLink) {
+    match link.calls() {
+        Some(calls) => add_heads(lines, calls),
+        None => lines.lack(),
+    }
+}
+
+fn add_heads(lines: &mut Lines, calls: &[LinkCall]) {
+    for call in calls {
+        add_head(lines, &call.request, call.limit_ms);
+    }
+}
+
 /// Adds where the clock stands, if it isn't at the beginning of 1970.
-pub(crate) fn add_clock(lines: &mut Lines, clock: &mut MemoryClock) {
+pub fn add_clock(lines: &mut Lines, clock: &mut MemoryClock) {
     let now = clock.now().ms();
     if now != 0 {
         lines.add_number_line("at ", now);

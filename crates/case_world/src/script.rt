@@ -1,8 +1,8 @@
-// The link and the clock of a case, by what it says that they answer.
+//! The link and the clock of a case, by what it says that they answer.
 
-use crate::given::{add_field, number, start_of};
-use case_text::{Section, text_of};
-use side_base::{Fields, Places, Response};
+use crate::words::{add_field, moment, number, number_named};
+use case_text::{Section, first_word, push_times, text_of};
+use side_base::{Blob, Fields, NoMemory, Places, Response};
 use side_memory::{LinkAnswers, MemoryClock, MemoryLink, Steps};
 use side_world::LinkErr;
 use std::alloc::Global;
@@ -19,11 +19,26 @@ fn fields_of(alloc: Global, behind: &[Section<'_>]) -> Fields {
     fields
 }
 
+// The text of a section, so many times.
+fn repeated(alloc: Global, section: &Section<'_>, times: u64) -> Result<Blob, NoMemory> {
+    let text = text_of(alloc, section);
+    let mut body = Blob::new(alloc);
+    push_times(&mut body, text.bytes(), times)?;
+    Ok(body)
+}
+
+/// The text of a section, as many times as these words say, or once where they say nothing; nothing where memory lacks.
+pub fn body_of(alloc: Global, section: &Section<'_>, times: &str) -> Blob {
+    let times = if times.is_empty() { 1 } else { number(times) };
+    repeated(alloc, section, times).unwrap_or(Blob::new(alloc))
+}
+
 fn reply(alloc: Global, section: &Section<'_>, behind: &[Section<'_>]) -> Response {
+    let (status, times) = first_word(section.name);
     Response {
-        status: u16::try_from(number(section.name)).unwrap_or(0),
+        status: u16::try_from(number(status)).unwrap_or(0),
         fields: fields_of(alloc, behind),
-        body: text_of(alloc, section),
+        body: body_of(alloc, section, times),
     }
 }
 
@@ -76,5 +91,6 @@ pub(crate) fn link_of(alloc: Global, sections: &[Section<'_>]) -> MemoryLink {
 
 /// The clock of a case.
 pub(crate) fn clock_of(alloc: Global, sections: &[Section<'_>]) -> MemoryClock {
-    MemoryClock::new(alloc, start_of(sections), steps_of(alloc, sections))
+    let start = moment(number_named(sections, "start"));
+    MemoryClock::new(alloc, start, steps_of(alloc, sections))
 }

@@ -4,8 +4,9 @@ use rand_core::Rng;
 
 /// A generator that answers one word for ever.
 #[derive(Clone, Copy)]
-pub(crate) struct SameWord {
-    pub(crate) word: u64,
+pub struct SameWord {
+    /// The word.
+    pub word: u64,
 }
 
 impl Rng for SameWord {

@@ -1,11 +1,11 @@
-// What is bound to the target of a case's calls.
+//! What is bound to the target of a case's calls.
 ghost use Rattle.std.specs.Prelude.{◌≡◌, ◌≤◌, IfSome};
 ghost use Rattle.std.specs.Option.{ForSome};
 ghost use Rattle.retry_core.specs.Bound.{IsWithinLimit};
 ghost use Rattle.retry_core.specs.RetryPolicy.{IsKindWithinLimit, IsWithinLimit as IsRetryWithinLimit};
 ghost use Rattle.retry_core.specs.BreakerPolicy.{IsWithinLimit as IsBreakerWithinLimit};
 
-use crate::given::number;
+use crate::words::number;
 use case_text::{Section, first_word, name_in, number_in};
 use retry_core::{Bound, BreakerPolicy, RetryKind, RetryPolicy, Trip, trip_of};
 
@@ -65,7 +65,7 @@ fn timeout_in(sections: &[Section<'_>]) -> Option<u64>
 }
 
 /// What is bound, with this breaker.
-pub(crate) fn bound_in(sections: &[Section<'_>], breaker: Option<u32>) -> Bound
+pub fn bound_in(sections: &[Section<'_>], breaker: Option<u32>) -> Bound
     ensures limits { IsWithinLimit result }
     ensures breaker { result.breaker ≡ breaker }
 {
@@ -88,7 +88,7 @@ fn breaker(timeout_ms: u64, trip: Trip) -> BreakerPolicy
 }
 
 /// The policy of the breaker, as its timeout and its trip; `None` where a case has none.
-pub(crate) fn breaker_in(sections: &[Section<'_>]) -> Option<BreakerPolicy>
+pub fn breaker_in(sections: &[Section<'_>]) -> Option<BreakerPolicy>
     ensures { IfSome result IsBreakerWithinLimit }
 {
     let (timeout, trip) = first_word(name_in(sections, "breaker")?);
