@@ -3,6 +3,7 @@
 use crate::given::{sizes, words};
 use crate::world::{Made, world};
 use case_text::{Lines, Piece, Section, add_broken, joined_text, name_in, sections, text_of};
+use case_world::add_asked;
 use itoa::Buffer;
 use side_base::{NoMemory, Text};
 use side_memory::Sizes;
@@ -34,6 +35,12 @@ fn is_known(word: &str) -> bool {
         | "files-fail"
         | "outside-fails"
         | "disk-fails"
+        | "replies"
+        | "with"
+        | "fails"
+        | "expires"
+        | "lacks"
+        | "asked"
         | "output"
         | "note"
         | "status" => true,
@@ -50,6 +57,14 @@ fn compare_each(alloc: Global, lines: &mut Lines, sections: &[Section<'_>], worl
             lines.add_line("no such section: ", section.word);
         }
     }
+}
+
+// Compares what the link was asked.
+fn compare_asked(alloc: Global, lines: &mut Lines, sections: &[Section<'_>], world: &Made) {
+    let wanted = joined_text(alloc, sections, "asked");
+    let mut asked = Lines::new(alloc);
+    add_asked(&mut asked, &world.link);
+    lines.compare("asked", wanted.bytes(), asked.as_str().as_bytes());
 }
 
 // Compares what was written, and the status.
@@ -71,6 +86,7 @@ fn compare_all(
         wanted.as_bytes(),
         buffer.format(status).as_bytes(),
     );
+    compare_asked(alloc, lines, sections, world);
     compare_each(alloc, lines, sections, world);
 }
 

@@ -2,7 +2,8 @@
 
 use crate::given::{places, steps};
 use case_text::{Section, joined_text, text_of};
-use side_base::{Moment, Places, Sequence, Text};
+use case_world::World as Calls;
+use side_base::{Moment, Places, Text};
 use side_memory::{
     MemoryClock, MemoryFiles, MemoryLink, MemoryOutside, MemorySink, MemorySource, Numbers, Sizes,
 };
@@ -74,6 +75,16 @@ fn first_moment() -> Moment {
     }
 }
 
+// The link of a case, by what its sections say that it answers.
+fn link(alloc: Global, sections: &[Section<'_>]) -> MemoryLink {
+    let Calls {
+        link,
+        clock: _,
+        word: _,
+    } = Calls::new(alloc, sections);
+    link
+}
+
 /// The world of a case, whose reads bring so many bytes at most.
 pub(crate) fn world(alloc: Global, sections: &[Section<'_>], reads: Sizes) -> Made {
     World {
@@ -81,7 +92,7 @@ pub(crate) fn world(alloc: Global, sections: &[Section<'_>], reads: Sizes) -> Ma
         sink: sink(alloc, sections, "sink-fails"),
         note: sink(alloc, sections, "note-fails"),
         files: files(alloc, sections),
-        link: MemoryLink::new(alloc, Sequence::new(alloc), Sequence::new(alloc)),
+        link: link(alloc, sections),
         clock: MemoryClock::new(alloc, first_moment(), steps(alloc, sections)),
         outside: outside(alloc, sections),
     }

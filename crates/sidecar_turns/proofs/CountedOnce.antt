@@ -1,5 +1,5 @@
 -- One step of a ledger that counts, as what was done over all objects.
-use Rattle.std.proofs.Common.{◌≡◌, ◌∙◌, ℕ, List, [], ◌∷◌, ◌++◌, set, Option, Some, Result, Ok, Err, refl, sym, ap, subst, le_refl, flat_map}
+use Rattle.std.proofs.Common.{◌≡◌, ◌∙◌, ℕ, [], ◌∷◌, ◌++◌, set, Option, Some, Result, Ok, Err, refl, sym, ap, subst, le_refl, flat_map}
 use Rattle.std.specs.Prelude.{IfOk, IfErr}
 use mathlib.Core.Option.{some}
 use lib.ListN.{get_elem?}

@@ -1,5 +1,5 @@
 -- Ledgers that are asked in order, up to the first that isn't idle.
-use Rattle.std.proofs.Common.{◌≡◌, ◌∙◌, ◌<◌, ◌≤◌, ◌+◌, ℕ, suc, min, List, [], ◌∷◌, ◌++◌, length, map, drop, get_or, Option, Some, None, refl, sym, ap, subst, arith, append-nil, append_assoc}
+use Rattle.std.proofs.Common.{◌≡◌, ◌<◌, ◌≤◌, ◌+◌, ℕ, suc, min, List, [], ◌∷◌, ◌++◌, length, map, drop, get_or, Option, Some, None, refl, sym, ap, subst, arith, append-nil, append_assoc}
 use Rattle.std.proofs.Math.Numerals.{suc-eq-add-one}
 use Rattle.std.proofs.Math.Nat.{le-min, min-le_left, min-le_right}
 use mathlib.Core.Option.{some}
@@ -15,7 +15,7 @@ use Rattle.sidecar_objects.specs.declared.doing.Doing.{Doing}
 use Rattle.sidecar_objects.specs.Kind.{Kinds, CellsAt}
 use Rattle.sidecar_objects.specs.Did.{Does, Standing}
 use Rattle.sidecar_objects.specs.Composed.{did_nothing, did_on}
-use Rattle.sidecar_turns.specs.Delivering.{DeliversAt, DeliversFrom, IsIdle, behind, earlier, idled, none_left, setting_at, went}
+use Rattle.sidecar_turns.specs.Delivering.{DeliversAt, DeliversEach, DeliversFrom, IsIdle, behind, earlier, idled, none_left, setting_at, went}
 
 -- ---- moments, the earlier of them
 
@@ -73,15 +73,12 @@ module _ (port : ℕ) (subs : List Sub) (inbound : List Bound) where
   abbrev settings_from : ℕ → List Setting
   settings_from place = map (setting_at port subs) (drop place inbound)
 
-  abbrev pub AreAsked : List Doing → Turn → Type 0
-  AreAsked events turn = DeliversFrom 0 (map (setting_at port subs) inbound) events turn
-
   -- those before this place were idle, and so: whatever comes of the others comes behind them
   abbrev pub Leads : ℕ → Option ℕ → List Doing → Type 0
-  Leads place next events = (more : List Doing) (turn : Turn) → DeliversFrom place (settings_from place) more turn → AreAsked (events ++ more) (behind next turn)
+  Leads place next events = (more : List Doing) (turn : Turn) → DeliversFrom place (settings_from place) more turn → DeliversEach port subs inbound (events ++ more) (behind next turn)
 
   none_yet : Leads 0 None []
-  none_yet more turn from = subst (AreAsked more) (sym (behind_none turn)) from
+  none_yet more turn from = subst (DeliversEach port subs inbound more) (sym (behind_none turn)) from
 
   module _ (place : ℕ) (bound : Bound) (at : get_elem? inbound place ≡ some bound) where
     here_first : settings_from place ≡ setting_at port subs bound ∷ settings_from (suc place)
@@ -90,15 +87,15 @@ module _ (port : ℕ) (subs : List Sub) (inbound : List Bound) where
     idle_here : (next later : Option ℕ) (before first : List Doing) → Leads place next before → DeliversAt place (setting_at port subs bound) first (Idle later) → Leads (suc place) (earlier next later) (before ++ first)
     idle_here next later before first leads delivers more turn from =
         let all = leads (first ++ more) (behind later turn) (subst (λ l. DeliversFrom place l (first ++ more) (behind later turn)) (sym here_first) (idled (setting_at port subs bound) (settings_from (suc place)) first more later turn delivers from)) in
-        subst (λ (z : List Doing × Turn). AreAsked z.0 z.1) (λ i. (sym (append_assoc before first more) i, behind_both next later turn i)) all
+        subst (λ (z : List Doing × Turn). DeliversEach port subs inbound z.0 z.1) (λ i. (sym (append_assoc before first more) i, behind_both next later turn i)) all
 
-    busy_here : (next : Option ℕ) (turn : Turn) (before last : List Doing) → ¬ IsIdle turn → Leads place next before → DeliversAt place (setting_at port subs bound) last turn → AreAsked (before ++ last) turn
+    busy_here : (next : Option ℕ) (turn : Turn) (before last : List Doing) → ¬ IsIdle turn → Leads place next before → DeliversAt place (setting_at port subs bound) last turn → DeliversEach port subs inbound (before ++ last) turn
     busy_here next turn before last busy leads delivers =
-        subst (AreAsked (before ++ last)) (behind_busy next turn busy) (leads last turn (subst (λ l. DeliversFrom place l last turn) (sym here_first) (went (setting_at port subs bound) (settings_from (suc place)) last turn delivers busy)))
+        subst (DeliversEach port subs inbound (before ++ last)) (behind_busy next turn busy) (leads last turn (subst (λ l. DeliversFrom place l last turn) (sym here_first) (went (setting_at port subs bound) (settings_from (suc place)) last turn delivers busy)))
 
-  all_idle : (place : ℕ) (next : Option ℕ) (before : List Doing) → drop place inbound ≡ [] → Leads place next before → AreAsked before (Idle next)
+  all_idle : (place : ℕ) (next : Option ℕ) (before : List Doing) → drop place inbound ≡ [] → Leads place next before → DeliversEach port subs inbound before (Idle next)
   all_idle place next before over leads =
-      subst (λ (z : List Doing × Turn). AreAsked z.0 z.1) (λ i. (append-nil before i, Idle (earlier_none next i)))
+      subst (λ (z : List Doing × Turn). DeliversEach port subs inbound z.0 z.1) (λ i. (append-nil before i, Idle (earlier_none next i)))
       (leads [] (Idle None) (subst (λ l. DeliversFrom place (map (setting_at port subs) l) [] (Idle None)) (sym over) none_left))
 
   -- ---- the same of what is done
@@ -107,7 +104,7 @@ module _ (port : ℕ) (subs : List Sub) (inbound : List Bound) where
     pub asked_none : Does kinds cells at at (Leads 0 None)
     asked_none = record { events = []; held = none_yet; went = did_nothing kinds cells at }
 
-    pub asked_all : (between : Standing O) (place : ℕ) → drop place inbound ≡ [] → (next : Option ℕ) → Does kinds cells at between (Leads place next) → Does kinds cells at between (λ events. AreAsked events (Idle next))
+    pub asked_all : (between : Standing O) (place : ℕ) → drop place inbound ≡ [] → (next : Option ℕ) → Does kinds cells at between (Leads place next) → Does kinds cells at between (λ events. DeliversEach port subs inbound events (Idle next))
     asked_all between place over next so-far = record { events = so-far.events; held = all_idle place next so-far.events over so-far.held; went = so-far.went }
 
     module _ (between after : Standing O) (place : ℕ) (bound : Bound) (here : get_elem? inbound place ≡ some bound) (next : Option ℕ) (so-far : Does kinds cells at between (Leads place next)) where
@@ -118,7 +115,7 @@ module _ (port : ℕ) (subs : List Sub) (inbound : List Bound) where
         went = did_on kinds cells at so-far.events between turned.events after so-far.went turned.went;
       }
 
-      pub asked_busy : (turn : Turn) → ¬ IsIdle turn → Does kinds cells between after (λ events. DeliversAt place (setting_at port subs bound) events turn) → Does kinds cells at after (λ events. AreAsked events turn)
+      pub asked_busy : (turn : Turn) → ¬ IsIdle turn → Does kinds cells between after (λ events. DeliversAt place (setting_at port subs bound) events turn) → Does kinds cells at after (λ events. DeliversEach port subs inbound events turn)
       asked_busy turn busy turned = record {
         events = so-far.events ++ turned.events;
         held = busy_here place bound here next turn so-far.events turned.events busy so-far.held turned.held;

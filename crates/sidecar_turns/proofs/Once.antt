@@ -11,18 +11,17 @@ use Rattle.std.proofs.lemmas.List.Sums.{fold-append, sum_by-cons}
 use Rattle.ledger_core.specs.declared.plan.Aim.{Aim}
 use Rattle.ledger_core.specs.declared.plan.Plan.{Plan}
 use Rattle.ledger_core.specs.declared.command.LedgerCmd.{LedgerCmd}
-use Rattle.ledger_core.specs.declared.command.LedgerCmd.TheVariants.{Accept, Counts, Settle}
+use Rattle.ledger_core.specs.declared.command.LedgerCmd.TheVariants.{Accept, Settle}
 use Rattle.ledger_core.specs.declared.reply.LedgerReply.{LedgerReply}
 use Rattle.ledger_core.specs.declared.reply.LedgerReply.TheVariants.{Accepted, Dead}
-use Rattle.ledger_core.specs.declared.reply.LedgerReply.TheVariants as says
 use Rattle.ledger_core.specs.Aims.{IsGiven}
 use Rattle.ledger_core.specs.Ledger.{IsStep}
 use Rattle.ledger_core.specs.Laws.{AreCountedOnce}
 use Rattle.ledger_core.specs.Message.{Step, Message, Pair, is_pair, letter_of, made_by, messages_after, messages_of, pair_at, pair_of, pairs_in, pairs_of}
-use Rattle.ledger_core.specs.Standing.{Standing, Status, owed, done, dropped, dead, standing, standings}
+use Rattle.ledger_core.specs.Standing.{Standing, Status, owed, done, dropped, dead, standing}
 use Rattle.ledger_core.specs.Course.{course_of}
 use Rattle.ledger_core.specs.Reply.{IsReply}
-use Rattle.sidecar_turns.specs.Accounts.{AcceptedHaveOne, CountsAreAll, HasOneStatus, MessagesHaveOne, deliveries_of, statuses_of}
+use Rattle.sidecar_turns.specs.Accounts.{AcceptedHaveOne, CountsAreAll, MessagesHaveOne, statuses_of}
 
 -- ---- aims of different subscriptions
 

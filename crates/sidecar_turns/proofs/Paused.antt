@@ -1,5 +1,5 @@
 -- A pause between two turns of a drain, as what was done over all objects.
-use Rattle.std.proofs.Common.{◌≡◌, ◌-◌, ℕ, List, [], ◌∷◌, ◌++◌, refl, sym, subst, arith}
+use Rattle.std.proofs.Common.{◌-◌, ℕ, List, [], ◌∷◌, ◌++◌, refl, arith}
 use Rattle.rand_core.specs.Stream.{Stream, next_u64}
 use Rattle.side_world.specs.declared.clock.Tick.TheVariants as tick
 use Rattle.side_world.proofs.Composed.{drawn_nothing, tells_on}

@@ -1,5 +1,5 @@
 -- A turn of delivery on one ledger, as what was done over all objects.
-use Rattle.std.proofs.Common.{◌≡◌, ◌∙◌, ◌<◌, ℕ, All, List, [], ◌∷◌, ◌++◌, length, map, set, Option, Some, None, refl, sym, ap, subst, flat_map, unwrap_or, arith}
+use Rattle.std.proofs.Common.{◌≡◌, ◌∙◌, ◌<◌, ℕ, List, [], ◌∷◌, ◌++◌, map, set, Option, Some, None, refl, sym, ap, subst, flat_map, unwrap_or}
 use Rattle.std.specs.List.{sum_by}
 use Rattle.std.specs.Option.{ForSome}
 use mathlib.Core.Option.{some}
@@ -27,7 +27,7 @@ use Rattle.delivery_turn.specs.Stepping as own
 use Rattle.delivery_turn.specs.Delivery.{Delivery, Setting}
 use Rattle.sidecar_objects.specs.declared.doing.Doing.{Doing}
 use Rattle.sidecar_objects.specs.Kind.{Kinds, CellsAt, SeatsAt, stores, ledgers, breakers, book, cells_in, seats_in}
-use Rattle.sidecar_objects.specs.Doing.{laid, one_at, steps_at, asked_in, word_in, moment_in, pause_in, tick_in}
+use Rattle.sidecar_objects.specs.Doing.{laid, steps_at, asked_in, word_in, moment_in, pause_in, tick_in}
 use Rattle.sidecar_objects.specs.Did.{Did, Does, Standing}
 use Rattle.sidecar_objects.proofs.ByKind.{by_kind}
 use Rattle.sidecar_objects.proofs.Laid.{all_here, here_at, elsewhere_at, none_elsewhere, none_of_each, laid_own, laid_steps, laid_words, laid_moments, laid_pauses, laid_ticks}

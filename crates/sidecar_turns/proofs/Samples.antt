@@ -1,6 +1,6 @@
 -- Ledgers that are asked in order, and drains that are written out; and what is none.
-use Rattle.std.proofs.Common.{◌≡◌, ◌∙◌, ◌<◌, ◌≤◌, ◌+◌, ◌-◌, ℕ, List, [], ◌∷◌, ◌++◌, Option, Some, None, refl, sym, ap, subst, arith, min, append-nil}
-use Rattle.std.proofs.Math.Nat.{min-le_left, min-le_right, le-min}
+use Rattle.std.proofs.Common.{◌≡◌, ◌<◌, ◌≤◌, ◌+◌, ◌-◌, ℕ, List, [], ◌∷◌, ◌++◌, Option, Some, None, refl, sym, subst, arith, min, append-nil}
+use Rattle.std.proofs.Math.Nat.{min-le_right, le-min}
 use Rattle.retry_core.specs.declared.policy.Bound.{Bound}
 use Rattle.ledger_core.specs.declared.reply.LedgerReply.{LedgerReply}
 use Rattle.topic_spec.specs.declared.sub.Sub.{Sub}
@@ -14,8 +14,8 @@ use Rattle.sidecar_objects.specs.declared.doing.Doing.TheVariants.{Timed, Waited
 use Rattle.sidecar_turns.specs.declared.draining.Drained.{Drained}
 use Rattle.sidecar_turns.specs.declared.draining.Drained.TheVariants as drained
 use Rattle.sidecar_turns.specs.Brokers.{Sites}
-use Rattle.sidecar_turns.specs.Delivering.{Delivers, DeliversFrom, IsIdle, behind, idled, none_left, turn_events, went}
-use Rattle.sidecar_turns.specs.Draining.{Drain, Drains, GoesOn, Last, OneMore, Pauses, Stops, Turns, ended, used_up, went_on}
+use Rattle.sidecar_turns.specs.Delivering.{Delivers, DeliversFrom, IsIdle, idled, none_left, turn_events, went}
+use Rattle.sidecar_turns.specs.Draining.{Drains, GoesOn, Last, OneMore, Pauses, Stops, Turns, ended, used_up, went_on}
 use Rattle.sidecar_turns.proofs.InOrder.{behind_busy}
 
 -- ---- ledgers in order

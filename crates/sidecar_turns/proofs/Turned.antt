@@ -1,5 +1,5 @@
 -- Turns of a drain, one after the other.
-use Rattle.std.proofs.Common.{◌≡◌, ◌∙◌, ◌≤◌, ◌+◌, ℕ, suc, Some, None, List, [], ◌∷◌, ◌++◌, sym, subst, arith, append-nil, append_assoc}
+use Rattle.std.proofs.Common.{◌≡◌, ◌∙◌, ◌≤◌, ◌+◌, ℕ, suc, Some, None, List, [], ◌++◌, sym, subst, arith, append-nil, append_assoc}
 use Rattle.delivery_turn.specs.declared.ending.Turn.{Turn}
 use Rattle.delivery_turn.specs.declared.ending.Turn.TheVariants.{Delivered, Idle, Held, Exhausted}
 use Rattle.sidecar_objects.specs.declared.doing.Doing.{Doing}

@@ -13,7 +13,8 @@ use Rattle.ledger_core.specs.declared.reply.LedgerReply.TheVariants as says
 use Rattle.ledger_core.specs.Message.{Step, Message, is_pair, messages_of, pair_of}
 use Rattle.ledger_core.specs.Standing.{Standing, Status, standing, standings}
 use Rattle.ledger_core.specs.Course.{count_of, is_owed, is_done, is_dropped, is_dead}
-use Rattle.sidecar_objects.specs.Kind.{CellsAt, SeatsAt}
+use Rattle.sidecar_objects.specs.Kind.{CellsAt, Kinds, SeatsAt}
+use Rattle.sidecar_objects.specs.Passes.{IsSoundPass}
 
 -- which of the four statuses this is: how many of them
 abbrev pub statuses_of : Status → ℕ
@@ -49,7 +50,8 @@ pub record IsCount (history : List Step) (reply : LedgerReply) : Type 0 where
 abbrev pub CountsAreAll : List Step → Type 0
 CountsAreAll history = (before after : List Step) (entry : Step) → history ≡ before ++ entry ∷ after → entry.cmd ≡ Counts → IsCount before entry.reply
 
--- this holds of the history that the seat of each ledger has seen
-abbrev pub OfEachLedger : {O : Type 0} → (List Step → Type 0) → CellsAt O → SeatsAt O → Type 0
-OfEachLedger {O} holds cells seats =
-    (place : ℕ) (cell : Begun Ledger) (seat : Sitting Ledger LedgerCmd LedgerReply) → get_elem? cells.ledgers place ≡ some cell → get_elem? seats.ledgers place ≡ some seat → holds seat.seen
+-- this holds of the history that the seat of each ledger has seen, of every pass
+abbrev pub OfEachLedger : {O : Type 0} → Kinds O → (List Step → Type 0) → Type 0
+OfEachLedger {O} kinds holds =
+    (cells : CellsAt O) (seats : SeatsAt O) → IsSoundPass kinds cells seats
+    → (place : ℕ) (cell : Begun Ledger) (seat : Sitting Ledger LedgerCmd LedgerReply) → get_elem? cells.ledgers place ≡ some cell → get_elem? seats.ledgers place ≡ some seat → holds seat.seen

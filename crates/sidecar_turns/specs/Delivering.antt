@@ -1,4 +1,5 @@
 -- Turns of delivery over all ledgers, as what is done over all objects.
+use Rattle.std.proofs.Common.{inl, inr}
 use Rattle.std.specs.Prelude.{◌≡◌, ◌⊎◌, ◌+◌, ℕ, suc, min, List, [], ◌∷◌, ◌++◌, map, unwrap_or, Option, Some, None}
 use mathlib.Core.Option.{some}
 use lib.ListN.{get_elem?}
@@ -13,8 +14,8 @@ use Rattle.sidecar_objects.specs.declared.doing.Doing.{Doing}
 use Rattle.sidecar_objects.specs.declared.doing.Doing.TheVariants.{Asked, Stepped}
 use Rattle.sidecar_objects.specs.declared.doing.SlotStep.TheVariants.{Ledger}
 use Rattle.sidecar_objects.specs.Doing.{laid}
-use Rattle.sidecar_objects.specs.Kind.{SeatsAt}
-use Rattle.sidecar_objects.specs.Shown.{ShowsAt}
+use Rattle.sidecar_objects.specs.Kind.{SeatsAt, breakers, ledgers}
+use Rattle.sidecar_objects.specs.Shown.{Shows, ShowsAt}
 use Rattle.sidecar_turns.specs.Brokers.{Sites}
 
 -- ---- one turn
@@ -65,13 +66,17 @@ pub data DeliversFrom : ℕ → List Setting → List Doing → Turn → Type 0 
 abbrev pub setting_at : ℕ → List Sub → Bound → Setting
 setting_at port subs bound = record { port = port; subs = subs; bound = bound }
 
--- without an app port there is no step, and nothing will be due; with one, a turn on the ledgers of all brokers in order
-abbrev pub DeliversBy : Option ℕ → List Bound → List Sub → List Doing → Turn → Type 0
-DeliversBy None inbound subs events turn = (events ≡ []) × (turn ≡ Idle None)
-DeliversBy (Some port) inbound subs events turn = DeliversFrom 0 (map (setting_at port subs) inbound) events turn
+-- a turn on the ledgers of all brokers in order, to which this is bound
+abbrev pub DeliversEach : ℕ → List Sub → List Bound → List Doing → Turn → Type 0
+DeliversEach port subs inbound events turn = DeliversFrom 0 (map (setting_at port subs) inbound) events turn
+
+-- without an app port there is no step, and nothing will be due; with one, such a turn
+abbrev pub DeliversToApp : Option ℕ → List Bound → List Sub → List Doing → Turn → Type 0
+DeliversToApp None inbound subs events turn = (events ≡ []) × (turn ≡ Idle None)
+DeliversToApp (Some port) inbound subs events turn = DeliversEach port subs inbound events turn
 
 abbrev pub Delivers : Sites → List Sub → List Doing → Turn → Type 0
-Delivers sites subs events turn = DeliversBy sites.port sites.inbound subs events turn
+Delivers sites subs events turn = DeliversToApp sites.port sites.inbound subs events turn
 
 -- ---- exhausted cells
 
@@ -85,6 +90,14 @@ pub record ShowsOne {O : Type 0} (inbound : List Bound) (seats : SeatsAt O) (cou
   pub bound : Bound
   pub there : get_elem? inbound place ≡ some bound
   pub shown : ShowsTurn place bound seats count
+
+-- so a seat of the pass shows it
+pub one_shows : {O : Type 0} (inbound : List Bound) (seats : SeatsAt O) (count : ℕ) → ShowsOne inbound seats count → Shows seats count
+one_shows inbound seats count one = by one.shown
+  where
+    by : ShowsTurn one.place one.bound seats count → Shows seats count
+    by (inl ledger) = record { kind = ledgers; place = one.place; shown = ledger }
+    by (inr breaker) = record { kind = breakers; place = breaker.0; shown = breaker.2 }
 
 -- ---- ledgers behind one that is idle
 

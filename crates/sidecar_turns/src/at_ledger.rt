@@ -4,12 +4,11 @@ ghost use Rattle.retry_core.specs.Bound.{IsWithinLimit};
 ghost use Rattle.turn_cell.specs.Sitting.{IsSeatOf};
 ghost use Rattle.turn_cell.specs.Passes.{EachSeated};
 ghost use Rattle.ledger_core.specs.Ledger.{plans_of};
-ghost use Rattle.policy_run.specs.Effects.{AreNone, Draws, Made, times};
-ghost use Rattle.link_call.specs.LinkAt.{link_at};
+ghost use Rattle.policy_run.specs.Effects.{AreNone, Draws, times};
+ghost use Rattle.link_call.specs.LinkAt.{links};
 ghost use Rattle.delivery_turn.specs.declared.ending.Turn.TheVariants as ended;
-ghost use Rattle.delivery_turn.specs.Delivery.{Delivery};
-ghost use Rattle.delivery_turn.specs.Stepping.{Did};
-ghost use Rattle.delivery_turn.specs.Turning.{setting_of};
+ghost use Rattle.delivery_turn.specs.Stepping.{DidBy};
+ghost use Rattle.delivery_turn.specs.Turning.{DeliversBy, setting_of};
 ghost use Rattle.sidecar_objects.specs.Pass.{DoesBy, seats_of};
 ghost use Rattle.sidecar_turns.specs.Brokers.{HasBreakerOf, IsPlannedFor};
 ghost use Rattle.sidecar_turns.specs.Delivering.{DeliversAt, ShowsTurn};
@@ -85,7 +84,7 @@ fn plain<L: Link, C: Clock, R: Rng, W: Wait>(
     requires breaker { what.now.bound.now.breaker ≡ None }
     requires seat { IsSeatOf cell.now seat.old }
     requires plans { length (plans_of cell.now.first) ≡ length what.now.subs.now }
-    ensures delivers { Made (λ events. Delivery (setting_of what.now) events result) (Did ⟦<Ledger as Object>⟧ cell.now seat.old seat.new (link_at L.Link link.old) (link_at L.Link link.new)) AreNone (times C.Clock clock.old clock.new) (Draws R.stream rng.old rng.new) }
+    ensures delivers { DeliversBy (setting_of what.now) result (DidBy ⟦<Ledger as Object>⟧ cell.now seat.old seat.new (links L.Link link.old link.new)) AreNone (times C.Clock clock.old clock.new) (Draws R.stream rng.old rng.new) }
     ensures shows { (count : ℕ) → result ≡ ended.Exhausted count → seat.new.count ≡ Some count }
 {
     turn(rt, what, cell, seat, &mut NoBreaker, link, clock, rng)
@@ -108,7 +107,8 @@ fn gated<L: Link, C: Clock, R: Rng, W: Wait>(
     requires seat { IsSeatOf cell.now seat.old }
     requires key { IsSeatOf gate.now key.old }
     requires plans { length (plans_of cell.now.first) ≡ length what.now.subs.now }
-    ensures delivers { Made (λ events. Delivery (setting_of what.now) events result) (Did ⟦<Ledger as Object>⟧ cell.now seat.old seat.new (link_at L.Link link.old) (link_at L.Link link.new)) (Grows ⟦<Breaker as Object>⟧ gate.now key.old key.new) (times C.Clock clock.old clock.new) (Draws R.stream rng.old rng.new) }
+    ensures delivers { DeliversBy (setting_of what.now) result (DidBy ⟦<Ledger as Object>⟧ cell.now seat.old seat.new (links L.Link link.old link.new))
+        (Grows ⟦<Breaker as Object>⟧ gate.now key.old key.new) (times C.Clock clock.old clock.new) (Draws R.stream rng.old rng.new) }
     ensures shows { (count : ℕ) → result ≡ ended.Exhausted count → (key.new.count ≡ Some count) ⊎ (seat.new.count ≡ Some count) }
 {
     let mut guard = BreakerAt {

@@ -4,7 +4,7 @@ ghost use Rattle.delivery_turn.specs.declared.ending.Turn.TheVariants as ended;
 ghost use Rattle.sidecar_objects.specs.Passes.{IsPassOf};
 ghost use Rattle.sidecar_objects.specs.Pass.{DoesBy, cells_of, seats_of};
 ghost use Rattle.sidecar_turns.specs.Brokers.{AreOf, Sites};
-ghost use Rattle.sidecar_turns.specs.Delivering.{Delivers, ShowsOne, earlier};
+ghost use Rattle.sidecar_turns.specs.Delivering.{Delivers, DeliversEach, ShowsOne, earlier};
 
 use crate::Brokers;
 use crate::at_ledger::turn_at;
@@ -45,25 +45,26 @@ pub fn deliver<K: Keeper, L: Link, C: Clock, R: Rng, W: Wait>(
                 alloc: brokers.alloc,
                 port,
                 subs,
+                inbound: brokers.inbound(),
             };
-            deliver_each(rt, &app, brokers.inbound(), objects, pass, link, clock, rng)
+            deliver_each(rt, &app, objects, pass, link, clock, rng)
         }
     }
 }
 
-/// The app to which is delivered.
+/// The app to which is delivered, with its subscriptions, and what is bound to what comes from each broker.
 #[derive(Clone, Copy)]
 struct App<'a> {
     alloc: Global,
     port: u16,
     subs: &'a Subs,
+    inbound: &'a [Bound],
 }
 
-/// Takes one turn on the first ledger that isn't idle, where this is bound to what comes from each broker.
+/// Takes one turn on the first ledger that isn't idle.
 fn deliver_each<K: Keeper, L: Link, C: Clock, R: Rng, W: Wait>(
     rt: &W,
     app: &App<'_>,
-    inbound: &[Bound],
     objects: &Objects<K>,
     pass: &mut Pass<K>,
     link: &mut L,
@@ -71,18 +72,18 @@ fn deliver_each<K: Keeper, L: Link, C: Clock, R: Rng, W: Wait>(
     rng: &mut R,
 ) -> Turn
     requires pass { IsPassOf (cells_of objects.now) (seats_of pass.old) }
-    requires cells { AreOf (cells_of objects.now) (record { port = Some app.now.port; inbound = inbound.now }) app.now.subs.now }
-    requires limits { All IsWithinLimit inbound.now }
-    ensures does { DoesBy ⟦<Store<K> as ObjectKinds>⟧.kinds L.Link C.Clock R.stream objects.now pass.old pass.new link.old link.new clock.old clock.new rng.old rng.new (Delivers (record { port = Some app.now.port; inbound = inbound.now }) app.now.subs.now) result }
-    ensures shows { (count : ℕ) → result ≡ ended.Exhausted count → ShowsOne inbound.now (seats_of pass.new) count }
+    requires cells { AreOf (cells_of objects.now) (record { port = Some app.now.port; inbound = app.now.inbound.now }) app.now.subs.now }
+    requires limits { All IsWithinLimit app.now.inbound.now }
+    ensures does { DoesBy ⟦<Store<K> as ObjectKinds>⟧.kinds L.Link C.Clock R.stream objects.now pass.old pass.new link.old link.new clock.old clock.new rng.old rng.new (DeliversEach app.now.port app.now.subs.now app.now.inbound.now) result }
+    ensures shows { (count : ℕ) → result ≡ ended.Exhausted count → ShowsOne app.now.inbound.now (seats_of pass.new) count }
 {
     let mut next = None;
-    for place in 0..inbound.len() {
+    for place in 0..app.inbound.len() {
         let what = Deliveries {
             alloc: app.alloc,
             port: app.port,
             subs: app.subs,
-            bound: &inbound[place],
+            bound: &app.inbound[place],
         };
         match turn_at(rt, &what, objects, pass, place, link, clock, rng) {
             Turn::Idle { next: later } => next = earlier(next, later),

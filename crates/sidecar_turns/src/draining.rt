@@ -58,33 +58,55 @@ pub fn drain<K: Keeper, L: Link, C: Clock, R: Rng, W: Wait>(
     ensures does { DoesBy ⟦<Store<K> as ObjectKinds>⟧.kinds L.Link C.Clock R.stream objects.now pass.old pass.new link.old link.new clock.old clock.new rng.old rng.new (Drains brokers.now subs.now began) result }
     ensures shows { (count : ℕ) → result ≡ Drained.Spent count → ShowsOne brokers.now.inbound (seats_of pass.new) count }
 {
+    let duty = Duty {
+        brokers,
+        subs,
+        objects,
+        began,
+    };
     for _taken in 0..TURNS {
-        if let Some(how) = drain_once(rt, brokers, subs, objects, pass, began, link, clock, rng) {
+        if let Some(how) = drain_once(rt, &duty, pass, link, clock, rng) {
             return how;
         }
     }
     Drained::UsedUp
 }
 
+/// What a drain has to do: over which ledgers, and from which moment on.
+#[derive(Drop)]
+struct Duty<'a, K: Keeper> {
+    brokers: &'a Brokers,
+    subs: &'a Subs,
+    objects: &'a Objects<K>,
+    began: Moment,
+}
+
 /// Takes one turn of a drain, and pauses up to what will be due soon. `None` where a further turn follows.
 fn drain_once<K: Keeper, L: Link, C: Clock, R: Rng, W: Wait>(
     rt: &W,
-    brokers: &Brokers,
-    subs: &Subs,
-    objects: &Objects<K>,
+    duty: &Duty<'_, K>,
     pass: &mut Pass<K>,
-    began: Moment,
     link: &mut L,
     clock: &mut C,
     rng: &mut R,
 ) -> Option<Drained>
-    requires pass { IsPassOf (cells_of objects.now) (seats_of pass.old) }
-    requires cells { AreOf (cells_of objects.now) brokers.now subs.now }
-    ensures does { DoesBy ⟦<Store<K> as ObjectKinds>⟧.kinds L.Link C.Clock R.stream objects.now pass.old pass.new link.old link.new clock.old clock.new rng.old rng.new (StepsOn brokers.now subs.now began) result }
-    ensures shows { (count : ℕ) → result ≡ Some (Drained.Spent count) → ShowsOne brokers.now.inbound (seats_of pass.new) count }
+    requires pass { IsPassOf (cells_of duty.now.objects.now) (seats_of pass.old) }
+    requires cells { AreOf (cells_of duty.now.objects.now) duty.now.brokers.now duty.now.subs.now }
+    ensures does { DoesBy ⟦<Store<K> as ObjectKinds>⟧.kinds L.Link C.Clock R.stream duty.now.objects.now pass.old pass.new link.old link.new clock.old clock.new rng.old rng.new
+        (StepsOn duty.now.brokers.now duty.now.subs.now duty.now.began) result }
+    ensures shows { (count : ℕ) → result ≡ Some (Drained.Spent count) → ShowsOne duty.now.brokers.now.inbound (seats_of pass.new) count }
 {
-    let turn = deliver(rt, brokers, subs, objects, pass, link, clock, rng);
-    match next_after(began, turn) {
+    let turn = deliver(
+        rt,
+        duty.brokers,
+        duty.subs,
+        duty.objects,
+        pass,
+        link,
+        clock,
+        rng,
+    );
+    match next_after(duty.began, turn) {
         Following::Another => None,
         Following::Waiting { due } => {
             pause_until(clock, due);

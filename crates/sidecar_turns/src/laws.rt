@@ -10,12 +10,10 @@ ghost use Rattle.delivery_turn.specs.declared.ending.Turn.TheVariants as ended;
 ghost use Rattle.delivery_turn.specs.Settling.{Own};
 ghost use Rattle.delivery_turn.specs.Stepping.{asked_in as calls_in, entered_in};
 ghost use Rattle.delivery_turn.specs.Delivery.{Delivery, Setting};
-ghost use Rattle.state_core.specs.declared.store.Store.{Store as StoreRecord};
 ghost use Rattle.sidecar_objects.specs.declared.doing.Doing.{Doing};
 ghost use Rattle.sidecar_objects.specs.declared.doing.Doing.TheVariants.{Timed, Waited};
 ghost use Rattle.sidecar_objects.specs.Doing.{asked_in, steps_at};
-ghost use Rattle.sidecar_objects.specs.Kind.{CellsAt, SeatsAt, breakers, ledgers, stores};
-ghost use Rattle.sidecar_objects.specs.Passes.{IsSoundPass};
+ghost use Rattle.sidecar_objects.specs.Kind.{breakers, ledgers, stores};
 ghost use Rattle.sidecar_turns.specs.Accounts.{AcceptedHaveOne, CountsAreAll, MessagesHaveOne, OfEachLedger};
 ghost use Rattle.sidecar_turns.specs.declared.draining.Drained.{Drained as End};
 ghost use Rattle.sidecar_turns.specs.Brokers.{Sites};
@@ -31,14 +29,14 @@ use state_core::Store;
 /// Of each event that a ledger accepted there is, for each subscription that it was for, one delivery, and it is exactly one of owed, done,
 /// dropped and dead-lettered; and so it is of each message that was made of a delivery that was dead-lettered.
 pub fn each_delivery_has_one_status<K: Keeper>()
-    ensures accepted { (cells : CellsAt (StoreRecord K K.Keeper)) (seats : SeatsAt (StoreRecord K K.Keeper)) → IsSoundPass ⟦<Store<K> as ObjectKinds>⟧.kinds cells seats → OfEachLedger AcceptedHaveOne cells seats }
-    ensures messages { (cells : CellsAt (StoreRecord K K.Keeper)) (seats : SeatsAt (StoreRecord K K.Keeper)) → IsSoundPass ⟦<Store<K> as ObjectKinds>⟧.kinds cells seats → OfEachLedger MessagesHaveOne cells seats }
+    ensures accepted { OfEachLedger ⟦<Store<K> as ObjectKinds>⟧.kinds AcceptedHaveOne }
+    ensures messages { OfEachLedger ⟦<Store<K> as ObjectKinds>⟧.kinds MessagesHaveOne }
 {}
 
 /// What a ledger answers that is counted is how many of its deliveries are owed, done, dropped and dead-lettered, and each delivery is
 /// counted once.
 pub fn counts_are_all_deliveries<K: Keeper>()
-    ensures { (cells : CellsAt (StoreRecord K K.Keeper)) (seats : SeatsAt (StoreRecord K K.Keeper)) → IsSoundPass ⟦<Store<K> as ObjectKinds>⟧.kinds cells seats → OfEachLedger CountsAreAll cells seats }
+    ensures { OfEachLedger ⟦<Store<K> as ObjectKinds>⟧.kinds CountsAreAll }
 {
     the_counts_are_all_pairs();
 }
@@ -67,8 +65,11 @@ pub fn ledgers_are_asked_in_order()
 /// where a delivery will be due soon, after a pause up to then.
 pub fn what_is_due_is_delivered()
     ensures alone { (inbound : List Bound) (subs : List Sub) (began : ℕ) → Drains (record { port = None; inbound = inbound }) subs began [] Drained.Done }
-    ensures delivered { (sites : Sites) (subs : List Sub) (began number sub : ℕ) (settled : LedgerReply) (first second : List Doing) → Delivers sites subs first (ended.Delivered number sub settled) → Delivers sites subs second (ended.Idle None) → Drains sites subs began (first ++ second) Drained.Done }
-    ensures later { (sites : Sites) (subs : List Sub) (began next last : ℕ) (first second : List Doing) → Delivers sites subs first (ended.Idle (Some next)) → next ≤ began + 60000 → Delivers sites subs second (ended.Idle None) → Drains sites subs began ((first ++ Timed last ∷ Waited (next - last) ∷ []) ++ second) Drained.Done }
+    ensures delivered { (sites : Sites) (subs : List Sub) (began number sub : ℕ) (settled : LedgerReply) (first second : List Doing)
+        → Delivers sites subs first (ended.Delivered number sub settled) → Delivers sites subs second (ended.Idle None) → Drains sites subs began (first ++ second) Drained.Done }
+    ensures later { (sites : Sites) (subs : List Sub) (began next last : ℕ) (first second : List Doing)
+        → Delivers sites subs first (ended.Idle (Some next)) → next ≤ began + 60000 → Delivers sites subs second (ended.Idle None)
+        → Drains sites subs began ((first ++ Timed last ∷ Waited (next - last) ∷ []) ++ second) Drained.Done }
 {}
 
 /// Without an app port a drain does nothing. None waits for what is due after more than 60,000 ms, or ends before what is due within them; and

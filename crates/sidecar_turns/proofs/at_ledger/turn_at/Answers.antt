@@ -1,4 +1,4 @@
-use Rattle.std.proofs.Common.{Some, arith, inl, inr, ⊎_elim, ◌≡◌, refl}
+use Rattle.std.proofs.Common.{arith, inl, inr, refl}
 use Rattle.atomic_table.proofs.Lists.{at_index, set_here}
 use Rattle.sidecar_turns.proofs.Placed.{turned_plainly, turned_gated, within}
 use Rattle.sidecar_turns.proofs.at_ledger.turn_at.Goals as goal

@@ -10,7 +10,7 @@ abbrev no_bound : Bound
 no_bound = record { timeout_ms = None; retry = None; breaker = None }
 
 pub loop-place-init : goal.loop-place-init
-loop-place-init g c = record { so_far = asked_none c.args.app.now.port c.args.app.now.subs.now c.args.inbound.now _ _ _ }
+loop-place-init g c = record { so_far = asked_none c.args.app.now.port c.args.app.now.subs.now c.args.app.now.inbound.now _ _ _ }
 
 pub turn_at-requires-clause-limits : goal.turn_at-requires-clause-limits
 turn_at-requires-clause-limits g c = c.requires.limits c.loop-place.place no_bound (omega (arith, c.loop-place-test.true, c.loop-place.auto.place-end))
@@ -23,16 +23,16 @@ turn_at-requires-clause-breakers g c = (pass_stays _ _ _ _ _ c.loop-place.invari
 
 pub returns-in_default : goal.returns-in_default
 returns-in_default g c =
-    let there = bound_there c.args.inbound.now c.loop-place.place no_bound (omega (arith, c.loop-place-test.true, c.loop-place.auto.place-end)) in record {
-      does = asked_busy c.args.app.now.port c.args.app.now.subs.now c.args.inbound.now _ _ _ _ _ c.loop-place.place _ there c.loop-place.next c.loop-place.invariant.so_far c.turn_at.result (λ idle. c.in_default.not-Idle idle.0 idle.1) c.turn_at.ensures.does;
-      shows = λ count is. record { place = c.loop-place.place; bound = get_or c.args.inbound.now c.loop-place.place no_bound; there = there; shown = c.turn_at.ensures.shows count is };
+    let there = bound_there c.args.app.now.inbound.now c.loop-place.place no_bound (omega (arith, c.loop-place-test.true, c.loop-place.auto.place-end)) in record {
+      does = asked_busy c.args.app.now.port c.args.app.now.subs.now c.args.app.now.inbound.now _ _ _ _ _ c.loop-place.place _ there c.loop-place.next c.loop-place.invariant.so_far c.turn_at.result (λ idle. c.in_default.not-Idle idle.0 idle.1) c.turn_at.ensures.does;
+      shows = λ count is. record { place = c.loop-place.place; bound = get_or c.args.app.now.inbound.now c.loop-place.place no_bound; there = there; shown = c.turn_at.ensures.shows count is };
     }
 
 pub loop-place-preserved : goal.loop-place-preserved
 loop-place-preserved g c =
-    let there = bound_there c.args.inbound.now c.loop-place.place no_bound (omega (arith, c.loop-place-test.true, c.loop-place.auto.place-end)) in record {
-      so_far = asked_idle c.args.app.now.port c.args.app.now.subs.now c.args.inbound.now _ _ _ _ _ c.loop-place.place _ there c.loop-place.next c.loop-place.invariant.so_far c.in-Idle.later c.earlier-next.result c.earlier-next.ensures c.in-Idle.ensures.does;
+    let there = bound_there c.args.app.now.inbound.now c.loop-place.place no_bound (omega (arith, c.loop-place-test.true, c.loop-place.auto.place-end)) in record {
+      so_far = asked_idle c.args.app.now.port c.args.app.now.subs.now c.args.app.now.inbound.now _ _ _ _ _ c.loop-place.place _ there c.loop-place.next c.loop-place.invariant.so_far c.in-Idle.later c.earlier-next.result c.earlier-next.ensures c.in-Idle.ensures.does;
     }
 
 pub returns-clause-does : goal.returns-clause-does
-returns-clause-does g c = asked_all c.args.app.now.port c.args.app.now.subs.now c.args.inbound.now _ _ _ _ c.loop-place.place (drop_all c.loop-place.place c.args.inbound.now (omega (arith, c.loop-place-test.false))) c.loop-place.next c.loop-place.invariant.so_far
+returns-clause-does g c = asked_all c.args.app.now.port c.args.app.now.subs.now c.args.app.now.inbound.now _ _ _ _ c.loop-place.place (drop_all c.loop-place.place c.args.app.now.inbound.now (omega (arith, c.loop-place-test.false))) c.loop-place.next c.loop-place.invariant.so_far
