@@ -4,7 +4,7 @@ ghost use Rattle.ledger_core.specs.declared.reply.LedgerReply.TheVariants as say
 ghost use Rattle.std.specs.Prelude.{◌++◌, decimal};
 ghost use Rattle.sidecar_objects.specs.Passes.{IsPassOf};
 ghost use Rattle.sidecar_objects.specs.Pass.{cells_of, seats_of};
-ghost use Rattle.sidecar_turns.specs.Brokers.{is_pubsub};
+ghost use Rattle.sidecar_turns.specs.Brokers.{is_broker};
 ghost use Rattle.sidecar_cli.specs.Counting.{counts_line, IsTold, IsToldOf};
 ghost use Rattle.sidecar_cli.specs.Note.{IsNoted};
 
@@ -35,7 +35,7 @@ pub(crate) fn tell_ledgers<K: Keeper, E: Sink, W: Wait>(
     let mut place = 0;
     for at in 0..components.len() {
         let component = components.at(at);
-        if is_pubsub(component.kind()) {
+        if is_broker(component.kind()) {
             spent = spent.or(tell_ledger(rt, shared, place, component.name(), pass, note));
             place += 1;
         }
@@ -44,8 +44,8 @@ pub(crate) fn tell_ledgers<K: Keeper, E: Sink, W: Wait>(
 }
 
 /// Whether it is a broker.
-fn is_pubsub(kind: ComponentKind) -> bool
-    ensures { result ≡ is_pubsub kind }
+fn is_broker(kind: ComponentKind) -> bool
+    ensures { result ≡ is_broker kind }
 {
     match kind {
         ComponentKind::PubsubMemory => true,
