@@ -5,4 +5,5 @@ pub mod Turns
 pub mod Passing
 pub mod Defaults
 pub mod Parsing
+pub mod Drills
 pub mod OneMeaning

@@ -1,16 +1,18 @@
 -- Words spell at most one list of pairs, and mean at most one thing.
-use Rattle.std.proofs.Common.{◌≡◌, ◌∙◌, ◌⊎◌, inl, inr, ℕ, true≢false, refl, sym, ap, ap₂, subst, List, [], ◌∷◌, ◌++◌, Option, Some, None, Contains, is_some}
+use Rattle.std.proofs.Common.{◌≡◌, ◌∙◌, ◌⊎◌, inl, inr, ℕ, Bool, true, false, true≢false, refl, sym, ap, ap₂, subst, List, [], ◌∷◌, ◌++◌, Option, Some, None, Contains, is_some}
 use Rattle.clap.specs.Lexer.{long_of}
 use Rattle.sidecar_words.specs.Spelling.{Pair, IsOnce, Spells, Writes, options, flags}
 use Rattle.sidecar_words.specs.Value.{IsNumberOr}
-use Rattle.sidecar_words.specs.Meaning.{GivesOf, Means, mode_of}
+use Rattle.sidecar_words.specs.Meaning.{Gives, IsMode, Means, Options, options_of}
 use Rattle.sidecar_words.specs.Found.{GivesValues, HoldsOf}
+use Rattle.sidecar_words.specs.declared.given.Mode.{Mode}
 use Rattle.sidecar_words.specs.declared.given.Words.{Words}
 use Rattle.sidecar_words.specs.declared.checking.Values.{Values}
 use Rattle.sidecar_words.proofs.Lexing.{Text}
 use Rattle.sidecar_words.proofs.Rules.{is_named}
 use Rattle.sidecar_words.proofs.Passing.{fit_alone, fit_with}
 use Rattle.sidecar_words.proofs.Parsing.{option_fit, flag_fit, disjoint}
+use Rattle.sidecar_words.proofs.Drills.{one_drill}
 
 -- ---- one list of pairs
 
@@ -84,49 +86,34 @@ abbrev some_in : {X : Type 0} → X → Option X → X
 some_in x None = x
 some_in x (Some y) = y
 
-one_given : (pairs : List Pair) (one other : Words) → GivesOf pairs one → GivesOf pairs other → one ≡ other
-one_given pairs one other a b =
+one_mode : (stdio check : Bool) (drill : Option Text) (one other : Mode) → IsMode stdio check drill one → IsMode stdio check drill other → one ≡ other
+one_mode false false None one other a b = a ∙ sym b
+one_mode false false (Some text) one other a b = one_drill text one other a b
+one_mode false true None one other a b = a ∙ sym b
+one_mode false true (Some text) one other a b = absurd a
+one_mode true false None one other a b = a ∙ sym b
+one_mode true false (Some text) one other a b = absurd a
+one_mode true true drill one other a b = absurd a
+
+one_given : (options : Options) (one other : Words) → Gives options one → Gives options other → one ≡ other
+one_given options one other a b =
     let app : one.app ≡ other.app = ap (some_in one.app) (sym a.app_is ∙ b.app_is) in
     let resources : one.resources ≡ other.resources = sym a.resources_are ∙ b.resources_are in
     let port : one.port ≡ other.port = one_number 65535 3500 _ one.port other.port a.port_is b.port_is in
     let workers : one.workers ≡ other.workers = one_number 64 4 _ one.workers other.workers a.workers_are b.workers_are in
-    let mode : one.mode ≡ other.mode = ap (some_in one.mode) (sym a.mode_is ∙ b.mode_is) in
+    let mode : one.mode ≡ other.mode = one_mode options.stdio options.check options.drill one.mode other.mode a.mode_is b.mode_is in
     λ i. record { app = app i; resources = resources i; port = port i; workers = workers i; mode = mode i }
 
 pub one_meaning : (words : List Text) (one other : Words) → Means words one → Means words other → one ≡ other
 one_meaning words one other (pairs, spelled, once, gives) (others, respelled, again, regives) =
-    one_given pairs one other gives (subst (λ ps. GivesOf ps other) (sym (one_spelling pairs others words spelled respelled)) regives)
+    one_given (options_of pairs) one other gives (subst (λ ps. Gives (options_of ps) other) (sym (one_spelling pairs others words spelled respelled)) regives)
 
 -- ---- what words mean, by their pairs
 
 pub means_values : (words : List Text) (pairs : List Pair) (values : Values) (given : Words) → Spells options flags words pairs → HoldsOf pairs values → Means words given → GivesValues values given
 means_values words pairs values given spelled holds (others, respelled, once, gives) =
     let same = one_spelling others pairs words respelled spelled in
-    let of_pairs : GivesOf pairs given = subst (λ ps. GivesOf ps given) same gives in
-    record {
-      app_is = holds.app ∙ of_pairs.app_is;
-      app_form = of_pairs.app_form;
-      resources_are = holds.resources ∙ of_pairs.resources_are;
-      resources_filled = of_pairs.resources_filled;
-      port_is = subst (λ (v : Option Text). IsNumberOr 65535 3500 v given.port) (sym holds.port) of_pairs.port_is;
-      workers_are = subst (λ (v : Option Text). IsNumberOr 64 4 v given.workers) (sym holds.workers) of_pairs.workers_are;
-      mode_is = ap₂ mode_of holds.stdio holds.check ∙ of_pairs.mode_is;
-      folder = of_pairs.folder;
-    }
+    subst (λ (o : Options). Gives o given) (ap options_of same ∙ sym holds) gives
 
 pub values_mean : (words : List Text) (pairs : List Pair) (values : Values) (given : Words) → Spells options flags words pairs → IsOnce pairs → HoldsOf pairs values → GivesValues values given → Means words given
-values_mean words pairs values given spelled once holds gives = (
-  pairs,
-  spelled,
-  once,
-  record {
-    app_is = sym holds.app ∙ gives.app_is;
-    app_form = gives.app_form;
-    resources_are = sym holds.resources ∙ gives.resources_are;
-    resources_filled = gives.resources_filled;
-    port_is = subst (λ (v : Option Text). IsNumberOr 65535 3500 v given.port) holds.port gives.port_is;
-    workers_are = subst (λ (v : Option Text). IsNumberOr 64 4 v given.workers) holds.workers gives.workers_are;
-    mode_is = ap₂ mode_of (sym holds.stdio) (sym holds.check) ∙ gives.mode_is;
-    folder = gives.folder;
-  },
-)
+values_mean words pairs values given spelled once holds gives = (pairs, spelled, once, subst (λ (o : Options). Gives o given) holds gives)

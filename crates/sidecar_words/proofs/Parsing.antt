@@ -187,13 +187,14 @@ found_pairs words a m values is_app plain matches kinds found =
       reads.pairs,
       reads.spelled,
       reads.once,
-      record {
-        app = found.app ∙ value (codes "app-id") (0, omega arith, refl);
-        resources = found.resources ∙ value (codes "resources-path") (1, omega arith, refl);
-        port = found.port ∙ value (codes "dapr-http-port") (2, omega arith, refl);
-        workers = found.workers ∙ value (codes "workers") (3, omega arith, refl);
-        stdio = flag (codes "stdio") values.stdio (0, omega arith, refl) found.stdio;
-        check = flag (codes "check") values.check (1, omega arith, refl) found.check;
+      λ i. record {
+        app = (found.app ∙ value (codes "app-id") (0, omega arith, refl)) i;
+        resources = (found.resources ∙ value (codes "resources-path") (1, omega arith, refl)) i;
+        port = (found.port ∙ value (codes "dapr-http-port") (2, omega arith, refl)) i;
+        workers = (found.workers ∙ value (codes "workers") (3, omega arith, refl)) i;
+        drill = (found.drill ∙ value (codes "drill") (4, omega arith, refl)) i;
+        stdio = flag (codes "stdio") values.stdio (0, omega arith, refl) found.stdio i;
+        check = flag (codes "check") values.check (1, omega arith, refl) found.check i;
       },
     )
 

@@ -1,25 +1,32 @@
 -- Values as the program holds them.
 use Rattle.std.specs.Prelude.{◌≡◌, ℕ, Bool, true, false, List, Option, Some, codes}
-use Rattle.sidecar_words.specs.Spelling.{Pair, value_of, stands}
+use Rattle.sidecar_words.specs.Spelling.{Pair}
 use Rattle.sidecar_words.specs.Value.{text_of}
-use Rattle.sidecar_words.specs.Meaning.{Gives}
+use Rattle.sidecar_words.specs.Meaning.{Gives, Options, options_of}
 use Rattle.sidecar_words.specs.declared.given.Words.{Words}
 use Rattle.sidecar_words.specs.declared.checking.Values.{Values}
 use Rattle.clap.specs.Words.{first_value, one_text}
 use Rattle.clap.specs.declared.parser.matches.Found.{Found}
 
+-- the values, as texts
+abbrev pub shown : Values → Options
+shown values = record {
+  app = text_of values.app;
+  resources = text_of values.resources;
+  port = text_of values.port;
+  workers = text_of values.workers;
+  drill = text_of values.drill;
+  stdio = values.stdio;
+  check = values.check;
+}
+
 -- what the values come to
 abbrev pub GivesValues : Values → Words → Type 0
-GivesValues values given = Gives (text_of values.app) (text_of values.resources) (text_of values.port) (text_of values.workers) values.stdio values.check given
+GivesValues values given = Gives (shown values) given
 
 -- the values are those of the pairs
-pub record HoldsOf (pairs : List Pair) (values : Values) : Type 0 where
-  pub app : text_of values.app ≡ value_of pairs (codes "app-id")
-  pub resources : text_of values.resources ≡ value_of pairs (codes "resources-path")
-  pub port : text_of values.port ≡ value_of pairs (codes "dapr-http-port")
-  pub workers : text_of values.workers ≡ value_of pairs (codes "workers")
-  pub stdio : values.stdio ≡ stands pairs (codes "stdio")
-  pub check : values.check ≡ stands pairs (codes "check")
+abbrev pub HoldsOf : List Pair → Values → Type 0
+HoldsOf pairs values = shown values ≡ options_of pairs
 
 -- the truth value that a text writes
 pub record IsRead (text : Option (List ℕ)) (value : Bool) : Type 0 where
@@ -32,5 +39,6 @@ pub record IsFound (found : Found) (values : Values) : Type 0 where
   pub resources : text_of values.resources ≡ first_value found (codes "resources-path")
   pub port : text_of values.port ≡ first_value found (codes "dapr-http-port")
   pub workers : text_of values.workers ≡ first_value found (codes "workers")
+  pub drill : text_of values.drill ≡ first_value found (codes "drill")
   pub stdio : IsRead (one_text found (codes "stdio")) values.stdio
   pub check : IsRead (one_text found (codes "check")) values.check

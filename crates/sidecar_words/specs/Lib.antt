@@ -3,3 +3,4 @@ pub mod Value
 pub mod Meaning
 pub mod Command
 pub mod Found
+pub mod Parts

@@ -34,3 +34,10 @@ IsNumberOr most usual (Some text) number = IsNumber most text number
 -- a value isn't empty
 abbrev pub IsFilled : Option (List ℕ) → Type 0
 IsFilled value = IfSome value (λ text. 0 < length text)
+
+-- the text writes the number in decimal digits, and it is at most `most`
+pub record IsCount (most : ℕ) (text : List ℕ) (number : ℕ) : Type 0 where
+  pub some : 0 < length text
+  pub digits : AllDigits 10 text
+  pub value : number ≡ digits_value 10 text
+  pub limit : number ≤ most

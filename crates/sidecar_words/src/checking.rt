@@ -1,9 +1,10 @@
 ghost use Rattle.std.specs.Prelude.{◌≡◌, ◌↔◌, ℕ, IfOk, IfSome, IfNone, IsTrue, IsErrOf, List, is_some, true};
 ghost use Rattle.sidecar_words.specs.Value.{IsAppId, IsNumber, IsNumberOr, IsFilled, is_app_id_byte, text_of};
-ghost use Rattle.sidecar_words.specs.Meaning.{mode_of};
+ghost use Rattle.sidecar_words.specs.Meaning.{IsMode};
 ghost use Rattle.sidecar_words.specs.Found.{GivesValues};
 ghost use Rattle.sidecar_words.specs.declared.given.Words.{Words};
 
+use crate::drilling::drill_of;
 use crate::{Mode, Words, WordsErr};
 use side_base::{NoMemory, Text};
 use std::alloc::Global;
@@ -25,6 +26,7 @@ pub(crate) struct Values<'a> {
     pub(crate) resources: Option<&'a str>,
     pub(crate) port: Option<&'a str>,
     pub(crate) workers: Option<&'a str>,
+    pub(crate) drill: Option<&'a str>,
     pub(crate) stdio: bool,
     pub(crate) check: bool,
 }
@@ -37,7 +39,7 @@ pub(crate) fn words_of(alloc: Global, values: &Values<'_>) -> Result<Words, Word
     let app = app_id(values.app).ok_or(WordsErr::Usage)?;
     let port = number_or(USUAL_PORT, values.port, PORT_LIMIT).ok_or(WordsErr::Usage)?;
     let workers = number_or(USUAL_WORKERS, values.workers, WORKERS_LIMIT).ok_or(WordsErr::Usage)?;
-    let mode = mode_of(values.stdio, values.check).ok_or(WordsErr::Usage)?;
+    let mode = mode_of(values.stdio, values.check, values.drill).ok_or(WordsErr::Usage)?;
     if !fits(values.resources, mode) {
         return Err(WordsErr::Usage);
     }
@@ -72,14 +74,17 @@ fn is_app_id_byte(byte: u8) -> bool
     byte.is_ascii_alphanumeric() || byte == b'-' || byte == b'_'
 }
 
-fn mode_of(stdio: bool, check: bool) -> Option<Mode>
-    ensures { result ≡ mode_of stdio check }
+/// What is to be done; `None` where more than one of the three is asked for, or a drill is not read.
+fn mode_of(stdio: bool, check: bool, drill: Option<&str>) -> Option<Mode>
+    ensures some { IfSome result (IsMode stdio check (text_of drill.entry)) }
+    ensures none { IfNone result ((mode : Mode) → ¬ IsMode stdio check (text_of drill.entry) mode) }
 {
-    match (stdio, check) {
-        (true, true) => None,
-        (true, false) => Some(Mode::Stdio),
-        (false, true) => Some(Mode::Check),
-        (false, false) => Some(Mode::Serve),
+    match (stdio, check, drill) {
+        (false, false, None) => Some(Mode::Serve),
+        (false, false, Some(text)) => drill_of(text),
+        (false, true, None) => Some(Mode::Check),
+        (true, false, None) => Some(Mode::Stdio),
+        _ => None,
     }
 }
 

@@ -11,6 +11,13 @@ pub enum Mode {
     Stdio,
     /// Read the resources and say how many there are.
     Check,
+    /// Answer as many generated requests, which begin from a number, and say how many responses had which status.
+    Drill {
+        /// The number from which the requests are generated.
+        start: u64,
+        /// How many there are, at most 99,999.
+        requests: u32,
+    },
     /// Serve on a port.
     Serve,
 }

@@ -9,11 +9,13 @@
 //! | `--resources-path` | a folder, not empty | none; `--check` needs it |
 //! | `--dapr-http-port` | 1 to 65535, in decimal digits without a leading zero | 3500 |
 //! | `--workers` | 1 to 64, likewise | 4 |
-//! | `--stdio` or `--check` | none, and at most one of them stands | serving |
+//! | `--drill` | `a,n` in decimal digits: `a` below 2^64, and `n` at most 99,999 | no drill |
+//! | `--stdio`, `--check` or `--drill` | at most one of the three stands; the first two have no value | serving |
 #![tactic(auto)]
 
 mod checking;
 mod command;
+mod drilling;
 mod given;
 pub mod laws;
 mod reading;

@@ -3,8 +3,8 @@ use sidecar_words::{Mode, Words, WordsErr, read_words};
 use std::alloc::Global;
 use std::test::Fail;
 
-/// Words, and behind the arrow what they mean: app id, folder or `-`, port, workers, mode; or `usage`.
-static ROWS: [&str; 53] = [
+/// Words, and behind the arrow what they mean: app id, folder or `-`, port, workers, mode, and of a drill its two numbers; or `usage`.
+static ROWS: [&str; 76] = [
     "--app-id a --stdio => a - 3500 4 stdio",
     "--app-id=a --stdio => a - 3500 4 stdio",
     "--stdio --app-id a => a - 3500 4 stdio",
@@ -55,7 +55,30 @@ static ROWS: [&str; 53] = [
     "--app-id a --version => usage",
     "--app-id a --app-port 80 => usage",
     "--app-id a --peers b=c:1 => usage",
-    "--app-id a --drill 1,0 => usage",
+    "--app-id a --drill 1,0 => a - 3500 4 drill 1 0",
+    "--drill=18446744073709551615,99999 --app-id a => a - 3500 4 drill 18446744073709551615 99999",
+    "--app-id a --drill=007,0000005 => a - 3500 4 drill 7 5",
+    "--app-id a --resources-path d --dapr-http-port 80 --workers 2 --drill 1,1 => a d 80 2 drill 1 1",
+    "--drill 1,0 => usage",
+    "--app-id a --drill => usage",
+    "--app-id a --drill= => usage",
+    "--app-id a --drill 1 => usage",
+    "--app-id a --drill 1, => usage",
+    "--app-id a --drill ,1 => usage",
+    "--app-id a --drill , => usage",
+    "--app-id a --drill 1,2,3 => usage",
+    "--app-id a --drill +1,2 => usage",
+    "--app-id a --drill 1,+2 => usage",
+    "--app-id a --drill=-1,2 => usage",
+    "--app-id a --drill 1,-2 => usage",
+    "--app-id a --drill 1;2 => usage",
+    "--app-id a --drill 1x,2 => usage",
+    "--app-id a --drill 18446744073709551616,2 => usage",
+    "--app-id a --drill 1,100000 => usage",
+    "--app-id a --drill 1,18446744073709551617 => usage",
+    "--app-id a --drill 1,2 --drill 1,2 => usage",
+    "--app-id a --drill 1,2 --stdio => usage",
+    "--app-id a --resources-path d --check --drill 1,2 => usage",
     "--app-id a b => usage",
     "--app a => usage",
 ];
@@ -68,11 +91,12 @@ fn words_in(alloc: Global, text: &str) -> Result<Vec<Text>, NoMemory> {
     Ok(words)
 }
 
-fn mode_name(mode: Mode) -> &'static str {
+fn mode_shown(alloc: Global, mode: Mode) -> Result<String, NoMemory> {
     match mode {
-        Mode::Stdio => "stdio",
-        Mode::Check => "check",
-        Mode::Serve => "serve",
+        Mode::Stdio => String::from_str(alloc, "stdio"),
+        Mode::Check => String::from_str(alloc, "check"),
+        Mode::Drill { start, requests } => format!(in alloc; "drill {start} {requests}"),
+        Mode::Serve => String::from_str(alloc, "serve"),
     }
 }
 
@@ -86,7 +110,7 @@ fn shown(alloc: Global, words: &Words) -> Result<String, NoMemory> {
         words.app.as_str(),
         words.port,
         words.workers,
-        mode_name(words.mode)
+        mode_shown(alloc, words.mode)?
     )
 }
 

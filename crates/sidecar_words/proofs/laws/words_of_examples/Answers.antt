@@ -1,7 +1,7 @@
-use Rattle.std.proofs.Common.{◌≡◌, ℕ, List, [], ◌∷◌, Some, None, is_some, arith, refl, rules, IsTrue, sym, ap, subst, inl, inr, codes, true≢false}
+use Rattle.std.proofs.Common.{◌≡◌, ◌-◌, ◌^◌, ℕ, List, [], ◌∷◌, Some, None, is_some, arith, refl, rules, IsTrue, sym, ap, subst, inl, inr, codes, true≢false}
 use Rattle.sidecar_words.specs.Spelling.{Pair, IsOnce, Spells, options, flags}
-use Rattle.sidecar_words.specs.Meaning.{GivesOf, Means}
-use Rattle.sidecar_words.specs.Value.{IsAppId, IsNumber, is_app_id_byte}
+use Rattle.sidecar_words.specs.Meaning.{Gives, Means, options_of}
+use Rattle.sidecar_words.specs.Value.{IsAppId, IsCount, IsNumber, is_app_id_byte}
 use Rattle.sidecar_words.specs.declared.given.Words.{Words}
 use Rattle.sidecar_words.proofs.OneMeaning.{one_spelling}
 use Rattle.sidecar_words.proofs.Parsing.{all_cons}
@@ -53,6 +53,12 @@ sixty_four = record {
     first_in [] = 0
     first_in (byte ∷ rest) = byte
 
+five : IsCount (2 ^ 64 - 1) (codes "05") 5
+five = record { some = omega arith; digits = (omega arith, (omega arith, tt)); value = refl; limit = omega arith }
+
+thousand : IsCount 99999 (codes "1000") 1000
+thousand = record { some = omega arith; digits = (omega arith, (omega arith, (omega arith, (omega arith, tt)))); value = refl; limit = omega arith }
+
 none_some : {X : Type 0} (x : X) → None ≡ Some x → ⊥
 none_some x e = true≢false (sym (ap (λ o. is_some o) e))
 
@@ -64,8 +70,8 @@ module _ (words : List (List ℕ)) (known : List Pair) (spells : Spells options 
   known_once : IsOnce known
   known_once = subst IsOnce same means.2
 
-  known_gives : GivesOf known given
-  known_gives = subst (λ ps. GivesOf ps given) same means.3
+  known_gives : Gives (options_of known) given
+  known_gives = subst (λ ps. Gives (options_of ps) given) same means.3
 
 pub returns : goal.returns
 returns c = record {
@@ -99,11 +105,27 @@ returns c = record {
       folder = λ e. search rules;
     },
   );
+  drill = (
+    app (codes "a") ∷ (codes "drill", Some (codes "05,1000")) ∷ [],
+    spells_app (codes "--drill" ∷ codes "05,1000" ∷ []) ((codes "drill", Some (codes "05,1000")) ∷ [])
+        (codes "--drill" ∷ codes "05,1000" ∷ [], [], refl, ((4, omega arith, refl), inr (refl, refl)), refl),
+    once_more (app (codes "a") ∷ []) (codes "drill", Some (codes "05,1000")) (once_more [] (app (codes "a")) none_once refl) refl,
+    record {
+      app_is = refl;
+      app_form = a_is_id;
+      resources_are = refl;
+      resources_filled = tt;
+      port_is = refl;
+      workers_are = refl;
+      mode_is = record { first = codes "05"; second = codes "1000"; form = refl; numbers = (five, thousand) };
+      folder = λ e. search rules;
+    },
+  );
   no_app = λ given means. none_some given.app (known_gives (codes "--stdio" ∷ []) (stdio ∷ []) spells_stdio given means).app_is;
   twice = λ given means. known_once (codes "--app-id" ∷ codes "a" ∷ codes "--app-id" ∷ codes "b" ∷ []) (app (codes "a") ∷ app (codes "b") ∷ [])
       (spells_app (codes "--app-id" ∷ codes "b" ∷ []) (app (codes "b") ∷ [])
       (codes "--app-id" ∷ codes "b" ∷ [], [], refl, ((0, omega arith, refl), inr (refl, refl)), refl)) given means 0 1 stdio (omega arith) (omega arith) refl;
-  two_modes = λ given means. none_some given.mode (known_gives (codes "--app-id" ∷ codes "a" ∷ codes "--stdio" ∷ codes "--check" ∷ []) (app (codes "a") ∷ stdio ∷ check ∷ [])
+  two_modes = λ given means. (known_gives (codes "--app-id" ∷ codes "a" ∷ codes "--stdio" ∷ codes "--check" ∷ []) (app (codes "a") ∷ stdio ∷ check ∷ [])
       (spells_app (codes "--stdio" ∷ codes "--check" ∷ []) (stdio ∷ check ∷ [])
       (codes "--stdio" ∷ [], codes "--check" ∷ [], refl, ((0, omega arith, refl), refl), spells_check)) given means).mode_is;
 }
