@@ -1,2 +1,3 @@
-pub mod Words
-pub mod Whole
+mod Whole
+mod Words
+mod Tallies

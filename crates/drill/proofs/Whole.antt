@@ -1,5 +1,5 @@
 -- The request of each word is one whole request.
-use Rattle.std.proofs.Common.{◌≡◌, ◌<◌, ◌≤◌, ◌^◌, ◌+◌, ◌++◌, ◌∷◌, [], ◌%◌, ◌/◌, ℕ, List, Bool, true, false, sym, ap, subst, ◌∙◌, append_assoc, append-nil, length-append, ◌==◌, refl, All, length, map, arith, codes, decimal, Option, Some, None, nat_lt, ◌&&◌, IsUtf8}
+use Rattle.std.proofs.Common.{◌≡◌, ◌<◌, ◌≤◌, ◌^◌, ◌+◌, ◌++◌, ◌∷◌, [], ◌%◌, ◌/◌, ℕ, List, Bool, true, false, sym, ap, subst, ◌∙◌, append_assoc, append-nil, length-append, ◌==◌, refl, length, map, arith, codes, decimal, Option, Some, None, nat_lt, ◌&&◌}
 use Rattle.std.specs.List.{flat_map}
 use Rattle.std.specs.Str.Parse.{AllDigits}
 use Rattle.std.proofs.lemmas.Str.Parse.{digit_from_value}

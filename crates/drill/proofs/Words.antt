@@ -1,5 +1,5 @@
 -- Words that are drawn one after the other, and the requests that are written for them.
-use Rattle.std.proofs.Common.{◌≡◌, ◌<◌, ◌^◌, ◌++◌, ◌∷◌, [], ℕ, suc, zero, List, sym, ap, subst, ◌∙◌, append_assoc, append-nil, All, refl}
+use Rattle.std.proofs.Common.{◌≡◌, ◌<◌, ◌^◌, ◌++◌, ◌∷◌, [], ℕ, suc, List, sym, ap, subst, ◌∙◌, append_assoc, append-nil, All, refl}
 use Rattle.std.proofs.lemmas.List.{flat_map_more}
 use Rattle.std.proofs.lemmas.List.Elements.{All-nil, All-cons, All-append}
 use Rattle.std.specs.List.{flat_map}

@@ -1,4 +1,4 @@
-use Rattle.std.proofs.Common.{◌≡◌, ◌<◌, ◌^◌, ◌+◌, ◌-◌, suc, sym, subst, arith}
+use Rattle.std.proofs.Common.{◌<◌, ◌^◌, ◌-◌, subst, arith}
 use Rattle.drill.specs.Requests.{words_of}
 use Rattle.drill.proofs.Words.{Drawn, further}
 use Rattle.drill.proofs.generating.push_requests.Goals as goal
