@@ -9,3 +9,4 @@ mod ServeCauses
 mod Serves
 mod Shown
 mod Unsubscribed
+pub mod Drilled

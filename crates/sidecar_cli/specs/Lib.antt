@@ -2,6 +2,7 @@ pub mod Causes
 pub mod Check
 pub mod Configured
 pub mod Counting
+pub mod Drill
 pub mod Journals
 pub mod Lines
 pub mod Note

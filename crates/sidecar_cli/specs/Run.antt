@@ -11,6 +11,7 @@ use Rattle.sidecar_words.specs.declared.given.Mode.{Mode}
 use Rattle.sidecar_words.specs.declared.given.Mode.TheVariants as mode
 use Rattle.sidecar_words.specs.Meaning.{Means}
 use Rattle.sidecar_cli.specs.Check.{IsCheck}
+use Rattle.sidecar_cli.specs.Drill.{IsDrill}
 use Rattle.sidecar_cli.specs.Note.{IsNoted}
 use Rattle.sidecar_cli.specs.Play.{IsPlay}
 use Rattle.sidecar_cli.specs.Serve.{IsServe}
@@ -23,6 +24,7 @@ use Rattle.sidecar_cli.specs.declared.status.Status.TheVariants.{Usage, NoMemory
 pub data IsCommand {D : Type 0} {disking : Keeps D} {keeping : Ghosts (AnyKeeper D disking)} (kinds : Kinds (Store (AnyKeeper D disking) keeping)) (words_of : ℕ → Stream) (given : Words) (world world' : WorldAt) (status : Status) : Type 0 where
   played : given.mode ≡ mode.Stdio → IsPlay kinds words_of given world world' status → IsCommand kinds words_of given world world' status
   checked : given.mode ≡ mode.Check → IsCheck given world world' status → IsCommand kinds words_of given world world' status
+  drilled : (start requests : ℕ) → given.mode ≡ mode.Drill start requests → IsDrill kinds words_of given.app start requests world world' status → IsCommand kinds words_of given world world' status
   served : given.mode ≡ mode.Serve → IsServe kinds words_of given world world' status → IsCommand kinds words_of given world world' status
 
 -- words that mean nothing are refused, and nothing is touched; nor is anything where there is no memory to read them

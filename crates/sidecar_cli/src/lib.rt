@@ -2,13 +2,14 @@
 //!
 //! - `world` is all that a run has of the outside, and `status` how it ends, with the line that the note gets.
 //! - `running` runs the command: `configuring` reads what is configured, `checking` says how much that is, and `playing` answers the requests
-//!   of one connection over the objects that `starting` made; behind it `counting` tells the note what each ledger counts. `noting` writes a part of a line.
+//!   of one connection over the objects that `starting` made; `drilling` answers generated ones; behind it `counting` tells the note what each ledger counts. `noting` writes a part of a line.
 //! - `laws` are what holds of a run, as functions whose contract is the law.
 #![tactic(auto)]
 
 mod checking;
 mod configuring;
 mod counting;
+mod drilling;
 pub mod laws;
 mod noting;
 mod playing;

@@ -43,7 +43,7 @@ pub(crate) fn play<S: Source, N: Sink, E: Sink, F: Files, L: Link, C: Clock, O: 
 }
 
 /// The number from which the random words begin, and secret bytes, of two further numbers.
-fn start_numbers<O: Outside>(outside: &mut O) -> (u64, [u8; 16])
+pub(crate) fn start_numbers<O: Outside>(outside: &mut O) -> (u64, [u8; 16])
     ensures asked { (one : ℕ) × (other : ℕ) × Tells (O.numbers outside.old) (O.numbers outside.new) (result.0 ∷ one ∷ other ∷ []) × (result.1 ≡ secret_of one other) }
     ensures disks { O.disks outside.new ≡ O.disks outside.old }
     ensures calls { O.calls outside.new ≡ O.calls outside.old }
@@ -57,7 +57,7 @@ fn start_numbers<O: Outside>(outside: &mut O) -> (u64, [u8; 16])
 }
 
 /// The random words that begin from a number.
-fn words_from(seed: u64) -> Pcg64
+pub(crate) fn words_from(seed: u64) -> Pcg64
     ensures { ⟦<Pcg64 as Rng>⟧.stream result ≡ words_by ⟦<Pcg64 as Rng>⟧ ⟦<Pcg64 as SeedableRng>⟧ seed }
 {
     Pcg64::seed_from_u64(seed)

@@ -3,6 +3,7 @@ ghost use Rattle.sidecar_cli.specs.Run.{IsCommand, IsMain, IsRun};
 ghost use Rattle.sidecar_cli.specs.World.{OverWorld, words_by};
 
 use crate::checking::check;
+use crate::drilling::run_drill;
 use crate::playing::play;
 use crate::serving::serve_port;
 use crate::{Status, World};
@@ -21,7 +22,7 @@ use std::thread::Threads;
 /// Runs the command that `words` ask for, without the program's name, over a world, and writes to the note how it ended.
 ///
 /// With `--stdio` the requests of one connection are answered, over stores that are started for it and whose disks are given back; with
-/// `--check` the resources are read and counted; without either the connections of a port are served, by workers side by side. Words that mean nothing are refused.
+/// `--check` the resources are read and counted; with `--drill` generated requests are answered and their statuses counted; without any of them the connections of a port are served, by workers side by side. Words that mean nothing are refused.
 pub fn sidecar_main<
     S: Source,
     N: Sink,
@@ -76,6 +77,7 @@ fn command<
     match given.mode {
         Mode::Stdio => play(rt, alloc, given, world),
         Mode::Check => check(alloc, &given, world),
+        Mode::Drill { start, requests } => run_drill(rt, alloc, given.app, start, requests, world),
         Mode::Serve => serve_port(rt, alloc, given, world),
     }
 }
