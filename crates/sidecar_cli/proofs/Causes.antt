@@ -360,11 +360,13 @@ IsFiles Outside = ⊥
 abbrev IsElse : Mode → Type 0
 IsElse mode.Stdio = ⊥
 IsElse mode.Check = Unit {0}
+IsElse (mode.Drill start requests) = Unit {0}
 IsElse mode.Serve = Unit {0}
 
 abbrev IsNoCheck : Mode → Type 0
 IsNoCheck mode.Stdio = Unit {0}
 IsNoCheck mode.Check = ⊥
+IsNoCheck (mode.Drill start requests) = Unit {0}
 IsNoCheck mode.Serve = Unit {0}
 
 module _ (given : Words) (files files' : FilesAt) where
@@ -451,6 +453,7 @@ module _ {D : Type 0} {disking : Keeps D} {keeping : Ghosts (AnyKeeper D disking
     stdio_command : (end : Status) → given.mode ≡ mode.Stdio → IsCommand kinds words_of given world world' end → IsWhy kinds given world world' end
     stdio_command end is (run.played also ran) = why_played kinds given world world' words_of end ran
     stdio_command end is (run.checked also ran) = absurd (subst IsElse (sym also ∙ is) tt)
+    stdio_command end is (run.drilled start requests also ran) = absurd (subst IsElse (sym also ∙ is) tt)
     stdio_command end is (run.served also ran) = absurd (subst IsElse (sym also ∙ is) tt)
 
     -- a run of words that mean one on standard input
@@ -462,6 +465,7 @@ module _ {D : Type 0} {disking : Keeps D} {keeping : Ghosts (AnyKeeper D disking
     check_command : (end : Status) → given.mode ≡ mode.Check → IsCommand kinds words_of given world world' end → IsWhyOfCheck given world world' end
     check_command end is (run.checked also ran) = why_checked given world world' end ran
     check_command end is (run.played also ran) = absurd (subst IsNoCheck (sym also ∙ is) tt)
+    check_command end is (run.drilled start requests also ran) = absurd (subst IsNoCheck (sym also ∙ is) tt)
     check_command end is (run.served also ran) = absurd (subst IsNoCheck (sym also ∙ is) tt)
 
     -- of words that mean a check

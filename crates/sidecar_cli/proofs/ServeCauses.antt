@@ -226,6 +226,7 @@ module _ {D : Type 0} {disking : Keeps D} {keeping : Ghosts (AnyKeeper D disking
 abbrev IsNoServing : Mode → Type 0
 IsNoServing mode.Stdio = Unit {0}
 IsNoServing mode.Check = Unit {0}
+IsNoServing (mode.Drill start requests) = Unit {0}
 IsNoServing mode.Serve = ⊥
 
 -- where workers have run, serving ends so that the ledgers are counted
@@ -324,6 +325,7 @@ module _ {D : Type 0} {disking : Keeps D} {keeping : Ghosts (AnyKeeper D disking
     serve_command : (end : Status) → given.mode ≡ mode.Serve → IsCommand kinds words_of given world world' end → IsWhyOfServing kinds given world world' end
     serve_command end is (run.served also ran) = why_serve words_of end ran
     serve_command end is (run.played also ran) = absurd (subst IsNoServing (sym also ∙ is) tt)
+    serve_command end is (run.drilled start requests also ran) = absurd (subst IsNoServing (sym also ∙ is) tt)
     serve_command end is (run.checked also ran) = absurd (subst IsNoServing (sym also ∙ is) tt)
 
     -- a run of words that name no mode
