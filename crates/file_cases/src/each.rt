@@ -33,12 +33,15 @@ fn join_policies(all: &mut Policies, more: Result<Policies, PolicyErr>) -> Resul
 
 // Joins what documents bind, and the subscriptions that they say.
 fn join_others(alloc: Global, docs: &Docs, app: &Text, all: &mut Resources) -> Result<(), Refusal> {
-    match join_subscriptions(&mut all.subscriptions, subscriptions(alloc, docs, app)) {
-        Ok(()) => match join_policies(&mut all.policies, policies(alloc, docs, app)) {
+    match join_policies(&mut all.policies, policies(alloc, docs, app)) {
+        Ok(()) => match join_subscriptions(
+            &mut all.subscriptions,
+            subscriptions(alloc, docs, app),
+        ) {
             Ok(()) => Ok(()),
-            Err(error) => Err(Refusal::Policies(error)),
+            Err(error) => Err(Refusal::Subscriptions(error)),
         },
-        Err(error) => Err(Refusal::Subscriptions(error)),
+        Err(error) => Err(Refusal::Policies(error)),
     }
 }
 

@@ -38,8 +38,15 @@ pub(crate) enum Outcome {
 /// Whether a section of this word gives something, and asks nothing.
 pub(crate) fn is_given(word: &str) -> bool {
     match word {
-        "file" | "numbered" | "padded" | "folder" | "failing" | "no-folder" | "each" | "for" =>
-            true,
+        "file"
+        | "numbered"
+        | "padded"
+        | "folder"
+        | "failing"
+        | "no-folder"
+        | "each"
+        | "for"
+        | "without-subscriptions" => true,
         _ => false,
     }
 }
@@ -235,7 +242,11 @@ fn read_folder(
     app: &Text,
 ) -> Result<Outcome, NoMemory> {
     let folder = name_in(sections, "folder").unwrap_or(FOLDER);
-    outcome_of(alloc, read_resources(alloc, files, folder.as_bytes(), app))
+    let subscribing = name_in(sections, "without-subscriptions").is_none();
+    outcome_of(
+        alloc,
+        read_resources(alloc, files, folder.as_bytes(), app, subscribing),
+    )
 }
 
 fn read_usual(alloc: Global, app: &Text) -> Result<Outcome, NoMemory> {

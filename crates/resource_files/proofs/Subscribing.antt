@@ -1,5 +1,5 @@
 -- The subscriptions of a file, behind those of the files before it.
-use Rattle.std.proofs.Common.{◌≡◌, false, ℕ, List, [], Result, Ok, Err, inl, inr}
+use Rattle.std.proofs.Common.{◌≡◌, true, false, ℕ, List, [], Result, Ok, Err, inl, inr}
 use Rattle.yaml_subset.specs.Trees.{Trees}
 use Rattle.topic_spec.specs.declared.sub.Sub.{Sub}
 use Rattle.topic_spec.specs.declared.sub_err.SubErr.{SubErr}
@@ -9,6 +9,7 @@ use Rattle.topic_spec.specs.Draft.{IsSubErr}
 use Rattle.topic_spec.specs.Loading.{Loads, IsLoad}
 use Rattle.topic_spec.specs.Joining.{joined, IsChange}
 use Rattle.resource_files.specs.Refusals.{subscriptions_want_memory}
+use Rattle.resource_files.specs.Added.{reading_for}
 use Rattle.resource_files.specs.Steps.{AddsSubscriptions}
 
 -- a refusal but for want of memory
@@ -29,9 +30,9 @@ join_refused (TooMany count) wanted known is = is
 join_refused (Rule doc at) wanted known is = is
 
 module _ (app : List ℕ) (documents : Trees) (old new : List Sub) where
-  pub unread : (e : SubErr) → IsLoad (Loads 0 [] (all_said app 0 documents)) (Err e) → AddsSubscriptions app documents old new (Err e)
+  pub unread : (e : SubErr) → IsLoad (Loads 0 [] (all_said app 0 documents)) (Err e) → AddsSubscriptions (reading_for app true) documents old new (Err e)
   unread e loads = λ known. inl (load_refused (Loads 0 [] (all_said app 0 documents)) e known loads)
 
-  pub read : (said : List Sub) (result : Result (Unit {0}) SubErr) → IsLoad (Loads 0 [] (all_said app 0 documents)) (Ok said) → IsChange result old new (joined old said) → AddsSubscriptions app documents old new result
+  pub read : (said : List Sub) (result : Result (Unit {0}) SubErr) → IsLoad (Loads 0 [] (all_said app 0 documents)) (Ok said) → IsChange result old new (joined old said) → AddsSubscriptions (reading_for app true) documents old new result
   read said (Ok done) loads change = (said, (loads, change))
   read said (Err e) loads change = λ known. inr (said, (loads, join_refused e (joined old said) known change.0))

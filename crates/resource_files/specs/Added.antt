@@ -1,5 +1,5 @@
 -- What a resource file adds to what the files before it say, and why it is refused.
-use Rattle.std.specs.Prelude.{◌≡◌, ◌⊎◌, ◌+◌, ◌<◌, ◌≤◌, ℕ, List, [], length, Result, Ok, Err}
+use Rattle.std.specs.Prelude.{◌≡◌, ◌⊎◌, ◌+◌, ◌<◌, ◌≤◌, ℕ, Bool, true, false, List, [], length, Result, Ok, Err}
 use Rattle.yaml_subset.specs.Trees.{Trees}
 use Rattle.yaml_subset.specs.File.{IsFile, IsRefusal}
 use Rattle.yaml_subset.specs.Docs.{Shows}
@@ -27,6 +27,14 @@ use Rattle.resource_files.specs.declared.resources.Refusal.TheVariants.{TooLong,
 abbrev pub nothing_said : Resources
 nothing_said = record { components = []; subscriptions = []; policies = nothing_bound }
 
+-- for which app files are read, and whether their subscriptions are
+pub record Reading : Type 0 where
+  pub app : List ℕ
+  pub subscribing : Bool
+
+abbrev pub reading_for : List ℕ → Bool → Reading
+reading_for app subscribing = record { app = app; subscribing = subscribing }
+
 -- the components that these documents say for the app, behind those of the files before
 abbrev pub components_with : List ℕ → Trees → List Loaded → Result (List Loaded) SpecErr
 components_with app documents before = follow (loaded app 0 [] documents) (λ more. joined (length before + length more) before more)
@@ -35,24 +43,28 @@ components_with app documents before = follow (loaded app 0 [] documents) (λ mo
 abbrev pub Subscribes : List ℕ → Trees → Result (List Sub) SubErr → Type 0
 Subscribes app documents said = Loads 0 [] (all_said app 0 documents) said
 
--- behind those of the files before
-abbrev pub AreSubscribed : List ℕ → Trees → List Sub → List Sub → Type 0
-AreSubscribed app documents before after = (said : List Sub) × (Subscribes app documents (Ok said) × (subscriptions_joined before said ≡ Ok after))
+-- behind those of the files before; where they are passed over there are those of the files before alone
+abbrev pub SubscribedWhere : Bool → List ℕ → Trees → List Sub → List Sub → Type 0
+SubscribedWhere true app documents before after = (said : List Sub) × (Subscribes app documents (Ok said) × (subscriptions_joined before said ≡ Ok after))
+SubscribedWhere false app documents before after = after ≡ before
+
+abbrev pub AreSubscribed : Reading → Trees → List Sub → List Sub → Type 0
+AreSubscribed reading = SubscribedWhere reading.subscribing reading.app
 
 -- what these documents bind to targets for the app, whatever reads their durations and trips as they are
 abbrev pub Binds : List ℕ → Trees → Result Binding PolicyErr → Type 0
 Binds app documents said = (readers : Readers) → AreReaders readers → policies_loaded readers app 0 nothing_bound documents ≡ said
 
 -- a file of these bytes is read, and says what stands after it together with what stood before
-pub record Adds (app bytes : List ℕ) (before after : Resources) : Type 0 where
+pub record Adds (reading : Reading) (bytes : List ℕ) (before after : Resources) : Type 0 where
   pub within : length bytes ≤ 1048576
   pub documents : Trees
   pub shows : Shows documents bytes
-  pub components : components_with app documents before.components ≡ Ok after.components
-  pub subscribed : AreSubscribed app documents before.subscriptions after.subscriptions
+  pub components : components_with reading.app documents before.components ≡ Ok after.components
   pub bound : Binding
-  pub binds : Binds app documents (Ok bound)
+  pub binds : Binds reading.app documents (Ok bound)
   pub both : IsBoth before.policies bound after.policies
+  pub subscribed : AreSubscribed reading documents before.subscriptions after.subscriptions
 
 -- the bytes are refused as YAML, so that they say no documents
 pub record IsNoYaml (bytes : List ℕ) (e : YamlErr) : Type 0 where
@@ -61,45 +73,51 @@ pub record IsNoYaml (bytes : List ℕ) (e : YamlErr) : Type 0 where
   pub only : (documents : Trees) → IsFile bytes documents → ⊥
 
 -- the components of a file are refused, or a joining of them to those before
-pub record HasNoComponents (app bytes : List ℕ) (before : Resources) (e : SpecErr) : Type 0 where
+pub record HasNoComponents (reading : Reading) (bytes : List ℕ) (before : Resources) (e : SpecErr) : Type 0 where
   pub within : length bytes ≤ 1048576
   pub documents : Trees
   pub shows : Shows documents bytes
-  pub refused : components_with app documents before.components ≡ Err e
-
--- the subscriptions of documents are refused, or there are too many behind those before
-abbrev pub AreUnsubscribed : List ℕ → Trees → List Sub → SubErr → Type 0
-AreUnsubscribed app documents before e = Subscribes app documents (Err e) ⊎ ((said : List Sub) × (Subscribes app documents (Ok said) × (subscriptions_joined before said ≡ Err e)))
-
--- the subscriptions of a file are refused, and its components are not
-pub record HasNoSubscriptions (app bytes : List ℕ) (before : Resources) (e : SubErr) : Type 0 where
-  pub within : length bytes ≤ 1048576
-  pub documents : Trees
-  pub shows : Shows documents bytes
-  pub components : List Loaded
-  pub joined_are : components_with app documents before.components ≡ Ok components
-  pub refused : AreUnsubscribed app documents before.subscriptions e
+  pub refused : components_with reading.app documents before.components ≡ Err e
 
 -- the policies of documents are refused, or one of their targets is bound before
 abbrev pub AreRefused : List ℕ → Trees → Binding → PolicyErr → Type 0
 AreRefused app documents before e = Binds app documents (Err e) ⊎ ((bound : Binding) × Binds app documents (Ok bound) × IsRefused e (first_repeated before bound))
 
--- the policies of a file are refused, and its components and subscriptions are not
-pub record HasNoPolicies (app bytes : List ℕ) (before : Resources) (e : PolicyErr) : Type 0 where
+-- the policies of a file are refused, and its components are not
+pub record HasNoPolicies (reading : Reading) (bytes : List ℕ) (before : Resources) (e : PolicyErr) : Type 0 where
   pub within : length bytes ≤ 1048576
   pub documents : Trees
   pub shows : Shows documents bytes
   pub components : List Loaded
-  pub joined_are : components_with app documents before.components ≡ Ok components
-  pub subscriptions : List Sub
-  pub subscribed : AreSubscribed app documents before.subscriptions subscriptions
-  pub refused : AreRefused app documents before.policies e
+  pub joined_are : components_with reading.app documents before.components ≡ Ok components
+  pub refused : AreRefused reading.app documents before.policies e
+
+-- the subscriptions of documents are read and refused, or there are too many behind those before
+abbrev pub UnsubscribedWhere : Bool → List ℕ → Trees → List Sub → SubErr → Type 0
+UnsubscribedWhere true app documents before e = Subscribes app documents (Err e) ⊎ ((said : List Sub) × (Subscribes app documents (Ok said) × (subscriptions_joined before said ≡ Err e)))
+UnsubscribedWhere false app documents before e = ⊥
+
+abbrev pub AreUnsubscribed : Reading → Trees → List Sub → SubErr → Type 0
+AreUnsubscribed reading = UnsubscribedWhere reading.subscribing reading.app
+
+-- the subscriptions of a file are refused, and its components and policies are not
+pub record HasNoSubscriptions (reading : Reading) (bytes : List ℕ) (before : Resources) (e : SubErr) : Type 0 where
+  pub within : length bytes ≤ 1048576
+  pub documents : Trees
+  pub shows : Shows documents bytes
+  pub components : List Loaded
+  pub joined_are : components_with reading.app documents before.components ≡ Ok components
+  pub bound : Binding
+  pub binds : Binds reading.app documents (Ok bound)
+  pub policies : Binding
+  pub both : IsBoth before.policies bound policies
+  pub refused : AreUnsubscribed reading documents before.subscriptions e
 
 -- a file of these bytes is refused so behind those that say what stood before: for its length, as YAML, for its components,
--- its subscriptions or its policies, the first of them that refuses
-abbrev pub IsRefusedBehind : List ℕ → List ℕ → Resources → Refusal → Type 0
-IsRefusedBehind app bytes before (TooLong len) = (length bytes ≡ len) × (1048576 < len)
-IsRefusedBehind app bytes before (Yaml e) = IsNoYaml bytes e
-IsRefusedBehind app bytes before (Components e) = HasNoComponents app bytes before e
-IsRefusedBehind app bytes before (Subscriptions e) = HasNoSubscriptions app bytes before e
-IsRefusedBehind app bytes before (Policies e) = HasNoPolicies app bytes before e
+-- its policies or its subscriptions, the first of them that refuses
+abbrev pub IsRefusedBehind : Reading → List ℕ → Resources → Refusal → Type 0
+IsRefusedBehind reading bytes before (TooLong len) = (length bytes ≡ len) × (1048576 < len)
+IsRefusedBehind reading bytes before (Yaml e) = IsNoYaml bytes e
+IsRefusedBehind reading bytes before (Components e) = HasNoComponents reading bytes before e
+IsRefusedBehind reading bytes before (Policies e) = HasNoPolicies reading bytes before e
+IsRefusedBehind reading bytes before (Subscriptions e) = HasNoSubscriptions reading bytes before e

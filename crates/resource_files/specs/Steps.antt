@@ -18,35 +18,35 @@ use Rattle.resource_files.specs.declared.resources.Refusal.TheVariants.{TooLong}
 use Rattle.resource_files.specs.declared.resources.ResourcesErr.{ResourcesErr}
 use Rattle.resource_files.specs.declared.resources.ResourcesErr.TheVariants.{Refused, Failed, NoMemory}
 use Rattle.resource_files.specs.Refusals.{components_want_memory, subscriptions_want_memory, policies_want_memory, wants_memory}
-use Rattle.resource_files.specs.Added.{components_with, AreSubscribed, AreUnsubscribed, Binds, AreRefused, Adds, IsRefusedBehind}
+use Rattle.resource_files.specs.Added.{components_with, AreSubscribed, AreUnsubscribed, Binds, AreRefused, Adds, IsRefusedBehind, Reading}
 
 -- the components of documents are added to others, or refused but for want of memory
 abbrev pub AddsComponents : List ℕ → Trees → List Loaded → List Loaded → Result (Unit {0}) SpecErr → Type 0
 AddsComponents app documents old new (Ok done) = components_with app documents old ≡ Ok new
 AddsComponents app documents old new (Err e) = components_want_memory e ≡ false → components_with app documents old ≡ Err e
 
--- the same of their subscriptions
-abbrev pub AddsSubscriptions : List ℕ → Trees → List Sub → List Sub → Result (Unit {0}) SubErr → Type 0
-AddsSubscriptions app documents old new (Ok done) = AreSubscribed app documents old new
-AddsSubscriptions app documents old new (Err e) = subscriptions_want_memory e ≡ false → AreUnsubscribed app documents old e
-
 -- the same of what they bind
 abbrev pub AddsPolicies : List ℕ → Trees → Binding → Binding → Result (Unit {0}) PolicyErr → Type 0
 AddsPolicies app documents old new (Ok done) = (bound : Binding) × (Binds app documents (Ok bound) × IsBoth old bound new)
 AddsPolicies app documents old new (Err e) = policies_want_memory e ≡ false → AreRefused app documents old e
 
+-- the same of their subscriptions, where these are read
+abbrev pub AddsSubscriptions : Reading → Trees → List Sub → List Sub → Result (Unit {0}) SubErr → Type 0
+AddsSubscriptions reading documents old new (Ok done) = AreSubscribed reading documents old new
+AddsSubscriptions reading documents old new (Err e) = subscriptions_want_memory e ≡ false → AreUnsubscribed reading documents old e
+
 -- the same of a file of these bytes
-abbrev pub AddsFile : List ℕ → List ℕ → Resources → Resources → Result (Unit {0}) Refusal → Type 0
-AddsFile app bytes old new (Ok done) = Adds app bytes old new
-AddsFile app bytes old new (Err refusal) = wants_memory refusal ≡ false → IsRefusedBehind app bytes old refusal
+abbrev pub AddsFile : Reading → List ℕ → Resources → Resources → Result (Unit {0}) Refusal → Type 0
+AddsFile reading bytes old new (Ok done) = Adds reading bytes old new
+AddsFile reading bytes old new (Err refusal) = wants_memory refusal ≡ false → IsRefusedBehind reading bytes old refusal
 
 -- a file that was called for was read and added, or it is refused
-abbrev pub IsNext : Option Folders → List ℕ → List ℕ → List ℕ → Resources → Resources → Result (Unit {0}) ResourcesErr → Type 0
-IsNext told folder app name old new (Ok done) = (bytes : List ℕ) × (HasBytes told folder name bytes × Adds app bytes old new)
-IsNext told folder app name old new (Err (Refused file refusal)) =
-    (file ≡ name) × ((bytes : List ℕ) × (HasBytes told folder name bytes × IsRefusedBehind app bytes old refusal × (wants_memory refusal ≡ false)))
-IsNext told folder app name old new (Err Failed) = Unit {0}
-IsNext told folder app name old new (Err NoMemory) = Unit {0}
+abbrev pub IsNext : Option Folders → List ℕ → Reading → List ℕ → Resources → Resources → Result (Unit {0}) ResourcesErr → Type 0
+IsNext told folder reading name old new (Ok done) = (bytes : List ℕ) × (HasBytes told folder name bytes × Adds reading bytes old new)
+IsNext told folder reading name old new (Err (Refused file refusal)) =
+    (file ≡ name) × ((bytes : List ℕ) × (HasBytes told folder name bytes × IsRefusedBehind reading bytes old refusal × (wants_memory refusal ≡ false)))
+IsNext told folder reading name old new (Err Failed) = Unit {0}
+IsNext told folder reading name old new (Err NoMemory) = Unit {0}
 
 -- the count of faults rose exactly where the files failed
 abbrev pub CountsFailed : {T : Type 0} → Result T ResourcesErr → ℕ → ℕ → Type 0

@@ -4,6 +4,7 @@ ghost use Rattle.side_world.specs.declared.files.FilesErr.TheVariants as not_rea
 ghost use Rattle.side_world.specs.Told.{Tells};
 ghost use Rattle.side_world.specs.declared.files.FilesCall.TheVariants as call;
 ghost use Rattle.resource_files.specs.declared.resources.ResourcesErr.TheVariants as told;
+ghost use Rattle.resource_files.specs.Added.{reading_for};
 ghost use Rattle.resource_files.specs.Refusals.{wants_memory};
 ghost use Rattle.resource_files.specs.Steps.{IsNext, CountsFailed, unread as unread_by, unlisted as unlisted_by};
 ghost use Rattle.resource_files.specs.Read.{IsReadFrom};
@@ -58,17 +59,18 @@ fn read_file<F: Files>(
     files: &mut F,
     folder: &[u8],
     app: &Text,
+    subscribing: bool,
     name: Text,
     all: &mut Resources,
 ) -> Result<(), ResourcesErr>
-    ensures next { IsNext (F.folders files.old) folder.now app.now name all.old all.new result }
+    ensures next { IsNext (F.folders files.old) folder.now (reading_for app.now subscribing) name all.old all.new result }
     ensures folders { F.folders files.new ≡ F.folders files.old }
     ensures calls { Tells (F.calls files.old) (F.calls files.new) (call.Read folder.now name ∷ []) }
     ensures faults { CountsFailed result (F.faults files.old) (F.faults files.new) }
     ensures no_fewer { F.faults files.old ≤ F.faults files.new }
 {
     match files.read(folder, name.bytes()) {
-        Ok(bytes) => match add_file(alloc, bytes.bytes(), app, all) {
+        Ok(bytes) => match add_file(alloc, bytes.bytes(), app, subscribing, all) {
             Ok(()) => Ok(()),
             Err(refusal) => Err(refused(name, refusal)),
         },
@@ -79,16 +81,17 @@ fn read_file<F: Files>(
 /// Reads the resource files of a folder in the order of their names, for this app, up to the first that is refused: one call
 /// lists the folder, and one reads each file.
 ///
-/// Of a file its documents are read first, then its components, then its subscriptions, then its policies, each joined to those
-/// of the files before it; the first refusal counts. A file of more than 1,048,576 bytes is refused. `Failed` comes only where the count of faults
+/// Of a file its documents are read first, then its components, then its policies, then its subscriptions, each joined to those
+/// of the files before it; the first refusal counts. Where `subscribing` is false, subscriptions are passed over, and none is refused. A file of more than 1,048,576 bytes is refused. `Failed` comes only where the count of faults
 /// rose, as where the folder isn't there; with every other answer that count is as before.
 pub fn read_resources<F: Files>(
     alloc: Global,
     files: &mut F,
     folder: &[u8],
     app: &Text,
+    subscribing: bool,
 ) -> Result<Resources, ResourcesErr>
-    ensures read { IsReadFrom (F.folders files.old) (F.calls files.old) (F.calls files.new) (F.faults files.old) (F.faults files.new) folder.now app.now result }
+    ensures read { IsReadFrom (F.folders files.old) (F.calls files.old) (F.calls files.new) (F.faults files.old) (F.faults files.new) folder.now (reading_for app.now subscribing) result }
     ensures folders { F.folders files.new ≡ F.folders files.old }
     ensures no_fewer { F.faults files.old ≤ F.faults files.new }
 {
@@ -98,7 +101,7 @@ pub fn read_resources<F: Files>(
     };
     let mut all = nothing(alloc);
     while let Some(name) = names.take_first() {
-        match read_file(alloc, files, folder, app, name, &mut all) {
+        match read_file(alloc, files, folder, app, subscribing, name, &mut all) {
             Ok(()) => {}
             Err(error) => return Err(error),
         }
