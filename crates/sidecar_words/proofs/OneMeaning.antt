@@ -1,8 +1,12 @@
 -- Words spell at most one list of pairs, and mean at most one thing.
 use Rattle.std.proofs.Common.{◌≡◌, ◌∙◌, ◌⊎◌, inl, inr, ℕ, Bool, true, false, true≢false, refl, sym, ap, ap₂, subst, List, [], ◌∷◌, ◌++◌, Option, Some, None, Contains, is_some}
+use Rattle.std.specs.List.{AllZip, slice_split}
+use Rattle.app_peers.proofs.Cuts.{writes_once}
+use Rattle.app_peers.specs.Peers.{Writes as Lists, is_comma}
+use Rattle.app_peers.specs.declared.peer.Peer.{Peer}
 use Rattle.clap.specs.Lexer.{long_of}
 use Rattle.sidecar_words.specs.Spelling.{Pair, IsOnce, Spells, Writes, options, flags}
-use Rattle.sidecar_words.specs.Value.{IsNumberOr}
+use Rattle.sidecar_words.specs.Value.{ArePeers, IsNumberOr}
 use Rattle.sidecar_words.specs.Meaning.{Gives, IsMode, Means, Options, options_of}
 use Rattle.sidecar_words.specs.Found.{GivesValues, HoldsOf}
 use Rattle.sidecar_words.specs.declared.given.Mode.{Mode}
@@ -82,6 +86,18 @@ one_number : (most usual : ℕ) (value : Option Text) (one other : ℕ) → IsNu
 one_number most usual None one other a b = a ∙ sym b
 one_number most usual (Some text) one other a b = a.value ∙ sym b.value
 
+all_one : (items : List Text) (one other : List Peer) → AllZip Lists items one → AllZip Lists items other → one ≡ other
+all_one [] [] [] a b = refl
+all_one [] [] (y ∷ ys) a b = absurd b
+all_one [] (x ∷ xs) other a b = absurd a
+all_one (item ∷ items) [] other a b = absurd a
+all_one (item ∷ items) (x ∷ xs) [] a b = absurd b
+all_one (item ∷ items) (x ∷ xs) (y ∷ ys) a b = ap₂ (λ (p : Peer) (ps : List Peer). p ∷ ps) (writes_once item x y a.0 b.0) (all_one items xs ys a.1 b.1)
+
+one_list : (own : Text) (value : Option Text) (one other : List Peer) → ArePeers own value one → ArePeers own value other → one ≡ other
+one_list own None one other a b = a ∙ sym b
+one_list own (Some text) one other a b = all_one (slice_split is_comma text) one other a.items b.items
+
 abbrev some_in : {X : Type 0} → X → Option X → X
 some_in x None = x
 some_in x (Some y) = y
@@ -101,8 +117,9 @@ one_given options one other a b =
     let resources : one.resources ≡ other.resources = sym a.resources_are ∙ b.resources_are in
     let port : one.port ≡ other.port = one_number 65535 3500 _ one.port other.port a.port_is b.port_is in
     let workers : one.workers ≡ other.workers = one_number 64 4 _ one.workers other.workers a.workers_are b.workers_are in
+    let peers : one.peers ≡ other.peers = one_list one.app options.peers one.peers other.peers a.peers_are (subst (λ (own : Text). ArePeers own options.peers other.peers) (sym app) b.peers_are) in
     let mode : one.mode ≡ other.mode = one_mode options.stdio options.check options.drill one.mode other.mode a.mode_is b.mode_is in
-    λ i. record { app = app i; resources = resources i; port = port i; workers = workers i; mode = mode i }
+    λ i. record { app = app i; resources = resources i; port = port i; workers = workers i; peers = peers i; mode = mode i }
 
 pub one_meaning : (words : List Text) (one other : Words) → Means words one → Means words other → one ≡ other
 one_meaning words one other (pairs, spelled, once, gives) (others, respelled, again, regives) =

@@ -15,6 +15,7 @@ shown values = record {
   resources = text_of values.resources;
   port = text_of values.port;
   workers = text_of values.workers;
+  peers = text_of values.peers;
   drill = text_of values.drill;
   stdio = values.stdio;
   check = values.check;
@@ -39,6 +40,7 @@ pub record IsFound (found : Found) (values : Values) : Type 0 where
   pub resources : text_of values.resources ≡ first_value found (codes "resources-path")
   pub port : text_of values.port ≡ first_value found (codes "dapr-http-port")
   pub workers : text_of values.workers ≡ first_value found (codes "workers")
+  pub peers : text_of values.peers ≡ first_value found (codes "peers")
   pub drill : text_of values.drill ≡ first_value found (codes "drill")
   pub stdio : IsRead (one_text found (codes "stdio")) values.stdio
   pub check : IsRead (one_text found (codes "check")) values.check

@@ -1,8 +1,10 @@
 -- The forms of values.
-use Rattle.std.specs.Prelude.{◌≡◌, ◌≢◌, ◌<◌, ◌≤◌, ℕ, Bool, ◌||◌, ◌==◌, List, ◌∷◌, Option, Some, None, length, All, IsTrue, IfSome, option_map}
+use Rattle.std.specs.Prelude.{◌≡◌, ◌≢◌, ◌<◌, ◌≤◌, ℕ, Bool, ◌||◌, ◌==◌, List, [], ◌∷◌, Option, Some, None, length, All, IsTrue, IfSome, option_map}
 use Rattle.std.specs.Borrow.{Bor}
 use Rattle.std.specs.Char.{is_ascii_alphanumeric}
 use Rattle.std.specs.Str.Parse.{AllDigits, digits_value}
+use Rattle.app_peers.specs.declared.peer.Peer.{Peer}
+use Rattle.app_peers.specs.Peers.{IsPeers}
 
 -- the text behind the reference
 abbrev pub text_of : Option (Bor (List ℕ)) → Option (List ℕ)
@@ -30,6 +32,11 @@ pub record IsNumber (most : ℕ) (text : List ℕ) (number : ℕ) : Type 0 where
 abbrev pub IsNumberOr : ℕ → ℕ → Option (List ℕ) → ℕ → Type 0
 IsNumberOr most usual None number = number ≡ usual
 IsNumberOr most usual (Some text) number = IsNumber most text number
+
+-- the apps are those that the value lists, beside the own app, and there are none where there is no value
+abbrev pub ArePeers : List ℕ → Option (List ℕ) → List Peer → Type 0
+ArePeers own None peers = peers ≡ []
+ArePeers own (Some text) peers = IsPeers own text peers
 
 -- a value isn't empty
 abbrev pub IsFilled : Option (List ℕ) → Type 0

@@ -1,11 +1,13 @@
 ghost use Rattle.std.specs.Prelude.{◌≡◌, ◌↔◌, ℕ, IfOk, IfSome, IfNone, IsTrue, IsErrOf, List, is_some, true};
-ghost use Rattle.sidecar_words.specs.Value.{IsAppId, IsNumber, IsNumberOr, IsFilled, is_app_id_byte, text_of};
+ghost use Rattle.app_peers.specs.declared.peer.Peer.{Peer};
+ghost use Rattle.sidecar_words.specs.Value.{ArePeers, IsAppId, IsNumber, IsNumberOr, IsFilled, is_app_id_byte, text_of};
 ghost use Rattle.sidecar_words.specs.Meaning.{IsMode};
 ghost use Rattle.sidecar_words.specs.Found.{GivesValues};
 ghost use Rattle.sidecar_words.specs.declared.given.Words.{Words};
 
 use crate::drilling::drill_of;
 use crate::{Mode, Words, WordsErr};
+use app_peers::{PeerList, PeersErr, read_peers};
 use side_base::{NoMemory, Text};
 use std::alloc::Global;
 
@@ -26,6 +28,7 @@ pub(crate) struct Values<'a> {
     pub(crate) resources: Option<&'a str>,
     pub(crate) port: Option<&'a str>,
     pub(crate) workers: Option<&'a str>,
+    pub(crate) peers: Option<&'a str>,
     pub(crate) drill: Option<&'a str>,
     pub(crate) stdio: bool,
     pub(crate) check: bool,
@@ -43,11 +46,13 @@ pub(crate) fn words_of(alloc: Global, values: &Values<'_>) -> Result<Words, Word
     if !fits(values.resources, mode) {
         return Err(WordsErr::Usage);
     }
+    let peers = peers_of(alloc, app, values.peers)?;
     Ok(Words {
         app: Text::from_str(alloc, app)?,
         resources: copy(alloc, values.resources)?,
         port,
         workers: u32::from(workers),
+        peers,
         mode,
     })
 }
@@ -120,6 +125,21 @@ fn number(text: &str, limit: u16) -> Option<u16>
     match text.parse::<u16>() {
         Ok(number) if number >= 1 && number <= limit => Some(number),
         _ => None,
+    }
+}
+
+/// The apps that a value lists, beside this app, and none where there is no value.
+fn peers_of(alloc: Global, app: &str, value: Option<&str>) -> Result<PeerList, WordsErr>
+    ensures ok { IfOk result (ArePeers app.now (text_of value.entry)) }
+    ensures usage { IsErrOf result WordsErr.Usage → (peers : List Peer) → ¬ ArePeers app.now (text_of value.entry) peers }
+{
+    match value {
+        Some(text) => match read_peers(alloc, app, text) {
+            Ok(peers) => Ok(peers),
+            Err(PeersErr::NoList) => Err(WordsErr::Usage),
+            Err(PeersErr::NoMemory) => Err(WordsErr::NoMemory),
+        },
+        None => Ok(PeerList::new(alloc)),
     }
 }
 

@@ -14,6 +14,7 @@ pub(crate) fn command<'a>(alloc: Global) -> Result<Command<'a>, AllocError>
         .arg(option(alloc, "resources-path"))?
         .arg(option(alloc, "dapr-http-port"))?
         .arg(option(alloc, "workers"))?
+        .arg(option(alloc, "peers"))?
         .arg(option(alloc, "drill"))?
         .arg(flag(alloc, "stdio"))?
         .arg(flag(alloc, "check"))

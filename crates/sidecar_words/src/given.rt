@@ -1,6 +1,7 @@
 ghost use Rattle.std.specs.Prelude.{◌≡◌};
 ghost use Rattle.sidecar_words.specs.declared.given.WordsErr.TheVariants as errors;
 
+use app_peers::PeerList;
 use side_base::Text;
 use std::alloc::AllocError;
 
@@ -33,6 +34,8 @@ pub struct Words {
     pub port: u16,
     /// How many workers serve, 1 to 64.
     pub workers: u32,
+    /// The other apps that may be called by their ids, at most 256, none of them of the name of this app.
+    pub peers: PeerList,
     /// What to do.
     pub mode: Mode,
 }

@@ -78,6 +78,7 @@ fn found<'a>(matches: &ArgMatches<'a>) -> Values<'a>
         resources: matches.get_str("resources-path"),
         port: matches.get_str("dapr-http-port"),
         workers: matches.get_str("workers"),
+        peers: matches.get_str("peers"),
         drill: matches.get_str("drill"),
         stdio: matches.get_flag("stdio"),
         check: matches.get_flag("check"),

@@ -3,21 +3,21 @@ use sidecar_words::{Mode, Words, WordsErr, read_words};
 use std::alloc::Global;
 use std::test::Fail;
 
-/// Words, and behind the arrow what they mean: app id, folder or `-`, port, workers, mode, and of a drill its two numbers; or `usage`.
-static ROWS: [&str; 76] = [
-    "--app-id a --stdio => a - 3500 4 stdio",
-    "--app-id=a --stdio => a - 3500 4 stdio",
-    "--stdio --app-id a => a - 3500 4 stdio",
-    "--app-id a => a - 3500 4 serve",
-    "--app-id a --resources-path d --check => a d 3500 4 check",
-    "--check --resources-path=d --app-id=a => a d 3500 4 check",
-    "--app-id a --dapr-http-port 1 --workers 64 => a - 1 64 serve",
-    "--dapr-http-port=65535 --app-id aZ09_- --workers=1 --stdio => aZ09_- - 65535 1 stdio",
-    "--app-id=--stdio => --stdio - 3500 4 serve",
-    "--app-id=-a => -a - 3500 4 serve",
-    "--app-id a --resources-path=x=y => a x=y 3500 4 serve",
-    "--app-id a --resources-path=-d => a -d 3500 4 serve",
-    "--app-id 0123456789012345678901234567890123456789012345678901234567890123 => 0123456789012345678901234567890123456789012345678901234567890123 - 3500 4 serve",
+/// Words, and behind the arrow what they mean: app id, folder or `-`, port, workers, peers or `-`, mode, and of a drill its two numbers; or `usage`.
+static ROWS: [&str; 95] = [
+    "--app-id a --stdio => a - 3500 4 - stdio",
+    "--app-id=a --stdio => a - 3500 4 - stdio",
+    "--stdio --app-id a => a - 3500 4 - stdio",
+    "--app-id a => a - 3500 4 - serve",
+    "--app-id a --resources-path d --check => a d 3500 4 - check",
+    "--check --resources-path=d --app-id=a => a d 3500 4 - check",
+    "--app-id a --dapr-http-port 1 --workers 64 => a - 1 64 - serve",
+    "--dapr-http-port=65535 --app-id aZ09_- --workers=1 --stdio => aZ09_- - 65535 1 - stdio",
+    "--app-id=--stdio => --stdio - 3500 4 - serve",
+    "--app-id=-a => -a - 3500 4 - serve",
+    "--app-id a --resources-path=x=y => a x=y 3500 4 - serve",
+    "--app-id a --resources-path=-d => a -d 3500 4 - serve",
+    "--app-id 0123456789012345678901234567890123456789012345678901234567890123 => 0123456789012345678901234567890123456789012345678901234567890123 - 3500 4 - serve",
     "--app-id 01234567890123456789012345678901234567890123456789012345678901234 => usage",
     "--stdio => usage",
     "--app-id a --stdio --check => usage",
@@ -54,11 +54,30 @@ static ROWS: [&str; 76] = [
     "--app-id a --help => usage",
     "--app-id a --version => usage",
     "--app-id a --app-port 80 => usage",
-    "--app-id a --peers b=c:1 => usage",
-    "--app-id a --drill 1,0 => a - 3500 4 drill 1 0",
-    "--drill=18446744073709551615,99999 --app-id a => a - 3500 4 drill 18446744073709551615 99999",
-    "--app-id a --drill=007,0000005 => a - 3500 4 drill 7 5",
-    "--app-id a --resources-path d --dapr-http-port 80 --workers 2 --drill 1,1 => a d 80 2 drill 1 1",
+    "--app-id a --peers b=c:1 => a - 3500 4 b=c:1 serve",
+    "--app-id a --peers=b=127.0.0.1:65535,c-_9=host.of-c:1 --stdio => a - 3500 4 b=127.0.0.1:65535,c-_9=host.of-c:1 stdio",
+    "--peers b=c:1 --app-id a --drill 0,1 => a - 3500 4 b=c:1 drill 0 1",
+    "--app-id a --peers a=c:1 => usage",
+    "--app-id a --peers b=c:1,a=c:1 => usage",
+    "--app-id a --peers b=c:1,b=d:2 => usage",
+    "--app-id a --peers b=c:1, => usage",
+    "--app-id a --peers ,b=c:1 => usage",
+    "--app-id a --peers b=c:0 => usage",
+    "--app-id a --peers b=c:01 => usage",
+    "--app-id a --peers b=c => usage",
+    "--app-id a --peers b:1 => usage",
+    "--app-id a --peers =c:1 => usage",
+    "--app-id a --peers b=:1 => usage",
+    "--app-id a --peers b.c=d:1 => usage",
+    "--app-id a --peers b=c_d:1 => usage",
+    "--app-id a --peers= => usage",
+    "--app-id a --peers => usage",
+    "--peers b=c:1 => usage",
+    "--app-id a --peers b=c:1 --peers d=e:2 => usage",
+    "--app-id a --drill 1,0 => a - 3500 4 - drill 1 0",
+    "--drill=18446744073709551615,99999 --app-id a => a - 3500 4 - drill 18446744073709551615 99999",
+    "--app-id a --drill=007,0000005 => a - 3500 4 - drill 7 5",
+    "--app-id a --resources-path d --dapr-http-port 80 --workers 2 --drill 1,1 => a d 80 2 - drill 1 1",
     "--drill 1,0 => usage",
     "--app-id a --drill => usage",
     "--app-id a --drill= => usage",
@@ -100,16 +119,34 @@ fn mode_shown(alloc: Global, mode: Mode) -> Result<String, NoMemory> {
     }
 }
 
+fn peers_shown(alloc: Global, words: &Words) -> Result<String, NoMemory> {
+    let mut text = String::new(alloc);
+    for i in 0..words.peers.len() {
+        let peer = words.peers.at(i);
+        let mark = if i == 0 { "" } else { "," };
+        text.push_str(mark)?;
+        text.push_str(peer.id.as_str())?;
+        text.push_str("=")?;
+        text.push_str(peer.host.as_str())?;
+        text.push_str(format!(in alloc; ":{}", peer.port)?.as_str())?;
+    }
+    if text.is_empty() {
+        text.push_str("-")?;
+    }
+    Ok(text)
+}
+
 fn shown(alloc: Global, words: &Words) -> Result<String, NoMemory> {
     let folder = match &words.resources {
         Some(folder) => folder.as_str(),
         None => "-",
     };
     format!(in alloc;
-        "{} {folder} {} {} {}",
+        "{} {folder} {} {} {} {}",
         words.app.as_str(),
         words.port,
         words.workers,
+        peers_shown(alloc, words)?.as_str(),
         mode_shown(alloc, words.mode)?
     )
 }

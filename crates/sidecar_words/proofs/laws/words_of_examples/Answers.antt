@@ -86,6 +86,7 @@ returns c = record {
       resources_filled = tt;
       port_is = refl;
       workers_are = refl;
+      peers_are = refl;
       mode_is = refl;
       folder = λ e. search rules;
     },
@@ -101,6 +102,7 @@ returns c = record {
       resources_filled = tt;
       port_is = refl;
       workers_are = sixty_four;
+      peers_are = refl;
       mode_is = refl;
       folder = λ e. search rules;
     },
@@ -108,7 +110,7 @@ returns c = record {
   drill = (
     app (codes "a") ∷ (codes "drill", Some (codes "05,1000")) ∷ [],
     spells_app (codes "--drill" ∷ codes "05,1000" ∷ []) ((codes "drill", Some (codes "05,1000")) ∷ [])
-        (codes "--drill" ∷ codes "05,1000" ∷ [], [], refl, ((4, omega arith, refl), inr (refl, refl)), refl),
+        (codes "--drill" ∷ codes "05,1000" ∷ [], [], refl, ((5, omega arith, refl), inr (refl, refl)), refl),
     once_more (app (codes "a") ∷ []) (codes "drill", Some (codes "05,1000")) (once_more [] (app (codes "a")) none_once refl) refl,
     record {
       app_is = refl;
@@ -117,6 +119,7 @@ returns c = record {
       resources_filled = tt;
       port_is = refl;
       workers_are = refl;
+      peers_are = refl;
       mode_is = record { first = codes "05"; second = codes "1000"; form = refl; numbers = (five, thousand) };
       folder = λ e. search rules;
     },
