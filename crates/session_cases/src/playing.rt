@@ -1,6 +1,7 @@
 // A case, played and compared.
 
 use crate::given::{sizes, words};
+use crate::link::asked;
 use crate::world::{Made, world};
 use case_text::{Lines, Piece, Section, add_broken, joined_text, name_in, sections, text_of};
 use itoa::Buffer;
@@ -34,6 +35,13 @@ fn is_known(word: &str) -> bool {
         | "files-fail"
         | "outside-fails"
         | "disk-fails"
+        | "link-fails"
+        | "replies"
+        | "with"
+        | "fails"
+        | "expires"
+        | "lacks"
+        | "asked"
         | "output"
         | "note"
         | "status" => true,
@@ -52,7 +60,14 @@ fn compare_each(alloc: Global, lines: &mut Lines, sections: &[Section<'_>], worl
     }
 }
 
-// Compares what was written, and the status.
+// Compares what the link was asked.
+fn compare_asked(alloc: Global, lines: &mut Lines, sections: &[Section<'_>], world: &Made) {
+    let wanted = joined_text(alloc, sections, "asked");
+    let got = asked(alloc, &world.link);
+    lines.compare("asked", wanted.bytes(), got.as_str().as_bytes());
+}
+
+// Compares what was written, what the link was asked, and the status.
 fn compare_all(
     alloc: Global,
     lines: &mut Lines,
@@ -66,6 +81,7 @@ fn compare_all(
     let mut buffer = Buffer::new();
     lines.compare("output", output.bytes(), world.sink.bytes());
     lines.compare("note", note.bytes(), world.note.bytes());
+    compare_asked(alloc, lines, sections, world);
     lines.compare(
         "status",
         wanted.as_bytes(),

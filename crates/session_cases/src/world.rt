@@ -1,8 +1,9 @@
 // The world of a case, in memory.
 
 use crate::given::{places, steps};
+use crate::link::link_of;
 use case_text::{Section, joined_text, text_of};
-use side_base::{Moment, Places, Sequence, Text};
+use side_base::{Moment, Places, Text};
 use side_memory::{
     MemoryClock, MemoryFiles, MemoryLink, MemoryOutside, MemorySink, MemorySource, Numbers, Sizes,
 };
@@ -81,7 +82,7 @@ pub(crate) fn world(alloc: Global, sections: &[Section<'_>], reads: Sizes) -> Ma
         sink: sink(alloc, sections, "sink-fails"),
         note: sink(alloc, sections, "note-fails"),
         files: files(alloc, sections),
-        link: MemoryLink::new(alloc, Sequence::new(alloc), Sequence::new(alloc)),
+        link: link_of(alloc, sections),
         clock: MemoryClock::new(alloc, first_moment(), steps(alloc, sections)),
         outside: outside(alloc, sections),
     }
