@@ -3,6 +3,7 @@
 #![tactic(auto)]
 
 mod given;
+mod link;
 mod playing;
 mod world;
 

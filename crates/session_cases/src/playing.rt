@@ -1,9 +1,9 @@
 // A case, played and compared.
 
 use crate::given::{sizes, words};
+use crate::link::asked;
 use crate::world::{Made, world};
 use case_text::{Lines, Piece, Section, add_broken, joined_text, name_in, sections, text_of};
-use case_world::add_asked;
 use itoa::Buffer;
 use side_base::{NoMemory, Text};
 use side_memory::Sizes;
@@ -35,6 +35,7 @@ fn is_known(word: &str) -> bool {
         | "files-fail"
         | "outside-fails"
         | "disk-fails"
+        | "link-fails"
         | "replies"
         | "with"
         | "fails"
@@ -62,12 +63,11 @@ fn compare_each(alloc: Global, lines: &mut Lines, sections: &[Section<'_>], worl
 // Compares what the link was asked.
 fn compare_asked(alloc: Global, lines: &mut Lines, sections: &[Section<'_>], world: &Made) {
     let wanted = joined_text(alloc, sections, "asked");
-    let mut asked = Lines::new(alloc);
-    add_asked(&mut asked, &world.link);
-    lines.compare("asked", wanted.bytes(), asked.as_str().as_bytes());
+    let got = asked(alloc, &world.link);
+    lines.compare("asked", wanted.bytes(), got.as_str().as_bytes());
 }
 
-// Compares what was written, and the status.
+// Compares what was written, what the link was asked, and the status.
 fn compare_all(
     alloc: Global,
     lines: &mut Lines,
@@ -81,12 +81,12 @@ fn compare_all(
     let mut buffer = Buffer::new();
     lines.compare("output", output.bytes(), world.sink.bytes());
     lines.compare("note", note.bytes(), world.note.bytes());
+    compare_asked(alloc, lines, sections, world);
     lines.compare(
         "status",
         wanted.as_bytes(),
         buffer.format(status).as_bytes(),
     );
-    compare_asked(alloc, lines, sections, world);
     compare_each(alloc, lines, sections, world);
 }
 

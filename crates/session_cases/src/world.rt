@@ -1,8 +1,8 @@
 // The world of a case, in memory.
 
 use crate::given::{places, steps};
+use crate::link::link_of;
 use case_text::{Section, joined_text, text_of};
-use case_world::World as Calls;
 use side_base::{Moment, Places, Text};
 use side_memory::{
     MemoryClock, MemoryFiles, MemoryLink, MemoryOutside, MemorySink, MemorySource, Numbers, Sizes,
@@ -75,16 +75,6 @@ fn first_moment() -> Moment {
     }
 }
 
-// The link of a case, by what its sections say that it answers.
-fn link(alloc: Global, sections: &[Section<'_>]) -> MemoryLink {
-    let Calls {
-        link,
-        clock: _,
-        word: _,
-    } = Calls::new(alloc, sections);
-    link
-}
-
 /// The world of a case, whose reads bring so many bytes at most.
 pub(crate) fn world(alloc: Global, sections: &[Section<'_>], reads: Sizes) -> Made {
     World {
@@ -92,7 +82,7 @@ pub(crate) fn world(alloc: Global, sections: &[Section<'_>], reads: Sizes) -> Ma
         sink: sink(alloc, sections, "sink-fails"),
         note: sink(alloc, sections, "note-fails"),
         files: files(alloc, sections),
-        link: link(alloc, sections),
+        link: link_of(alloc, sections),
         clock: MemoryClock::new(alloc, first_moment(), steps(alloc, sections)),
         outside: outside(alloc, sections),
     }

@@ -312,11 +312,11 @@ module _ {D : Type 0} {disking : Keeps D} {keeping : Ghosts (AnyKeeper D disking
       why_down config end same (play.lacks keepers kept is) = subst (IsWhy kinds given world world') (sym is) tt
 
     -- a run that came as far as this has its cause
-    why_kept : (resources : Resources) (now : WorldAt) (words : Stream) (end : Status) → HasRead resources now → IsKept kinds (record { app = given.app; app_port = None; peers = []; components = resources.components; subs = []; policies = resources.policies }) words now world' end
+    why_kept : (resources : Resources) (now : WorldAt) (words : Stream) (end : Status) → HasRead resources now → IsKept kinds (record { app = given.app; app_port = None; peers = given.peers; components = resources.components; subs = []; policies = resources.policies }) words now world' end
         → IsWhy kinds given world world' end
-    why_kept resources now words end read (play.down down rest) = why_down resources now read rest (record { app = given.app; app_port = None; peers = []; components = resources.components; subs = []; policies = resources.policies }) end refl down
+    why_kept resources now words end read (play.down down rest) = why_down resources now read rest (record { app = given.app; app_port = None; peers = given.peers; components = resources.components; subs = []; policies = resources.policies }) end refl down
     why_kept resources now words end read (play.up objects pass started up rest session) = subst (IsWhy kinds given world world') (sym session.ends) (why_served session.ended session.spent record {
-      config = record { app = given.app; app_port = None; peers = []; components = resources.components; subs = []; policies = resources.policies };
+      config = record { app = given.app; app_port = None; peers = given.peers; components = resources.components; subs = []; policies = resources.policies };
       objects = objects;
       pass = pass;
       after = session.after;

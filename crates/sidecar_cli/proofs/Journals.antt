@@ -15,7 +15,7 @@ use Rattle.resource_spec.specs.declared.component.ComponentKind.{ComponentKind}
 use Rattle.resource_spec.specs.declared.component.ComponentKind.TheVariants as kind
 use Rattle.resource_spec.specs.declared.spec_err.SpecErr.{SpecErr}
 use Rattle.resource_files.specs.declared.resources.Resources.{Resources}
-use Rattle.resource_files.specs.Added.{Adds}
+use Rattle.resource_files.specs.Added.{Adds, Reading, reading_for}
 use Rattle.resource_files.specs.Read.{AllAdd, FileRead}
 use Rattle.state_core.specs.declared.command.Cmd.{Cmd}
 use Rattle.state_core.specs.declared.reply.Reply.{Reply}
@@ -69,14 +69,14 @@ followed_own (Ok more) before own = joined_own (length before + length more) bef
 followed_own (Err e) before own = tt
 
 -- a file that is added leaves paths that differ
-adds_own : (app bytes : List ℕ) (before after : Resources) → Adds app bytes before after → AreApart (paths_of before.components) → AreApart (paths_of after.components)
-adds_own app bytes before after adds own = subst (λ (r : Result (List Loaded) SpecErr). IfOk r (λ all. AreApart (paths_of all))) adds.components (followed_own _ before.components own)
+adds_own : (reading : Reading) (bytes : List ℕ) (before after : Resources) → Adds reading bytes before after → AreApart (paths_of before.components) → AreApart (paths_of after.components)
+adds_own reading bytes before after adds own = subst (λ (r : Result (List Loaded) SpecErr). IfOk r (λ all. AreApart (paths_of all))) adds.components (followed_own _ before.components own)
 
-all_own : (app : List ℕ) (before : Resources) (files : List FileRead) (after : Resources) → AllAdd app before files after → AreApart (paths_of before.components) → AreApart (paths_of after.components)
-all_own app before [] after same own = subst (λ (r : Resources). AreApart (paths_of r.components)) (sym same) own
-all_own app before (file ∷ later) after adds own = all_own app adds.0 later after adds.1.1 (adds_own app file.bytes before adds.0 adds.1.0 own)
+all_own : (reading : Reading) (before : Resources) (files : List FileRead) (after : Resources) → AllAdd reading before files after → AreApart (paths_of before.components) → AreApart (paths_of after.components)
+all_own reading before [] after same own = subst (λ (r : Resources). AreApart (paths_of r.components)) (sym same) own
+all_own reading before (file ∷ later) after adds own = all_own reading adds.0 later after adds.1.1 (adds_own reading file.bytes before adds.0 adds.1.0 own)
 
 -- the journals that are configured have paths of their own
 pub configured_own : (folder : Option (List ℕ)) (app : List ℕ) (files files' : FilesAt) (resources : Resources) → IsConfigured folder app files files' (Ok resources) → AreApart (paths_of (stores_of resources.components))
 configured_own None app files files' resources read = subst (λ (r : Resources). AreApart (paths_of (stores_of r.components))) (sym read.1) tt
-configured_own (Some folder) app files files' resources read = subst AreApart (sym (same_paths resources.components)) (all_own app _ _ resources read.1.0.added tt)
+configured_own (Some folder) app files files' resources read = subst AreApart (sym (same_paths resources.components)) (all_own (reading_for app true) _ _ resources read.1.0.added tt)

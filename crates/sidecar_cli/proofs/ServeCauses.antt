@@ -291,11 +291,11 @@ module _ {D : Type 0} {disking : Keeps D} {keeping : Ghosts (AnyKeeper D disking
     why_refused lack.DiskFailed end refused counts same = subst (IsWhyOfServing kinds given world world') (sym same) (counts, left)
     why_refused lack.NoMemory end refused counts same = subst (IsWhyOfServing kinds given world world') (sym same) tt
 
-    why_kept : (words : List Stream) (end : Status) → IsKeptServing kinds (record { app = given.app; app_port = None; peers = []; components = resources.components; subs = []; policies = resources.policies }) given.port words world.note world'.note (record world.outside { numbers = numbers }) world'.outside end
+    why_kept : (words : List Stream) (end : Status) → IsKeptServing kinds (record { app = given.app; app_port = None; peers = given.peers; components = resources.components; subs = []; policies = resources.policies }) given.port words world.note world'.note (record world.outside { numbers = numbers }) world'.outside end
         → IsWhyOfServing kinds given world world' end
     why_kept words end (serve.down (play.refused e refused counts numbered says) quiet) = why_refused e end refused counts says
     why_kept words end (serve.down (play.lacks keepers kept is) quiet) = subst (IsWhyOfServing kinds given world world') (sym is) tt
-    why_kept words end (serve.up objects pass between up serving) = why_serving (record { app = given.app; app_port = None; peers = []; components = resources.components; subs = []; policies = resources.policies }) (record world.outside { numbers = numbers }) between objects pass words up refl end serving
+    why_kept words end (serve.up objects pass between up serving) = why_serving (record { app = given.app; app_port = None; peers = given.peers; components = resources.components; subs = []; policies = resources.policies }) (record world.outside { numbers = numbers }) between objects pass words up refl end serving
 
   unread_serving : (end : Status) → WhyUnread given world.files world'.files end → IsWhyOfServing kinds given world world' end
   unread_serving (status.BadResources text) why = inl why

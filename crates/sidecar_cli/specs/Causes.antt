@@ -1,5 +1,5 @@
 -- Why a run on standard input, or a check, ended with its status.
-use Rattle.std.specs.Prelude.{◌≡◌, ◌⊎◌, ℕ, ◌<◌, ◌^◌, List, [], ◌++◌, length, Option, Some, None, Ok, codes, decimal}
+use Rattle.std.specs.Prelude.{◌≡◌, ◌⊎◌, ℕ, ◌<◌, ◌^◌, List, [], ◌++◌, length, Option, Some, None, true, Ok, codes, decimal}
 use Rattle.std.specs.Option.{option_or}
 use mathlib.Core.Option.{some}
 use lib.ListN.{get_elem?}
@@ -16,6 +16,7 @@ use Rattle.http_frames.specs.Requests.{IsAccepted}
 use Rattle.http_frames.specs.Streams.{IsStream, Whole}
 use Rattle.resource_files.specs.declared.resources.Resources.{Resources}
 use Rattle.resource_files.specs.declared.resources.Refusal.{Refusal}
+use Rattle.resource_files.specs.Added.{reading_for}
 use Rattle.resource_files.specs.Read.{IsRefusedAt}
 use Rattle.resource_files.specs.Refusals.{told_as}
 use Rattle.sidecar_keepers.specs.declared.starting.KeepersErr.TheVariants.{NotAJournal}
@@ -59,7 +60,7 @@ pub record IsFileRefused (given : Words) (files files' : FilesAt) (text : List �
   pub named : given.resources ≡ Some folder
   pub file : List ℕ
   pub refusal : Refusal
-  pub refused : IsRefusedAt files.folders files.calls files'.calls folder given.app file refusal
+  pub refused : IsRefusedAt files.folders files.calls files'.calls folder (reading_for given.app true) file refusal
   pub tells : text ≡ file ++ (codes ": " ++ told_as refusal)
 
 -- the files are read, and a journal of a component that they name is refused; this tells which one, and where

@@ -1,8 +1,9 @@
 -- What is configured: by the resource files of a folder, or without one.
-use Rattle.std.specs.Prelude.{◌≡◌, ◌⊎◌, ℕ, List, ◌++◌, Option, Some, None, Result, Ok, Err, codes}
+use Rattle.std.specs.Prelude.{◌≡◌, ◌⊎◌, ℕ, List, ◌++◌, Option, Some, None, true, Result, Ok, Err, codes}
 use Rattle.resource_files.specs.declared.resources.Resources.{Resources}
 use Rattle.resource_files.specs.declared.resources.ResourcesErr.{ResourcesErr}
 use Rattle.resource_files.specs.declared.resources.ResourcesErr.TheVariants as fault
+use Rattle.resource_files.specs.Added.{reading_for}
 use Rattle.resource_files.specs.Read.{IsReadFrom}
 use Rattle.resource_files.specs.Refusals.{told_as}
 use Rattle.resource_files.specs.Usual.{usual}
@@ -19,7 +20,7 @@ IsUsual (Err e) = e ≡ fault.NoMemory
 -- the resources for an app, with what was read for them; without a folder no file is read
 abbrev pub IsConfigured : Option (List ℕ) → List ℕ → FilesAt → FilesAt → Result Resources ResourcesErr → Type 0
 IsConfigured None app files files' result = (files' ≡ files) × IsUsual result
-IsConfigured (Some folder) app files files' result = (files'.folders ≡ files.folders) × IsReadFrom files.folders files.calls files'.calls files.faults files'.faults folder app result
+IsConfigured (Some folder) app files files' result = (files'.folders ≡ files.folders) × IsReadFrom files.folders files.calls files'.calls files.faults files'.faults folder (reading_for app true) result
 
 -- how a run ends that has no resources: the file and its refusal are told, where there is memory for it
 abbrev pub Says : ResourcesErr → Status → Type 0

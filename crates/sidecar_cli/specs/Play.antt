@@ -126,7 +126,7 @@ module _ {D : Type 0} {disking : Keeps D} {keeping : Ghosts (AnyKeeper D disking
   pub data IsBegun (given : Words) (words : Stream) (world world' : WorldAt) (status : Status) : Type 0 where
     refused : (e : ResourcesErr) → IsConfigured given.resources given.app world.files world'.files (Err e) → Says e status → world' ≡ record world { files = world'.files } → IsBegun given words world world' status
     read : (resources : Resources) (between : WorldAt) → IsConfigured given.resources given.app world.files between.files (Ok resources) → between ≡ record world { files = between.files }
-        → IsKept (record { app = given.app; app_port = None; peers = []; components = resources.components; subs = []; policies = resources.policies }) words between world' status → IsBegun given words world world' status
+        → IsKept (record { app = given.app; app_port = None; peers = given.peers; components = resources.components; subs = []; policies = resources.policies }) words between world' status → IsBegun given words world world' status
 
   -- three numbers were asked for: that of the random words, and two for the secret bytes
   pub record IsPlay (words_of : ℕ → Stream) (given : Words) (world world' : WorldAt) (status : Status) : Type 0 where

@@ -84,7 +84,7 @@ module _ {D : Type 0} {disking : Keeps D} {keeping : Ghosts (AnyKeeper D disking
   pub data IsBegunServing (given : Words) (words : List Stream) (world world' : WorldAt) (status : Status) : Type 0 where
     refused : (e : ResourcesErr) → IsConfigured given.resources given.app world.files world'.files (Err e) → Says e status → world' ≡ record world { files = world'.files } → IsBegunServing given words world world' status
     read : (resources : Resources) → IsConfigured given.resources given.app world.files world'.files (Ok resources)
-        → IsKeptServing (record { app = given.app; app_port = None; peers = []; components = resources.components; subs = []; policies = resources.policies }) given.port words world.note world'.note world.outside world'.outside status
+        → IsKeptServing (record { app = given.app; app_port = None; peers = given.peers; components = resources.components; subs = []; policies = resources.policies }) given.port words world.note world'.note world.outside world'.outside status
         → world' ≡ record world { files = world'.files; note = world'.note; outside = world'.outside } → IsBegunServing given words world world' status
 
   -- a number was asked for the random words of each worker, in order, and two for the secret bytes; or there was no memory, and none was asked for

@@ -21,7 +21,7 @@ pub(crate) fn configured<F: Files>(
     ensures { IsConfigured folder.now app.now (files_at F.Files files.old) (files_at F.Files files.new) result }
 {
     match folder {
-        Some(folder) => read_resources(alloc, files, folder.bytes(), app),
+        Some(folder) => read_resources(alloc, files, folder.bytes(), app, true),
         None => match usual_resources(alloc, app) {
             Ok(resources) => Ok(resources),
             Err(NoMemory) => Err(ResourcesErr::NoMemory),

@@ -14,7 +14,6 @@ use crate::counting::tell_ledgers;
 use crate::starting::start_objects;
 use crate::status::status_after;
 use crate::{Status, World};
-use app_peers::PeerList;
 use conn_serve::{Buffers, Ended};
 use keeper_journal::AnyKeeper;
 use rand_core::{Rng, SeedableRng};
@@ -79,7 +78,7 @@ fn begin<S: Source, N: Sink, E: Sink, F: Files, L: Link, C: Clock, O: Outside, R
             let config = Config {
                 app: given.app,
                 app_port: None,
-                peers: PeerList::new(alloc),
+                peers: given.peers,
                 components: resources.components,
                 subs: Subs::new(alloc),
                 policies: resources.policies,

@@ -15,7 +15,6 @@ use crate::configuring::{configured, without_resources};
 use crate::playing::{close, finish, secret};
 use crate::starting::{Started, start_objects};
 use crate::{Device, Status, World};
-use app_peers::PeerList;
 use keeper_journal::AnyKeeper;
 use rand_core::{Rng, SeedableRng};
 use rand_pcg::Pcg64;
@@ -127,7 +126,7 @@ fn begin<
             let config = Config {
                 app: given.app,
                 app_port: None,
-                peers: PeerList::new(alloc),
+                peers: given.peers,
                 components: resources.components,
                 subs: Subs::new(alloc),
                 policies: resources.policies,
