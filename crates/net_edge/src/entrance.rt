@@ -107,15 +107,18 @@ impl Entrance {
             .store(now_ms().saturating_add(PAUSE_MS), Ordering::SeqCst);
     }
 
-    /// Accepts again where a pause is over. Who has the listener meanwhile closes it.
+    /// Accepts again where a pause is over. Where somebody else has the listener, the next look does.
     pub(crate) fn resume(&self, set: &ReadySet) -> io::Result<()> {
         let at = self.resumes_at.load(Ordering::SeqCst);
-        if at == NEVER || at > now_ms() || self.resumes_at.swap(NEVER, Ordering::SeqCst) == NEVER {
+        if at == NEVER || at > now_ms() {
             return Ok(());
         }
         let Some(place) = self.listener.try_lock() else {
             return Ok(());
         };
+        if self.resumes_at.swap(NEVER, Ordering::SeqCst) == NEVER {
+            return Ok(());
+        }
         match place.as_ref() {
             Some(listener) => set.arm(listener.as_raw_fd(), LISTENER, When::Once),
             None => Ok(()),
