@@ -1,5 +1,5 @@
 -- The session of a drill, by its own devices.
-use Rattle.std.proofs.Common.{◌≡◌, ◌∙◌, ℕ, List, [], Option, Some, None, Result, Ok, Err, refl, sym, ap, subst}
+use Rattle.std.proofs.Common.{◌≡◌, ◌∙◌, ℕ, List, Option, Some, None, Result, Ok, Err, refl, sym, subst}
 use Rattle.side_world.specs.declared.disk.Disk.{Ghosts as Keeps}
 use Rattle.rand_core.specs.Stream.{Stream}
 use Rattle.keeper_core.specs.declared.keeper.Keeper.{Ghosts}

@@ -1,6 +1,6 @@
 -- Keepers stay of the kinds of their components, and there is one for each store.
 use Rattle.std.specs.Prelude.{◌≡◌, Bool, List, [], ◌∷◌, length, map, Option, Result, Ok, Err, IfErr, refl}
-use Rattle.std.proofs.Common.{◌∙◌, suc, ap, get_or, sym, subst}
+use Rattle.std.proofs.Common.{suc, ap, get_or, sym, subst}
 use Rattle.std.specs.List.{filter}
 use Rattle.side_world.specs.declared.disk.Disk.{Ghosts as Keeps}
 use Rattle.keeper_core.specs.declared.changes.Changes.{Changes}

@@ -1,5 +1,5 @@
 -- The line of each broker stands at its place.
-use Rattle.std.specs.Prelude.{◌≡◌, ◌<◌, ◌≤◌, ◌+◌, ℕ, zero, suc, ◌==◌, Bool, true, false, List, [], ◌∷◌, ◌++◌, length, Option, None, Result, Decides, if◌then◌else◌, refl}
+use Rattle.std.specs.Prelude.{◌≡◌, ◌<◌, ◌≤◌, ◌+◌, ℕ, zero, suc, ◌==◌, Bool, true, false, List, [], ◌∷◌, ◌++◌, length, Option, Result, Decides, if◌then◌else◌, refl}
 use Rattle.std.specs.List.{flat_map}
 use Rattle.std.proofs.Common.{◌∙◌, ap, sym, subst, arith}
 use Rattle.std.proofs.lemmas.Bool.Decides.{Decides-eqb}
@@ -14,7 +14,7 @@ use Rattle.ledger_core.specs.Message.{Step}
 use Rattle.resource_spec.specs.Component.{Loaded}
 use Rattle.sidecar_objects.specs.declared.doing.Doing.{Doing}
 use Rattle.sidecar_turns.specs.Counting.{Counted}
-use Rattle.sidecar_core.specs.Delivery as delivery
+use Rattle.sidecar_turns.specs.Counting as counting
 use Rattle.sidecar_objects.specs.Kind.{CellsAt, Kinds, SeatsAt, ledgers}
 use Rattle.sidecar_objects.specs.Doing.{steps_at}
 use Rattle.sidecar_turns.specs.Brokers.{brokers_of}
@@ -39,11 +39,11 @@ record OneCounted (place : ℕ) (events : List Doing) (result : Result LedgerRep
   pub elsewhere : (k : ℕ) → (place ≡ k → ⊥) → flat_map (steps_at ledgers k) events ≡ []
 
 one_counted : (place : ℕ) (events : List Doing) (result : Result LedgerReply Exhausted) → Counted place events result → OneCounted place events result
-one_counted place events result (delivery.stepped step cmd did is) = record {
+one_counted place events result (counting.stepped step cmd did is) = record {
   here = counted step cmd (ap (flat_map (steps_at ledgers place)) did ∙ ap (λ (b : Bool). (if b then step ∷ [] else []) ++ []) (same_place place)) is;
   elsewhere = λ k far. ap (flat_map (steps_at ledgers k)) did ∙ ap (λ (b : Bool). (if b then step ∷ [] else []) ++ []) (other_place place k far);
 }
-one_counted place events result (delivery.exhausted e did is) = record { here = exhausted e (ap (flat_map (steps_at ledgers place)) did) is; elsewhere = λ k far. ap (flat_map (steps_at ledgers k)) did }
+one_counted place events result (counting.exhausted e did is) = record { here = exhausted e (ap (flat_map (steps_at ledgers place)) did) is; elsewhere = λ k far. ap (flat_map (steps_at ledgers k)) did }
 
 -- ---- brokers from a place on
 

@@ -1,5 +1,5 @@
 -- Each status of a run that serves has its cause.
-use Rattle.std.specs.Prelude.{◌≡◌, ◌≢◌, ◌⊎◌, ◌||◌, ℕ, zero, suc, Bool, true, false, List, [], ◌∷◌, ◌++◌, length, map, All, Option, Some, None, IsSome, unwrap_or, Ok, refl}
+use Rattle.std.specs.Prelude.{◌≡◌, ◌⊎◌, ◌||◌, ℕ, zero, suc, Bool, true, false, List, [], ◌∷◌, ◌++◌, length, map, All, Option, Some, None, IsSome, unwrap_or, Ok, refl}
 use Rattle.std.specs.Option.{option_or}
 use Rattle.std.proofs.Common.{◌∙◌, ap, sym, subst, inl, inr, arith, true≢false}
 use Rattle.std.proofs.lemmas.List.Elements.{All-cons, All-head, All-nil, All-tail}
@@ -21,7 +21,6 @@ use Rattle.sidecar_objects.specs.Pass.{cells_of, seats_of}
 use Rattle.sidecar_workers.specs.declared.exit.Exit.{Exit}
 use Rattle.sidecar_workers.specs.declared.exit.Exit.TheVariants as exits
 use Rattle.sidecar_serving.specs.declared.end.End.{End}
-use Rattle.sidecar_serving.specs.declared.end.End.TheVariants as ended
 use Rattle.sidecar_serving.specs.Ending.{end_of, is_failed, spent_by}
 use Rattle.sidecar_serving.specs.Met.{AreMet, failed_in, spent_in}
 use Rattle.sidecar_serving.specs.Opened.{AreWorkers, HasWorked, WorkerAt}

@@ -1,6 +1,6 @@
 -- Serving on a port, part after part.
-use Rattle.std.specs.Prelude.{◌≡◌, ◌≤◌, ◌<◌, ℕ, List, [], ◌∷◌, ◌++◌, length, map, Option, None, Some, refl}
-use Rattle.std.proofs.Common.{◌∙◌, ap, sym, subst, arith}
+use Rattle.std.specs.Prelude.{◌≡◌, ◌≤◌, ℕ, List, [], ◌∷◌, Option, None, Some, refl}
+use Rattle.std.proofs.Common.{sym, subst, arith}
 use Rattle.side_world.specs.declared.disk.Disk.{Ghosts as Keeps}
 use Rattle.side_world.specs.declared.outside.OutsideCall.{OutsideCall}
 use Rattle.rand_core.specs.Stream.{Stream}

@@ -1,4 +1,4 @@
-use Rattle.std.proofs.Common.{refl, subst}
+use Rattle.std.proofs.Common.{refl}
 use Rattle.sidecar_cli.specs.Drill.{down, up}
 use Rattle.sidecar_cli.proofs.Drilled.{session_over}
 use Rattle.sidecar_cli.proofs.drilling.drilled.Goals as goal
