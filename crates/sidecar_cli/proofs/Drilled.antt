@@ -27,16 +27,17 @@ use Rattle.sidecar_cli.specs.declared.status.Status.{Status}
 
 module _ {D : Type 0} {disking : Keeps D} {keeping : Ghosts (AnyKeeper D disking)} {kinds : Kinds (Store (AnyKeeper D disking) keeping)} {config : Config} {objects : Objects (AnyKeeper D disking) keeping} {pass after : Pass (AnyKeeper D disking) keeping} {bytes : List ℕ} {words : Stream} {ended : Ended} where
   -- a session by devices that are as those of a drill
-  pub by_drill : {source source' : SourceAt} {sink sink' : SinkAt} {clock clock' : Clocked} {link link' : LinkAt} {rest : Stream} → source ≡ drill_source bytes → clock ≡ drill_clock → link ≡ drill_link
+  pub by_drill : {source source' : SourceAt} {sink sink' : SinkAt} {clock clock' : Clocked} {link link' : LinkAt} {rest : Stream} → source ≡ drill_source bytes → clock ≡ drill_clock → link ≡ drill_link → source'.faults ≡ 0
       → Served (Exchange config)
       (λ events. Did kinds (cells_of objects) (record { seats = seats_of pass; clock = clock; link = link; words = words }) events (record { seats = seats_of after; clock = clock'; link = link'; words = rest }))
       (ShownFor config (seats_of after)) source source' sink sink' ended
       → IsServedByDrill kinds config objects pass after bytes words sink sink' ended
-  by_drill {source} {source'} {sink} {sink'} {clock} {clock'} {link} {link'} {rest} one two three served = record {
+  by_drill {source} {source'} {sink} {sink'} {clock} {clock'} {link} {link'} {rest} one two three none served = record {
     source' = source';
     clock' = clock';
     link' = link';
     rest = rest;
+    no_fault = none;
     served = subst (λ (s : SourceAt). Served (Exchange config)
         (λ events. Did kinds (cells_of objects) (record { seats = seats_of pass; clock = drill_clock; link = drill_link; words = words }) events (record { seats = seats_of after; clock = clock'; link = link'; words = rest }))
         (ShownFor config (seats_of after)) s source' sink sink' ended) one

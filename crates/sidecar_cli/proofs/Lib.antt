@@ -10,3 +10,4 @@ mod Serves
 mod Shown
 mod Unsubscribed
 pub mod Drilled
+pub mod DrillCauses

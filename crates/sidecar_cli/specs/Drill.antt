@@ -117,6 +117,7 @@ module _ {D : Type 0} {disking : Keeps D} {keeping : Ghosts (AnyKeeper D disking
     pub clock' : Clocked
     pub link' : LinkAt
     pub rest : Stream
+    pub no_fault : source'.faults ≡ 0
     pub served : Served (Exchange config)
         (λ events. Did kinds (cells_of objects) (record { seats = seats_of pass; clock = drill_clock; link = drill_link; words = words }) events (record { seats = seats_of after; clock = clock'; link = link'; words = rest }))
         (ShownFor config (seats_of after)) (drill_source bytes) source' sink sink' ended

@@ -3,6 +3,7 @@ pub mod Check
 pub mod Configured
 pub mod Counting
 pub mod Drill
+pub mod DrillCauses
 pub mod Journals
 pub mod Lines
 pub mod Note

@@ -8,6 +8,7 @@ ghost use Rattle.sidecar_keepers.specs.Runs.{AreApart};
 ghost use Rattle.sidecar_keepers.specs.Stores.{paths_of, stores_of};
 ghost use Rattle.sidecar_cli.specs.Causes.{ChecksWellWhereAllIsWell, EndsWellWhereAllIsWell, IsWhy, IsWhyOfCheck};
 ghost use Rattle.sidecar_cli.specs.Configured.{IsConfigured};
+ghost use Rattle.sidecar_cli.specs.DrillCauses.{IsWhyOfDrill};
 ghost use Rattle.sidecar_cli.specs.Journals.{JournalsHaveWhatWasSaved};
 ghost use Rattle.sidecar_cli.specs.Lines.{BrokersHaveOwnLines};
 ghost use Rattle.sidecar_cli.specs.Note.{AreNoted};
@@ -23,11 +24,12 @@ use sidecar_keepers::laws::files_have_what_was_made;
 use sidecar_words::Mode;
 use state_core::Store;
 
-/// A run on standard input ends with a status only where its cause is there (`IsWhy`), and so do a check (`IsWhyOfCheck`) and a run that serves
+/// A run on standard input ends with a status only where its cause is there (`IsWhy`), and so do a check (`IsWhyOfCheck`), a drill (`IsWhyOfDrill`) and a run that serves
 /// (`IsWhyOfServing`); words that mean one of them are never refused. What the run did is what stands between the world and the world before the note got the text of the status.
 pub fn each_status_has_its_cause<D: Disk + Send>()
     ensures stdio { OfEachRun ⟦<Store<AnyKeeper<D>> as ObjectKinds>⟧.kinds Mode.Stdio (IsWhy ⟦<Store<AnyKeeper<D>> as ObjectKinds>⟧.kinds) }
     ensures check { OfEachRun ⟦<Store<AnyKeeper<D>> as ObjectKinds>⟧.kinds Mode.Check IsWhyOfCheck }
+    ensures drill { (start requests : ℕ) → OfEachRun ⟦<Store<AnyKeeper<D>> as ObjectKinds>⟧.kinds (Mode.Drill start requests) (IsWhyOfDrill ⟦<Store<AnyKeeper<D>> as ObjectKinds>⟧.kinds start requests) }
     ensures serve { OfEachRun ⟦<Store<AnyKeeper<D>> as ObjectKinds>⟧.kinds Mode.Serve (IsWhyOfServing ⟦<Store<AnyKeeper<D>> as ObjectKinds>⟧.kinds) }
 {}
 
