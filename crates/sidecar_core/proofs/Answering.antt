@@ -13,7 +13,6 @@ use Rattle.state_api.specs.declared.what.StateErr.{StateErr}
 use Rattle.state_api.specs.declared.what.StateErr.TheVariants as fault
 use Rattle.state_api.specs.Given.{Tells}
 use Rattle.state_api.specs.Asked.{Asks, IsState}
-use Rattle.state_api.specs.Response.{done}
 use Rattle.meta_api.specs.declared.command.NotesReply.{NotesReply}
 use Rattle.meta_api.specs.declared.command.NotesReply.TheVariants as told
 use Rattle.meta_api.specs.Body.{IsPutReply, put_response}
@@ -22,7 +21,7 @@ use Rattle.sidecar_objects.specs.declared.doing.Doing.{Doing}
 use Rattle.sidecar_core.specs.Site.{Site}
 use Rattle.sidecar_objects.specs.Kind.{SeatsAt}
 use Rattle.link_call.specs.Came.{Gives, IsOr}
-use Rattle.sidecar_core.specs.Exchange.{Answered, AtSite, AtStore, FaultGives, PutReplies, store_in}
+use Rattle.sidecar_core.specs.Exchange.{Answered, IsDone, AtSite, AtStore, FaultGives, PutReplies, store_in}
 use Rattle.sidecar_core.specs.Exchange as exchange
 use Rattle.sidecar_core.specs.Responses.{not_yet}
 use Rattle.sidecar_core.specs.Shown.{RouteShows, StoreShows}
@@ -68,7 +67,7 @@ module _ (config : Config) (request : Request) (events : List Doing) (reply : Re
   actors_answered asked (inr (inr of)) gives = subst (λ a. Answered config request (Ok a) events reply) (sym of.2) gives
 
   -- one of those that are answered at once
-  pub done_answered : (asked : Route) → (asked ≡ route.Health) ⊎ (asked ≡ route.Shutdown) → Gives done events reply → Answered config request (Ok asked) events reply
+  pub done_answered : (asked : Route) → (asked ≡ route.Health) ⊎ (asked ≡ route.Shutdown) → IsDone events reply → Answered config request (Ok asked) events reply
   done_answered asked (inl is) gives = subst (λ a. Answered config request (Ok a) events reply) (sym is) gives
   done_answered asked (inr is) gives = subst (λ a. Answered config request (Ok a) events reply) (sym is) gives
 

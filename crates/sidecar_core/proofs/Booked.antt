@@ -1,15 +1,13 @@
 -- One call of the book of metadata, as what was done.
-use Rattle.std.proofs.Common.{◌≡◌, ◌∙◌, ℕ, List, [], ◌∷◌, ◌++◌, set, Option, Some, Result, Ok, Err, refl, sym, ap, subst, le_refl, flat_map}
-use Rattle.std.specs.Prelude.{IfOk, IfErr}
-use mathlib.Core.Option.{some}
-use lib.ListN.{get_elem?}
+use Rattle.std.proofs.Common.{◌≡◌, ◌∙◌, ℕ, List, [], ◌∷◌, ◌++◌, Option, Some, Result, Ok, Err, refl, ap, le_refl, flat_map}
+use Rattle.std.specs.Prelude.{IfErr}
 use Rattle.rand_core.specs.Stream.{Stream, next_u64}
 use Rattle.side_world.proofs.Composed.{rises_nothing, tells_nothing, drawn_nothing}
 use Rattle.turn_cell.specs.declared.error.ApiErr.TheVariants as error
 use Rattle.turn_cell.specs.declared.error.Exhausted.{Exhausted}
 use Rattle.turn_cell.specs.declared.object.Object.{Ghosts}
-use Rattle.turn_cell.specs.Sitting.{Begun, Sitting, Extends, Exhausts, entry_by}
-use Rattle.turn_cell.specs.Growth.{Grew, EachGrew}
+use Rattle.turn_cell.specs.Sitting.{Sitting, Extends, Exhausts, entry_by}
+use Rattle.turn_cell.specs.Growth.{EachGrew}
 use Rattle.turn_cell.proofs.Growing as growing
 use Rattle.meta_api.specs.declared.notes.Notes.{Notes}
 use Rattle.meta_api.specs.declared.command.NotesCmd.{NotesCmd}
@@ -23,7 +21,7 @@ use Rattle.sidecar_objects.specs.Kind.{Kind, Kinds, CellsAt, SeatsAt, StepOf, st
 use Rattle.sidecar_objects.specs.Doing.{steps_at}
 use Rattle.sidecar_objects.specs.Did.{Did, Does, Standing}
 use Rattle.sidecar_objects.proofs.ByKind.{by_kind}
-use Rattle.sidecar_objects.proofs.Laid.{here_at, elsewhere_at}
+use Rattle.sidecar_objects.proofs.Laid.{elsewhere_at}
 use Rattle.sidecar_objects.proofs.Single.{one_grew}
 use Rattle.sidecar_core.specs.Exchange.{NotesRan}
 use Rattle.sidecar_core.specs.Exchange as exchange

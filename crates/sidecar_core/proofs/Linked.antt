@@ -1,5 +1,5 @@
 -- Calls of the link under what is bound to them, and messages that are given to a ledger, as what was done over all objects.
-use Rattle.std.proofs.Common.{◌≡◌, ◌∙◌, ◌<◌, ℕ, List, [], ◌∷◌, map, set, Option, Some, None, refl, sym, ap, subst, flat_map, unwrap_or}
+use Rattle.std.proofs.Common.{◌≡◌, ◌∙◌, ℕ, List, [], ◌∷◌, map, set, Option, Some, refl, sym, ap, subst, flat_map, unwrap_or}
 use mathlib.Core.Option.{some}
 use lib.ListN.{get_elem?}
 use Rattle.rand_core.specs.Stream.{Stream, next_u64}
@@ -17,7 +17,7 @@ use Rattle.ledger_core.specs.declared.ledger.Ledger.{Ledger}
 use Rattle.ledger_core.specs.declared.command.LedgerCmd.{LedgerCmd}
 use Rattle.ledger_core.specs.declared.reply.LedgerReply.{LedgerReply}
 use Rattle.ledger_core.specs.Message.{Step as LedgerStep}
-use Rattle.policy_run.specs.Event.{Event, own_of, step_of}
+use Rattle.policy_run.specs.Event.{Event, own_of}
 use Rattle.policy_run.specs.Effects.{Clocked, Effects}
 use Rattle.link_call.specs.LinkAt.{LinkAt, Asks, asks_none}
 use Rattle.sidecar_objects.specs.declared.doing.Doing.{Doing}

@@ -1,5 +1,5 @@
 -- Calls under what is bound to them, as what was done over all objects, whatever an attempt does of its own.
-use Rattle.std.proofs.Common.{◌≡◌, ◌∙◌, ℕ, List, [], ◌∷◌, map, refl, sym, ap, subst, flat_map}
+use Rattle.std.proofs.Common.{◌≡◌, ◌∙◌, ℕ, List, [], map, refl, sym, ap, subst, flat_map}
 use Rattle.std.specs.List.{sum_by}
 use Rattle.rand_core.specs.Stream.{next_u64}
 use Rattle.side_world.specs.Moments.{Between, Rises, Drawn}
@@ -10,7 +10,7 @@ use Rattle.policy_run.specs.Event.{Event, own_of, step_of}
 use Rattle.policy_run.specs.Effects.{Effects}
 use Rattle.link_call.specs.LinkAt.{Asks}
 use Rattle.sidecar_objects.specs.declared.doing.Doing.{Doing}
-use Rattle.sidecar_objects.specs.Kind.{Kind, Kinds, CellsAt, StepOf, stores, ledgers, breakers, book, cells_in, seats_in}
+use Rattle.sidecar_objects.specs.Kind.{Kind, Kinds, CellsAt, stores, ledgers, breakers, book, cells_in, seats_in}
 use Rattle.sidecar_objects.specs.Doing.{laid, steps_at, asked_in, word_in, moment_in, pause_in, tick_in}
 use Rattle.sidecar_objects.specs.Did.{Did, Standing}
 use Rattle.sidecar_objects.proofs.Laid.{all_here, none_elsewhere, laid_own, laid_steps, laid_words, laid_moments, laid_pauses, laid_ticks}

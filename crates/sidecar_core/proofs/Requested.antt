@@ -1,5 +1,5 @@
 -- What calls of apps and services and messages came to, as what is answered to their requests.
-use Rattle.std.proofs.Common.{◌≡◌, ◌∙◌, ◌<◌, ℕ, zero, suc, Bool, true, false, cond, List, [], ◌∷◌, length, take, slice_index_or, position, bytes_eq, Option, Some, None, Result, Ok, Err, inl, refl, sym, subst, ap, arith}
+use Rattle.std.proofs.Common.{◌≡◌, ◌∙◌, ◌<◌, ℕ, zero, suc, Bool, true, false, cond, List, [], ◌∷◌, length, take, slice_index_or, position, bytes_eq, Option, Some, None, Result, sym, subst, ap, arith}
 use Rattle.std.proofs.lemmas.List.Quantifiers.{position-Some}
 use mathlib.Core.Option.{some, some-injective, some-ne-none}
 use lib.ListN.{get_elem?}
@@ -25,7 +25,7 @@ use Rattle.invoke_api.specs.Places.{Apps}
 use Rattle.bind_api.specs.Binding.{Binds}
 use Rattle.bind_api.specs.Binding as binding
 use Rattle.sidecar_core.specs.declared.config.Config.{Config}
-use Rattle.sidecar_core.specs.Called.{AtApp, AtService, Says, Tried, apps_in, asked_under}
+use Rattle.sidecar_core.specs.Called.{AtApp, AtService, Tried, apps_in, asked_under}
 use Rattle.sidecar_core.specs.Named.{IsNamed, IsNone}
 use Rattle.sidecar_turns.specs.Brokers.{is_broker, brokers_of}
 
@@ -43,11 +43,6 @@ binds_tried bound link link' clock component request events reply (binding.lacks
 binds_tried bound link link' clock component request events reply (binding.refused what asks gives) = binding.refused what asks gives
 binds_tried bound link link' clock component request events reply (binding.called address ask at asks by) = binding.called address ask at asks (record { outcome = by.outcome; came = by.came.attempts; replies = by.replies })
 
--- it is said as it came
-pub says_same : (answer : Result Response ApiErr) → Says answer answer
-says_same (Ok response) = inl refl
-says_same (Err e) = refl
-
 -- ---- as what is answered to a request
 
 module _ (config : Config) (request : Request) where
@@ -55,20 +50,16 @@ module _ (config : Config) (request : Request) where
       → Invokes (Came bound link link' clock) (apps_in config) request id rest attempts answer → AtApp config request id rest (asked_under bound attempts) answer
   app_called id rest bound link link' clock attempts answer same invokes = record {
     attempts = attempts;
-    answer = answer;
     invokes = subst (λ b. Invokes (Tried b) (apps_in config) request id rest attempts answer) same (invokes_tried bound link link' clock (apps_in config) request id rest attempts answer invokes);
     whole = ap (λ b. asked_under b attempts) same;
-    says = says_same answer;
   }
 
   pub service_called : (name : List ℕ) (component : Loaded) (bound : Bound) (link link' : LinkAt) (clock : Times) (attempts : List (Event LinkCall)) (answer : Result Response ApiErr) → bound ≡ bound_by config.policies (aim.outbound name)
       → Binds (Came bound link link' clock) component request attempts answer → AtService config request name component (asked_under bound attempts) answer
   service_called name component bound link link' clock attempts answer same binds = record {
     attempts = attempts;
-    answer = answer;
     binds = subst (λ b. Binds (Tried b) component request attempts answer) same (binds_tried bound link link' clock component request attempts answer binds);
     whole = ap (λ b. asked_under b attempts) same;
-    says = says_same answer;
   }
 
 -- ---- where cells and seats stand

@@ -1,5 +1,5 @@
 -- Calls of apps and of bound services, and messages that are published, as what is done over all objects.
-use Rattle.std.specs.Prelude.{◌≡◌, ℕ, List, map, Result, Ok, Err, unwrap_or}
+use Rattle.std.specs.Prelude.{◌≡◌, ℕ, List, map, Result, unwrap_or}
 use Rattle.side_base.specs.declared.message.LinkRequest.{LinkRequest}
 use Rattle.side_base.specs.declared.message.Request.{Request}
 use Rattle.side_base.specs.declared.message.Response.{Response}
@@ -15,11 +15,11 @@ use Rattle.policy_run.specs.Event.{Event}
 use Rattle.policy_run.specs.Attempts.{Attempts}
 use Rattle.ledger_core.specs.Message.{Step}
 use Rattle.link_call.specs.declared.miss.Miss.{Miss}
-use Rattle.link_call.specs.Came.{Gives, IsOr}
+use Rattle.link_call.specs.Came.{Gives}
 use Rattle.link_call.specs.Linked.{Tries}
 use Rattle.invoke_api.specs.Invoking.{Invokes}
 use Rattle.invoke_api.specs.Places.{Apps}
-use Rattle.bind_api.specs.Binding.{Binds, not_bound}
+use Rattle.bind_api.specs.Binding.{Binds}
 use Rattle.pubsub_api.specs.declared.publication.Publication.{Publication}
 use Rattle.pubsub_api.specs.Publishing.{Publishes, unknown_pubsub}
 use Rattle.sidecar_objects.specs.declared.doing.Doing.{Doing}
@@ -29,11 +29,6 @@ use Rattle.sidecar_objects.specs.Doing.{laid}
 use Rattle.sidecar_core.specs.declared.config.Config.{Config}
 use Rattle.sidecar_core.specs.Named.{IsNamed, IsNone, ledger_of}
 use Rattle.sidecar_core.specs.Responses.{no_binding}
-
--- what was to be answered, or that there is no room for it; a call that ended early has no response
-abbrev pub Says : Result Response ApiErr → Result Response ApiErr → Type 0
-Says (Ok response) reply = IsOr response reply
-Says (Err e) reply = reply ≡ Err e
 
 -- ---- calls
 
@@ -52,18 +47,14 @@ apps_in config = record { own = config.app; port = config.app_port; peers = conf
 -- a method of an app is called, under what is bound to it
 pub record AtApp (config : Config) (request : Request) (id rest : List ℕ) (events : List Doing) (reply : Result Response ApiErr) : Type 0 where
   pub attempts : List (Event LinkCall)
-  pub answer : Result Response ApiErr
-  pub invokes : Invokes (Tried (bound_by config.policies (aim.app id))) (apps_in config) request id rest attempts answer
+  pub invokes : Invokes (Tried (bound_by config.policies (aim.app id))) (apps_in config) request id rest attempts reply
   pub whole : events ≡ asked_under (bound_by config.policies (aim.app id)) attempts
-  pub says : Says answer reply
 
 -- a service is called by its component, under what is bound to what is sent to it
 pub record AtService (config : Config) (request : Request) (name : List ℕ) (component : Loaded) (events : List Doing) (reply : Result Response ApiErr) : Type 0 where
   pub attempts : List (Event LinkCall)
-  pub answer : Result Response ApiErr
-  pub binds : Binds (Tried (bound_by config.policies (aim.outbound name))) component request attempts answer
+  pub binds : Binds (Tried (bound_by config.policies (aim.outbound name))) component request attempts reply
   pub whole : events ≡ asked_under (bound_by config.policies (aim.outbound name)) attempts
-  pub says : Says answer reply
 
 -- a request to an output binding: the component of its name is looked for first
 pub data AtBinding (config : Config) (request : Request) (name : List ℕ) (events : List Doing) (reply : Result Response ApiErr) : Type 0 where
@@ -89,10 +80,8 @@ pub record AtLedger (config : Config) (request : Request) (component : Loaded) (
   pub what : Publication
   pub is : IsPublication config request component topic what
   pub steps : List (Event Step)
-  pub answer : Result Response ApiErr
-  pub publishes : Publishes what steps answer
+  pub publishes : Publishes what steps reply
   pub whole : events ≡ entered ledger steps
-  pub says : Says answer reply
 
 -- a request to publish: the pub/sub component of its name is looked for first, and then the message is given to its ledger
 pub data AtBroker (config : Config) (request : Request) (name topic : List ℕ) (events : List Doing) (reply : Result Response ApiErr) : Type 0 where

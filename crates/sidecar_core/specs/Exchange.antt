@@ -1,5 +1,5 @@
 -- An exchange: what is done for a request, and what is answered.
-use Rattle.std.specs.Prelude.{◌≡◌, ℕ, List, [], ◌∷◌, Result, Ok, Err, Option, Some, None, IsUtf8}
+use Rattle.std.specs.Prelude.{◌≡◌, ◌⊎◌, ℕ, List, [], ◌∷◌, Result, Ok, Err, Option, Some, None, IsUtf8}
 use Rattle.side_base.specs.declared.message.Request.{Request}
 use Rattle.side_base.specs.declared.message.Response.{Response}
 use Rattle.turn_cell.specs.declared.error.ApiErr.{ApiErr}
@@ -123,6 +123,10 @@ pub data SetsNote (name value : List ℕ) (events : List Doing) (reply : Result 
 
 -- ---- all routes
 
+-- nothing is done, and 204 is answered; this takes no memory
+abbrev pub IsDone : List Doing → Result Response ApiErr → Type 0
+IsDone events reply = (events ≡ []) × (reply ≡ Ok done)
+
 -- What a route's request is answered. Requests for actors are not served yet
 abbrev pub Answered : Config → Request → Result Route RouteErr → List Doing → Result Response ApiErr → Type 0
 Answered config request (Ok (route.Save store)) events reply = AtStore config request (route.Save store) store events reply
@@ -136,17 +140,27 @@ Answered config request (Ok (route.Binding name)) events reply = AtBinding confi
 Answered config request (Ok (route.ActorCall actor id)) events reply = Gives not_yet events reply
 Answered config request (Ok (route.ActorGet actor id key)) events reply = Gives not_yet events reply
 Answered config request (Ok (route.ActorChange actor id)) events reply = Gives not_yet events reply
-Answered config request (Ok route.Health) events reply = Gives done events reply
+Answered config request (Ok route.Health) events reply = IsDone events reply
 Answered config request (Ok route.Metadata) events reply = AtNotes ask.List (ListReplies config) events reply
 Answered config request (Ok (route.SetMetadata name)) events reply = SetsNote name request.body events reply
-Answered config request (Ok route.Shutdown) events reply = Gives done events reply
+Answered config request (Ok route.Shutdown) events reply = IsDone events reply
 Answered config request (Err NotFound) events reply = Gives no_route events reply
 Answered config request (Err (MethodNotAllowed allow)) events reply = Gives (not_allowed allow) events reply
 Answered config request (Err (BadEscape at)) events reply = Gives (bad_escape at) events reply
 Answered config request (Err NoMemory) events reply = Lacks events reply
 
 -- the method and the target say the route, and the route says what is done and answered
-pub record Exchange (config : Config) (request : Request) (events : List Doing) (reply : Result Response ApiErr) : Type 0 where
+pub record Replied (config : Config) (request : Request) (events : List Doing) (reply : Result Response ApiErr) : Type 0 where
   pub routed : Result Route RouteErr
   pub routes : Answers request.method request.target routed
   pub answered : Answered config request routed events reply
+
+-- this is what was answered; or there was a response, and no room for it
+abbrev pub IsSaid : Result Response ApiErr → Result Response ApiErr → Type 0
+IsSaid answer reply = (reply ≡ answer) ⊎ ((response : Response) × (answer ≡ Ok response) × (reply ≡ Err error.NoMemory))
+
+-- An exchange of a connection: what is done for a request and answered to it, unless the connection has no room for the response
+pub record Exchange (config : Config) (request : Request) (events : List Doing) (reply : Result Response ApiErr) : Type 0 where
+  pub answer : Result Response ApiErr
+  pub replied : Replied config request events answer
+  pub said : IsSaid answer reply

@@ -5,7 +5,7 @@ ghost use Rattle.turn_cell.specs.declared.error.ApiErr.TheVariants as error;
 ghost use Rattle.sidecar_objects.specs.Passes.{IsPassOf};
 ghost use Rattle.sidecar_core.specs.declared.config.Config.{Config as ConfigRecord};
 ghost use Rattle.sidecar_objects.specs.Pass.{DoesBy, cells_of, seats_of};
-ghost use Rattle.sidecar_core.specs.Exchange.{Answered, Exchange};
+ghost use Rattle.sidecar_core.specs.Exchange.{Answered, Replied};
 ghost use Rattle.sidecar_core.specs.Shown.{RouteShows, ShownFor};
 
 use crate::Shared;
@@ -42,7 +42,7 @@ pub fn respond<K: Keeper, L: Link, C: Clock, R: Rng, W: Wait>(
     rng: &mut R,
 ) -> Result<Response, ApiErr>
     requires pass { IsPassOf (cells_of shared.now.objects) (seats_of pass.old) }
-    ensures exchange { DoesBy ⟦<Store<K> as ObjectKinds>⟧.kinds L.Link C.Clock R.stream shared.now.objects pass.old pass.new link.old link.new clock.old clock.new rng.old rng.new (Exchange shared.now.config request.now) result }
+    ensures exchange { DoesBy ⟦<Store<K> as ObjectKinds>⟧.kinds L.Link C.Clock R.stream shared.now.objects pass.old pass.new link.old link.new clock.old clock.new rng.old rng.new (Replied shared.now.config request.now) result }
     ensures pass { IsPassOf (cells_of shared.now.objects) (seats_of pass.new) }
     ensures shows { (count : ℕ) → result ≡ Err (error.Exhausted count) → ShownFor shared.now.config (seats_of pass.new) request.now count }
     ensures status { IfOk result (λ response. IsStatusCode response.status) }

@@ -1,5 +1,5 @@
 -- How a worker goes on after a connection or a turn, and how serving ends.
-use Rattle.std.specs.Prelude.{ℕ, Bool, true, false, is_some, Option, Some, None}
+use Rattle.std.specs.Prelude.{ℕ, Bool, true, false, is_some, min, Option, Some, None}
 use Rattle.conn_serve.specs.declared.ended.Ended.{Ended}
 use Rattle.conn_serve.specs.declared.ended.Ended.TheVariants as ends
 use Rattle.delivery_turn.specs.declared.ending.Turn.{Turn}
@@ -42,6 +42,18 @@ was_delivered (turns.Delivered message place settled) = true
 was_delivered (turns.Idle next) = false
 was_delivered turns.Held = false
 was_delivered (turns.Exhausted count) = false
+
+-- the last millisecond of the year 9999
+abbrev pub last_moment : ℕ
+last_moment = 253402300799999
+
+-- when the next delivery will be due, where that is known
+abbrev pub next_due : Turn → ℕ
+next_due (turns.Delivered message place settled) = last_moment
+next_due (turns.Idle None) = last_moment
+next_due (turns.Idle (Some next)) = min next last_moment
+next_due turns.Held = last_moment
+next_due (turns.Exhausted count) = last_moment
 
 -- what was read in the cell that ended a worker, if one did
 abbrev pub spent_by : Option Exit → Option ℕ

@@ -1,4 +1,4 @@
-use Rattle.std.proofs.Common.{◌<◌, ℕ, length, refl, subst, sym, arith, ap, ◌∙◌}
+use Rattle.std.proofs.Common.{refl, subst, arith}
 use Rattle.sidecar_core.specs.Called.{AtLedger, broker, no_broker}
 use Rattle.sidecar_objects.specs.Composed.{does_nothing, does_as}
 use Rattle.sidecar_objects.specs.Shown.{ShowsAt}

@@ -6,7 +6,6 @@ use Rattle.sidecar_objects.specs.Kind.{ledgers}
 use Rattle.sidecar_core.specs.Plans.{plan_of, plans_in}
 use Rattle.sidecar_core.proofs.Beginning.{all_at}
 use Rattle.sidecar_core.proofs.Linked.{entered_at}
-use Rattle.sidecar_core.proofs.Requested.{says_same}
 use Rattle.sidecar_core.proofs.publish_request.at_ledger.Goals as goal
 
 pub index_mut-requires : goal.index_mut-requires
@@ -28,10 +27,8 @@ returns-clause-does g c = λ link. let r = c.publish.ensures.publishes in record
     what = _;
     is = record { of_request = refl; of_component = refl; of_topic = refl; of_app = refl; of_subs = refl };
     steps = r.0;
-    answer = c.publish.result;
     publishes = r.1;
     whole = refl;
-    says = says_same c.publish.result;
   };
   went = entered_at _ _ _ _ _ _ _ link c.args.ledger c.index.result.now c.index_mut.result.now _
       (at_index c.args.shared.now.objects.ledgers.items c.args.ledger c.index.result.now c.requires.ledger c.index.ensures)

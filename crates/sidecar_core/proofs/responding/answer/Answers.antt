@@ -1,4 +1,4 @@
-use Rattle.std.proofs.Common.{Ok, inl, refl, subst, arith}
+use Rattle.std.proofs.Common.{Ok, refl, subst, arith}
 use Rattle.policy_run.specs.Effects.{clocked}
 use Rattle.link_call.specs.LinkAt.{link_at}
 use Rattle.sidecar_objects.specs.Composed.{does_nothing, does_as}
@@ -36,7 +36,7 @@ pub returns-in-ActorCall-clause-status : goal.returns-in-ActorCall-clause-status
 returns-in-ActorCall-clause-status g c = fine_given _ c.given.result (omega arith, omega arith) (c.given.ensures _ c.not_yet.ensures)
 
 pub returns-in-Health-clause-does : goal.returns-in-Health-clause-does
-returns-in-Health-clause-does g c = does_nothing _ _ _ _ (done_answered c.args.shared.now.config c.args.request.now _ _ c.args.route.now c.in-Health.is (refl, inl (λ i. Ok (c.health.ensures i))))
+returns-in-Health-clause-does g c = does_nothing _ _ _ _ (done_answered c.args.shared.now.config c.args.request.now _ _ c.args.route.now c.in-Health.is (refl, λ i. Ok (c.health.ensures i)))
 
 pub returns-in-Save-clause-does : goal.returns-in-Save-clause-does
 returns-in-Save-clause-does g c = does_as _ _ _ _ _ _
