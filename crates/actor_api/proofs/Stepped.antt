@@ -1,19 +1,17 @@
 -- One step of the turns, pauses, calls of the link, and one after the other.
-use Rattle.std.proofs.Common.{◌≡◌, ◌∙◌, ℕ, List, [], ◌∷◌, ◌++◌, flat_map, refl, sym, ap, subst, arith}
+use Rattle.std.proofs.Common.{◌≡◌, ℕ, List, [], ◌∷◌, ◌++◌, refl, sym, ap, subst}
 use Rattle.std.specs.Prelude.{Option, Some, None, Result, Ok, Err, IfOk, IfErr, if◌then◌else◌, ◌==◌, Bool, true, false}
-use Rattle.std.proofs.lemmas.Grind.{flat_map-append}
 use Rattle.turn_cell.specs.declared.error.Exhausted.{Exhausted}
 use Rattle.turn_cell.specs.Sitting.{Begun, Extends, Exhausts, entry_by}
 use Rattle.turn_cell.specs.History.{IsLegal}
-use Rattle.turn_cell.specs.Growth.{Grew}
-use Rattle.turn_cell.proofs.Growing.{called, exhausted as ran_out, grew_more, grew_none}
+use Rattle.turn_cell.proofs.Growing.{called, exhausted as ran_out}
 use Rattle.actor_turns.specs.declared.turns.Turns.{Turns}
 use Rattle.actor_turns.specs.declared.command.TurnsCmd.{TurnsCmd}
 use Rattle.actor_turns.specs.declared.command.TurnsCmd.TheVariants.{Join, Look, Leave}
 use Rattle.actor_turns.specs.declared.command.TurnsReply.{TurnsReply}
 use Rattle.actor_turns.specs.declared.command.TurnsReply.TheVariants as says
 use Rattle.actor_turns.specs.Course.{Answers, IsStep, LeaveAnswers, LookAnswers, Open, Step, actor_of, ahead_of, given_in, open_in}
-use Rattle.actor_api.specs.Stepping.{Answered, Fits, StepsBy, TurnsGhosts, TurnsSeat}
+use Rattle.actor_api.specs.Stepping.{Fits, StepsBy, TurnsGhosts, TurnsSeat}
 
 -- ---- replies fit their commands
 

@@ -11,11 +11,10 @@ use Rattle.turn_cell.specs.Growth.{Grew}
 use Rattle.turn_cell.specs.Sitting.{Begun}
 use Rattle.turn_cell.proofs.Growing.{grew_none}
 use Rattle.actor_turns.specs.declared.turns.Turns.{Turns}
-use Rattle.actor_turns.specs.declared.command.TurnsCmd.{TurnsCmd}
 use Rattle.actor_turns.specs.declared.command.TurnsCmd.TheVariants.{Join, Leave}
 use Rattle.actor_turns.specs.declared.command.TurnsReply.{TurnsReply}
 use Rattle.actor_turns.specs.declared.command.TurnsReply.TheVariants as says
-use Rattle.policy_run.specs.Event.{Event, own, pause}
+use Rattle.policy_run.specs.Event.{Event, own}
 use Rattle.policy_run.specs.Effects.{Clocked}
 use Rattle.link_call.specs.LinkAt.{LinkAt}
 use Rattle.link_call.specs.Came.{IsOr, Lacks}
@@ -91,7 +90,7 @@ module _ (object : TurnsGhosts) (cell : Begun Turns) where
 
   -- the waiting, and what follows
   pub turn_taken : (at between after : At) (request : LinkRequest) (ticket : ℕ) (how : Awaited) (result : Result Response ApiErr) → Does object cell at between (Awaits ticket how) → Does object cell between after (λ events. Finishes request ticket how events result)
-      → Does object cell at after (λ events. calling.Turns request ticket events result)
+      → Does object cell at after (λ events. calling.TakesTurn request ticket events result)
   turn_taken at between after request ticket how result waits finishes =
       (waits.0 ++ finishes.0, record { how = how; waiting = waits.0; rest = finishes.0; awaits = waits.1; finishes = finishes.1; whole = refl }, went_on object cell at between after waits.0 finishes.0 waits.2 finishes.2)
 
@@ -108,7 +107,7 @@ module _ (object : TurnsGhosts) (cell : Begun Turns) where
         answered : (what : TurnsReply) → reply ≡ what → Answered (Join actor) what did.0
         answered what is = subst (λ n. Answered (Join n) what did.0) same (subst (λ r. Answered (Join name) r did.0) is did.1)
 
-        pub joined_so : (ticket : ℕ) (after : At) → reply ≡ says.Joined ticket → Does object cell (record { seat = seat'; link = link; clock = clock }) after (λ events. calling.Turns request ticket events result)
+        pub joined_so : (ticket : ℕ) (after : At) → reply ≡ says.Joined ticket → Does object cell (record { seat = seat'; link = link; clock = clock }) after (λ events. calling.TakesTurn request ticket events result)
             → Does object cell (record { seat = seat; link = link; clock = clock }) after JoinsOr
         joined_so ticket after is turns = (
           own (entered did.0) ∷ turns.0,

@@ -1,6 +1,5 @@
 -- The looks of a ticket, put together.
-use Rattle.std.proofs.Common.{◌≡◌, ◌<◌, ◌+◌, ℕ, suc, List, [], ◌∷◌, ◌++◌, Ok, Err, refl, sym, subst, arith}
-use Rattle.turn_cell.specs.declared.error.Exhausted.{Exhausted}
+use Rattle.std.proofs.Common.{◌≡◌, ◌<◌, ◌+◌, ℕ, suc, [], ◌∷◌, ◌++◌, Ok, refl, sym, subst, arith}
 use Rattle.turn_cell.specs.Growth.{Grew}
 use Rattle.turn_cell.specs.Sitting.{Begun}
 use Rattle.turn_cell.proofs.Growing.{grew_none}
@@ -8,13 +7,13 @@ use Rattle.actor_turns.specs.declared.turns.Turns.{Turns}
 use Rattle.actor_turns.specs.declared.command.TurnsCmd.TheVariants.{Look}
 use Rattle.actor_turns.specs.declared.command.TurnsReply.{TurnsReply}
 use Rattle.actor_turns.specs.declared.command.TurnsReply.TheVariants as says
-use Rattle.policy_run.specs.Event.{Event, own, pause}
+use Rattle.policy_run.specs.Event.{own, pause}
 use Rattle.policy_run.specs.Effects.{Clocked}
 use Rattle.link_call.specs.LinkAt.{LinkAt}
 use Rattle.actor_api.specs.declared.awaiting.Awaited.{Awaited}
 use Rattle.actor_api.specs.declared.awaiting.Awaited.TheVariants as awaited
 use Rattle.actor_api.specs.declared.awaiting.Looked.TheVariants as looked
-use Rattle.actor_api.specs.Stepping.{Answered, At, Does, Own, StepsBy, TurnsGhosts, TurnsSeat, entered}
+use Rattle.actor_api.specs.Stepping.{Answered, At, Does, StepsBy, TurnsGhosts, TurnsSeat, entered}
 use Rattle.actor_api.specs.Calling.{Awaits, Looks, Waited}
 use Rattle.actor_api.specs.Calling as calling
 use Rattle.actor_api.proofs.Going.{Pauses, none_went, pause_went, step_went, went_on}

@@ -4,7 +4,6 @@ use Rattle.side_base.specs.declared.method.Method.TheVariants.{Put}
 use Rattle.side_base.specs.declared.message.LinkRequest.{LinkRequest}
 use Rattle.side_base.specs.declared.message.Request.{Request}
 use Rattle.side_base.specs.declared.message.Response.{Response}
-use Rattle.side_world.specs.declared.link.LinkCall.{LinkCall}
 use Rattle.side_world.specs.declared.link.LinkErr.{LinkErr}
 use Rattle.side_world.specs.declared.link.LinkErr.TheVariants as miss
 use Rattle.turn_cell.specs.declared.error.ApiErr.{ApiErr}
@@ -86,7 +85,7 @@ pub data Finishes (request : LinkRequest) (ticket : ℕ) : Awaited → List (Eve
 -- ---- all of it
 
 -- with a ticket: the waiting, and what follows it
-pub record Turns (request : LinkRequest) (ticket : ℕ) (events : List (Event Own)) (reply : Result Response ApiErr) : Type 0 where
+pub record TakesTurn (request : LinkRequest) (ticket : ℕ) (events : List (Event Own)) (reply : Result Response ApiErr) : Type 0 where
   pub how : Awaited
   pub waiting : List (Event Own)
   pub rest : List (Event Own)
@@ -96,7 +95,7 @@ pub record Turns (request : LinkRequest) (ticket : ℕ) (events : List (Event Ow
 
 -- the line is joined
 pub data Joins (request : LinkRequest) (actor : List ℕ) (events : List (Event Own)) (reply : Result Response ApiErr) : Type 0 where
-  joined : (ticket : ℕ) (step : Step) (rest : List (Event Own)) → Answered (Join actor) (says.Joined ticket) step → Turns request ticket rest reply → events ≡ own (entered step) ∷ rest → Joins request actor events reply
+  joined : (ticket : ℕ) (step : Step) (rest : List (Event Own)) → Answered (Join actor) (says.Joined ticket) step → TakesTurn request ticket rest reply → events ≡ own (entered step) ∷ rest → Joins request actor events reply
   full : (waiting : ℕ) (step : Step) → Answered (Join actor) (says.Full waiting) step → events ≡ own (entered step) ∷ [] → IsOr (not_invoked (codes "full at " ++ decimal waiting)) reply → Joins request actor events reply
   lacks : (step : Step) → Answered (Join actor) says.NoMemory step → events ≡ own (entered step) ∷ [] → reply ≡ Err error.NoMemory → Joins request actor events reply
   exhausted : (count : ℕ) → events ≡ [] → reply ≡ Err (error.Exhausted count) → Joins request actor events reply

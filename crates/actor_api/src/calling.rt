@@ -4,7 +4,7 @@ ghost use Rattle.turn_cell.specs.declared.error.ApiErr.TheVariants as error;
 ghost use Rattle.policy_run.specs.Effects.{clocked};
 ghost use Rattle.link_call.specs.Came.{Lacks};
 ghost use Rattle.link_call.specs.LinkAt.{link_at};
-ghost use Rattle.actor_api.specs.Calling.{Invokes, Joins, Turns as TakesTurn};
+ghost use Rattle.actor_api.specs.Calling.{Invokes, Joins, TakesTurn};
 ghost use Rattle.actor_api.specs.Stepping.{Does};
 
 use crate::awaiting::await_turn;

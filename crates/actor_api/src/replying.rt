@@ -11,10 +11,7 @@ use std::alloc::Global;
 use turn_cell::ApiErr;
 
 /// The response to what the link answered: a reply is passed on, whatever its status is.
-pub(crate) fn replied(
-    alloc: Global,
-    answer: Result<Response, LinkErr>,
-) -> Result<Response, ApiErr>
+pub(crate) fn replied(alloc: Global, answer: Result<Response, LinkErr>) -> Result<Response, ApiErr>
     ensures { Replies answer result }
 {
     match answer {
@@ -42,11 +39,7 @@ pub(crate) fn not_invoked(alloc: Global, message: &str) -> Result<Response, NoMe
 }
 
 /// One whose message is a text and a number.
-pub(crate) fn not_invoked_by(
-    alloc: Global,
-    text: &str,
-    number: u64,
-) -> Result<Response, NoMemory>
+pub(crate) fn not_invoked_by(alloc: Global, text: &str, number: u64) -> Result<Response, NoMemory>
     ensures { IfOk result (λ response. response ≡ not_invoked (text.now ++ decimal number)) }
 {
     let mut message = Text::from_str(alloc, text)?;

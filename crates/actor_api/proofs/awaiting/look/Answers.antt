@@ -1,6 +1,6 @@
 use Rattle.policy_run.specs.Effects.{clocked}
 use Rattle.actor_turns.specs.contracts.turns.TurnsObject.TheImpl.{ghosts}
-use Rattle.actor_api.proofs.Waiting.{behind, lost, unseen, yours}
+use Rattle.actor_api.proofs.Waiting.{behind, lost, yours}
 use Rattle.actor_api.proofs.awaiting.look.Goals as goal
 
 pub returns-in-Ok-Behind-clause-looks : goal.returns-in-Ok-Behind-clause-looks
