@@ -1,0 +1,4 @@
+mod Stepped
+mod Going
+mod Waiting
+mod Taken
