@@ -11,7 +11,7 @@ read_words() {
         [ "$name" = "$1" ] || { value=${1#*=} has=1; }
         shift
         case $name in
-            --app-id | --resources-path | --dapr-http-port | --workers)
+            --app-id | --resources-path | --dapr-http-port | --app-port | --workers | --peers | --drill)
                 if [ -z "$has" ]; then
                     if [ "$#" -eq 0 ] || [ "${1#-}" != "$1" ]; then
                         fault="$name needs a value"
@@ -41,9 +41,16 @@ read_words() {
                 port=$value
                 is_number "$value" 65535 || fault="--dapr-http-port $value: a number from 1 to 65535"
                 ;;
+            --app-port) is_number "$value" 65535 || fault="--app-port $value: a number from 1 to 65535" ;;
+            --peers) are_peers "$value" || fault="--peers $value: ID=HOST:PORT with commas between, at most 256, each id once and not the own one" ;;
+            --drill)
+                [ "$mode" = serve ] || fault="--stdio, --check and --drill exclude one another"
+                [[ $value =~ ^[0-9]{1,20},0*[0-9]{1,5}$ ]] || fault="--drill $value: two numbers with a comma between, the first below 2^64, the second at most 99999"
+                mode=drill
+                ;;
             --workers) is_number "$value" 64 || fault="--workers $value: a number from 1 to 64" ;;
             --stdio | --check)
-                [ "$mode" = serve ] || [ "--$mode" = "$name" ] || fault="--stdio and --check exclude one another"
+                [ "$mode" = serve ] || [ "--$mode" = "$name" ] || fault="--stdio, --check and --drill exclude one another"
                 mode=${name#--}
                 ;;
         esac
@@ -56,6 +63,17 @@ read_words() {
 
 is_number() {
     [[ $1 =~ ^[1-9][0-9]{0,4}$ ]] && [ "$1" -le "$2" ]
+}
+
+# Whether a list of peers has the form of one.
+are_peers() {
+    local item items
+    [[ $1 != *, ]] || return 1
+    IFS=, read -r -a items <<<"$1"
+    [ "${#items[@]}" -ge 1 ] && [ "${#items[@]}" -le 256 ] || return 1
+    for item in "${items[@]}"; do
+        [[ $item =~ ^[A-Za-z0-9_-]{1,64}=[A-Za-z0-9.-]{1,253}:([0-9]+)$ ]] && is_number "${BASH_REMATCH[1]}" 65535 || return 1
+    done
 }
 
 # Ends as the program would, before anything is built for words that it refuses.
@@ -91,6 +109,7 @@ explain_resources() {
     local where=${1%%: *} what=${1#*: } number=
     local kind=${what%% *} rest=${what#* }
     case $rest in 'line '*) number=${rest#line } ;; esac
+    [ "$where" != subscribe ] || say "what the app answered to GET /dapr/subscribe is refused"
     case $kind in
         Tab) say "a tab stands in the white space that begins the line, where YAML wants spaces" ;;
         LeftOut) say "YAML that is not read here: an anchor, alias, tag, directive or folded block, {a: b} with content, a plain text that goes on in the next line, or 33 levels" ;;
@@ -124,6 +143,7 @@ explain_outside() {
         disk) say "a journal could not be read or written to its end" ;;
         files) explain_files ;;
         outside) explain_start ;;
+        link) say "the app gave no answer to GET /dapr/subscribe at its port: start the app first; any status will do, 200 with a list or 404 without" ;;
     esac
 }
 

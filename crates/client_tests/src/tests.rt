@@ -100,6 +100,10 @@ fn replies_are_read(rt: HostRuntime) -> Result<(), Fail> {
             "+200: x",
         ),
         (
+            "HTTP/1.1 103 Early Hints\r\nConnection: x, close\r\n\r\nHTTP/1.1 100 Continue\r\n\r\nHTTP/1.1 200 OK\r\nContent-Length: 1\r\n\r\nx",
+            "200: x",
+        ),
+        (
             "HTTP/1.1 204 No Content\r\nContent-Length: 2\r\n\r\nhi",
             "204: ",
         ),
@@ -204,10 +208,22 @@ fn trailers_have_at_most_16_kib(rt: HostRuntime) -> Result<(), Fail> {
     Ok(())
 }
 
-/// Two fields, of which the link says the second itself.
-fn two_fields(alloc: Global) -> Result<Fields, NoMemory> {
+/// Fields of which only the first is not the link's to say.
+fn some_fields(alloc: Global) -> Result<Fields, NoMemory> {
     let mut fields = Sequence::new(alloc);
-    for (name, value) in [("Accept", "*/*"), ("host", "another")] {
+    let all = [
+        ("Accept", "*/*"),
+        ("host", "another"),
+        ("Connection", "close"),
+        ("keep-alive", "max=1"),
+        ("Proxy-Connection", "close"),
+        ("TE", "trailers"),
+        ("Trailer", "A"),
+        ("Transfer-Encoding", "chunked"),
+        ("UPGRADE", "h2c"),
+        ("Content-Length", "1"),
+    ];
+    for (name, value) in all {
         fields.push(Field {
             name: Text::from_static(alloc, name),
             value: Blob::from_bytes(alloc, value.as_bytes())?,
@@ -228,7 +244,7 @@ fn request_to(
         port,
         method,
         target: Blob::from_bytes(alloc, target.as_bytes())?,
-        fields: two_fields(alloc)?,
+        fields: some_fields(alloc)?,
         body: Blob::new(alloc),
     })
 }

@@ -1,7 +1,7 @@
 -- What a reply to a request is (RFC 9112, sections 4, 6, 6.3 and 9.3; RFC 9110, sections 7.6.1, 15.2 and 15.4.5). Heads are those of the
 -- grammar of heads, and content in chunks is what `http_chunks` says.
 use Rattle.std.specs.Prelude.{◌≡◌, ◌≢◌, ℕ, ◌<◌, ◌≤◌, List, [], ◌∷◌, ◌++◌, length, Bool, ◌||◌, ◌&&◌, not, ◌==◌, if◌then◌else◌, codes, map, All, Option, Some, None, true, false}
-use Rattle.std.specs.List.{flat_map, filter}
+use Rattle.std.specs.List.{flat_map, filter, list_any}
 use Rattle.std.specs.Str.Parse.{AllDigits, digits_value}
 use Rattle.httparse.specs.Grammar as grammar
 use Rattle.httparse.specs.Grammar.{ResponseHead, IsResponseHead, print_response, status_code}
@@ -107,11 +107,18 @@ is_to_end (framing.Length n) = false
 is_to_end framing.Chunks = false
 is_to_end framing.ToEnd = true
 
--- the connection may be used again: the reply is of HTTP/1.1, its `Connection` doesn't list `close`, its content ends before the input does,
--- and nothing came behind it
-unfoldable pub may_persist : ℕ → List ℕ → Framing → List ℕ → Bool
-may_persist minor names kind came =
-    minor == 1 && (not (has_item names (codes "close")) && (not (is_to_end kind) && length came == 0))
+-- a `Connection` among these fields lists `close`
+abbrev pub says_close : List Field → Bool
+says_close fields = has_item (listed fields) (codes "close")
+
+-- an interim head says so of the connection
+abbrev pub is_closing : List ResponseHead → Bool
+is_closing interims = list_any (λ (head : ResponseHead). says_close (fields_of head)) interims
+
+-- the connection may be used again: the reply is of HTTP/1.1, none of its heads has a `Connection` that lists `close`, its content ends before the
+-- input does, and nothing came behind it
+unfoldable pub may_persist : ℕ → Bool → Framing → List ℕ → Bool
+may_persist minor closes kind came = minor == 1 && (not closes && (not (is_to_end kind) && length came == 0))
 
 -- a head with a status from 100 to 199, behind which the reply follows; not of one that changes the protocol
 pub record IsInterim (head : ResponseHead) : Type 0 where
@@ -135,7 +142,7 @@ pub record IsReplyText (to_head : Bool) (text came : List ℕ) (behind : Option 
   pub status : reply.response.status ≡ status_code head
   pub fields : reply.response.fields ≡ kept (fields_of head)
   pub all : kind ≡ framing.ToEnd → IsDrained behind
-  pub again : reply.persists ≡ may_persist head.minor (listed (fields_of head)) kind came
+  pub again : reply.persists ≡ may_persist head.minor (is_closing interims || says_close (fields_of head)) kind came
 
 -- what follows a text of which some came: those bytes, and what is left
 abbrev pub ahead : List ℕ → Option (List ℕ) → Option (List ℕ)

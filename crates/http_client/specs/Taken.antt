@@ -10,7 +10,7 @@ use Rattle.http_chunks.specs.Chunked.{LINE_LIMIT, BODY_LIMIT, ReadsChunks}
 use Rattle.http_chunks.specs.ContentSteps.{IsInChunks}
 use Rattle.http_chunks.specs.LinePlaces.{IsLooked}
 use Rattle.http_chunks.specs.declared.content.Body.{Body}
-use Rattle.http_client.specs.Replies.{ahead, fields_of, IsInterim, IsReplyText}
+use Rattle.http_client.specs.Replies.{ahead, fields_of, is_closing, IsInterim, IsReplyText}
 use Rattle.http_client.specs.declared.head.Head.{Head}
 use Rattle.http_client.specs.declared.reply.Reply.{Reply}
 
@@ -18,12 +18,13 @@ use Rattle.http_client.specs.declared.reply.Reply.{Reply}
 abbrev pub header_field : List ℕ → HeaderSpan → Field
 header_field text header = record { name = span_bytes text header.name; value = span_bytes text header.value }
 
--- the parts of a head that are kept
-abbrev pub head_of : ResponseHead → Head
-head_of h = record {
+-- the parts of a head that are kept; `closing`: an interim head before it says that the connection closes
+abbrev pub head_of : Bool → ResponseHead → Head
+head_of closing h = record {
   status = status_code h;
   minor = h.minor;
   fields = fields_of h;
+  closing = closing;
 }
 
 -- a status from 100 to 199 but 101, as a test
@@ -31,11 +32,11 @@ abbrev pub is_interim : ℕ → Bool
 is_interim status = nat_le 100 status && (nat_lt status 200 && not (status == 101))
 
 -- the text is this head
-pub record IsHead (text : List ℕ) (head : Head) : Type 0 where
+pub record IsHead (closing : Bool) (text : List ℕ) (head : Head) : Type 0 where
   pub h : ResponseHead
   pub valid : IsResponseHead h
   pub whole : text ≡ print_response h
-  pub is : head ≡ head_of h
+  pub is : head ≡ head_of closing h
 
 -- the text is interim heads and then this head
 pub record IsFinal (text : List ℕ) (head : Head) : Type 0 where
@@ -44,7 +45,7 @@ pub record IsFinal (text : List ℕ) (head : Head) : Type 0 where
   pub each : All IsInterim interims
   pub valid : IsResponseHead h
   pub whole : text ≡ flat_map print_response interims ++ print_response h
-  pub is : head ≡ head_of h
+  pub is : head ≡ head_of (is_closing interims) h
 
 -- what was taken and what is pending is content in chunks that was read up to there, and the body is what came of it
 pub record AreRead (first : Option (List ℕ)) (pending : List ℕ) (left : Option (List ℕ)) (body : Body) : Type 0 where

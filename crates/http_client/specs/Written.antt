@@ -8,6 +8,7 @@ use Rattle.side_base.specs.declared.method.Method.{Method}
 use Rattle.side_base.specs.declared.method.Method.TheVariants.{Get, Head, Post, Put, Patch, Delete, Options, Other}
 use Rattle.side_base.specs.Field.{is_same_word}
 use Rattle.side_world.specs.Told.{Told, SentSome}
+use Rattle.http_client.specs.Replies.{is_of_connection, is_of_framing}
 use Rattle.http_client.specs.declared.written.Prepared.{Prepared}
 
 -- a line end: CR LF
@@ -44,10 +45,9 @@ request_line token target = token ++ codes " " ++ target ++ codes " HTTP/1.1" ++
 abbrev pub host_line : List ℕ → ℕ → List ℕ
 host_line host port = codes "Host: " ++ host ++ codes ":" ++ decimal port ++ line_end
 
--- the link itself says who is asked, how long the content is, and what becomes of the connection
+-- the link itself says who is asked, what becomes of the connection, and how the content is framed (RFC 9110, section 7.6.1)
 unfoldable pub is_said : List ℕ → Bool
-is_said name = is_same_word name (codes "host") || (is_same_word name (codes "content-length")
-    || (is_same_word name (codes "transfer-encoding") || is_same_word name (codes "connection")))
+is_said name = is_same_word name (codes "host") || (is_of_connection name || is_of_framing name)
 
 -- field-line = field-name ":" SP field-value CRLF, of each field that the link does not say itself
 abbrev pub own_line : Field → List ℕ

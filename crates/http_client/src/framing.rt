@@ -1,6 +1,6 @@
 //! What the fields of a reply say of its content, and which of them are the reply's own.
 ghost use Rattle.std.specs.Prelude.{◌≡◌, ◌≤◌, codes, count_by, length, IfOk, IfSome};
-ghost use Rattle.side_base.specs.Field.{is_named};
+ghost use Rattle.side_base.specs.Field.{is_named, has_item};
 ghost use Rattle.http_client.specs.Replies.{listed, is_of_connection, is_of_framing, is_of_hop, own_fields, may_persist, is_to_end, IsLength, IsFraming, IsFramedByLength, IsFramedByCoding};
 
 use side_base::{
@@ -131,7 +131,7 @@ fn is_of_hop(names: &[u8], name: &[u8]) -> bool
 
 /// Whether the field says what becomes of the connection.
 #[tactic(auto, unfolding(crate::specs::Replies::is_of_connection))]
-fn is_of_connection(name: &[u8]) -> bool
+pub(crate) fn is_of_connection(name: &[u8]) -> bool
     ensures { result ≡ is_of_connection name.now }
 {
     is_same_word(name, CONNECTION)
@@ -142,7 +142,7 @@ fn is_of_connection(name: &[u8]) -> bool
 
 /// Whether the field says how the content is framed.
 #[tactic(auto, unfolding(crate::specs::Replies::is_of_framing))]
-fn is_of_framing(name: &[u8]) -> bool
+pub(crate) fn is_of_framing(name: &[u8]) -> bool
     ensures { result ≡ is_of_framing name.now }
 {
     is_same_word(name, b"te")
@@ -165,13 +165,20 @@ pub(crate) fn own_fields(alloc: Global, names: &[u8], fields: Fields) -> Result<
     Ok(own)
 }
 
-/// Whether the connection may be used again behind a reply of this version, where `Connection` lists those of `names` and so many bytes came
-/// behind it (RFC 9112, section 9.3).
-#[tactic(auto, unfolding(crate::specs::Replies::may_persist))]
-pub(crate) fn may_persist(minor: u8, names: &[u8], framing: Framing, came: &[u8]) -> bool
-    ensures { result ≡ may_persist minor names.now framing came.now }
+/// Whether the connection closes where `Connection` lists those of `names`.
+pub(crate) fn lists_close(names: &[u8]) -> bool
+    ensures { result ≡ has_item names.now (codes "close") }
 {
-    minor == 1 && !has_item(names, b"close") && !is_to_end(framing) && came.is_empty()
+    has_item(names, b"close")
+}
+
+/// Whether the connection may be used again behind a reply of this version, where a head says that it closes or not, and these bytes came
+/// behind it (RFC 9112, sections 9.3 and 9.6).
+#[tactic(auto, unfolding(crate::specs::Replies::may_persist))]
+pub(crate) fn may_persist(minor: u8, closes: bool, framing: Framing, came: &[u8]) -> bool
+    ensures { result ≡ may_persist minor closes framing came.now }
+{
+    minor == 1 && !closes && !is_to_end(framing) && came.is_empty()
 }
 
 /// Whether content that is framed so ends with the input.

@@ -1,12 +1,13 @@
 //! The head of a reply.
-ghost use Rattle.std.specs.Prelude.{◌≡◌, ◌≢◌, ◌<◌, ◌≤◌, ℕ, List, length, map, All, IfOk, IfErr, OnOk};
+ghost use Rattle.std.specs.Prelude.{◌≡◌, ◌≢◌, ◌<◌, ◌≤◌, ◌||◌, ℕ, List, length, map, All, IfOk, IfErr, OnOk};
 ghost use Rattle.side_world.specs.Faults.{Rose};
 ghost use Rattle.side_world.specs.Told.{Took};
 ghost use Rattle.httparse.specs.Spans.{IsHeaderWithin, IsResponseWithin, IsResponseOf};
 ghost use Rattle.http_client.specs.declared.incoming.ReplyErr.TheVariants.{SourceFailed};
-ghost use Rattle.http_client.specs.Replies.{ahead};
+ghost use Rattle.http_client.specs.Replies.{ahead, says_close};
 ghost use Rattle.http_client.specs.Taken.{header_field, is_interim, IsHead, IsFinal};
 
+use crate::framing::{listed, lists_close};
 use crate::incoming::{HEAD_LIMIT, Incoming, ReplyErr};
 use httparse::Status;
 use httparse::spans::{EMPTY_HEADER_SPAN, HeaderSpan, ResponseSpans, parse_response};
@@ -29,6 +30,8 @@ pub(crate) struct Head {
     pub(crate) status: u16,
     pub(crate) minor: u8,
     pub(crate) fields: Fields,
+    /// An interim head before it says that the connection closes.
+    pub(crate) closing: bool,
 }
 
 impl<S: Source> Incoming<S> {
@@ -41,12 +44,14 @@ impl<S: Source> Incoming<S> {
         ensures failed { IfErr result (λ why. why ≡ SourceFailed → Rose (S.faults self.old.source) (S.faults self.new.source)) }
     {
         let mut headers = [EMPTY_HEADER_SPAN; FIELD_LIMIT];
+        let mut closing = false;
         for _ in 0..HEADS_LIMIT {
             let spans = self.fill_head(&mut headers)?;
-            if !is_interim(spans.code) {
-                return self.take_head(alloc, &spans, &headers);
+            let head = self.take_head(alloc, &spans, &headers, closing)?;
+            if !is_interim(head.status) {
+                return known(head);
             }
-            self.skip(spans.len);
+            closing = closes_behind(alloc, &head)?;
         }
         Err(ReplyErr::Bad)
     }
@@ -87,31 +92,52 @@ impl<S: Source> Incoming<S> {
         }
     }
 
-    /// Takes the head that is there, where its status is from 200 to 599.
+    /// Takes the head that is there. `closing`: an interim head before it says that the connection closes.
     fn take_head(
         &mut self,
         alloc: Global,
         spans: &ResponseSpans,
         headers: &[HeaderSpan],
+        closing: bool,
     ) -> Result<Head, ReplyErr>
         requires within { IsResponseWithin self.old.pending headers.now spans.now }
         requires head { IsResponseOf self.old.pending headers.now spans.now }
-        ensures took { IfOk result (λ head. (text : List ℕ) × Took (ahead self.old.pending (S.left self.old.source)) (ahead self.new.pending (S.left self.new.source)) text × IsHead text head) }
-        ensures from { IfOk result (λ head. 200 ≤ head.status) }
-        ensures known { IfOk result (λ head. head.status ≤ 599) }
+        ensures took { IfOk result (λ head. (text : List ℕ) × Took (ahead self.old.pending (S.left self.old.source)) (ahead self.new.pending (S.left self.new.source)) text × IsHead closing text head) }
         ensures no_fault { OnOk result (S.faults self.new.source ≡ S.faults self.old.source) }
         ensures failed { IfErr result (λ why. why ≡ SourceFailed → Rose (S.faults self.old.source) (S.faults self.new.source)) }
     {
-        if spans.code < 200 || spans.code > 599 {
-            return Err(ReplyErr::Bad);
-        }
         let fields = fields_of(alloc, self.pending.bytes(), &headers[..spans.headers])?;
         self.skip(spans.len);
         Ok(Head {
             status: spans.code,
             minor: spans.version,
             fields,
+            closing,
         })
+    }
+}
+
+/// The head of a reply, where its status is from 200 to 599.
+fn known(head: Head) -> Result<Head, ReplyErr>
+    ensures same { IfOk result (λ it. it ≡ head) }
+    ensures from { IfOk result (λ it. 200 ≤ it.status) }
+    ensures known { IfOk result (λ it. it.status ≤ 599) }
+    ensures unread { IfErr result (λ why. why ≢ SourceFailed) }
+{
+    if head.status < 200 || head.status > 599 {
+        return Err(ReplyErr::Bad);
+    }
+    Ok(head)
+}
+
+/// Whether an interim head, or one before it, says that the connection closes.
+fn closes_behind(alloc: Global, head: &Head) -> Result<bool, ReplyErr>
+    ensures is { IfOk result (λ closes. closes ≡ (head.now.closing || says_close head.now.fields)) }
+    ensures unread { IfErr result (λ why. why ≢ SourceFailed) }
+{
+    match listed(alloc, &head.fields) {
+        Ok(names) => Ok(head.closing || lists_close(names.bytes())),
+        Err(_) => Err(ReplyErr::NoMemory),
     }
 }
 

@@ -1,14 +1,14 @@
 //! A reply, out of the bytes that come.
-ghost use Rattle.std.specs.Prelude.{◌≡◌, ◌≤◌, ◌<◌, ℕ, List, length, take, IfOk, IfErr, OnOk};
+ghost use Rattle.std.specs.Prelude.{◌≡◌, ◌≤◌, ◌<◌, ◌||◌, ℕ, List, length, take, IfOk, IfErr, OnOk};
 ghost use Rattle.side_world.specs.Faults.{Rose};
 ghost use Rattle.side_world.specs.Told.{Took, IsDrained};
 ghost use Rattle.side_world.specs.Link.{IsReply};
 ghost use Rattle.http_client.specs.declared.incoming.ReplyErr.TheVariants.{SourceFailed};
 ghost use Rattle.http_chunks.specs.Chunked.{BODY_LIMIT};
-ghost use Rattle.http_client.specs.Replies.{ahead, kept, listed, may_persist, IsReplyOf, IsContent};
+ghost use Rattle.http_client.specs.Replies.{ahead, kept, says_close, may_persist, IsReplyOf, IsContent};
 ghost use Rattle.http_client.specs.Taken.{IsReplyTaken};
 
-use crate::framing::{Framing, framing_of, listed, may_persist, own_fields};
+use crate::framing::{Framing, framing_of, listed, lists_close, may_persist, own_fields};
 use crate::head::Head;
 use crate::incoming::{Incoming, Pending, ReplyErr};
 use http_chunks::BODY_LIMIT;
@@ -21,8 +21,8 @@ use std::alloc::Global;
 pub struct Reply {
     /// Its status is from 200 to 599. Of its fields, those that speak of the connection alone are left out.
     pub response: Response,
-    /// Whether the connection may be used again: not behind HTTP/1.0, `Connection: close`, content to the end of the input, or where bytes
-    /// came behind the reply.
+    /// Whether the connection may be used again: not behind HTTP/1.0, `Connection: close` of any of its heads, content to the end of the input,
+    /// or where bytes came behind the reply.
     pub persists: bool,
 }
 
@@ -150,10 +150,11 @@ fn reply_of(
     ensures status { IfOk result (λ reply. reply.response.status ≡ head.status) }
     ensures fields { IfOk result (λ reply. reply.response.fields ≡ kept head.fields) }
     ensures body { IfOk result (λ reply. reply.response.body ≡ body) }
-    ensures again { IfOk result (λ reply. reply.persists ≡ may_persist head.minor (listed head.fields) framing came.now) }
+    ensures again { IfOk result (λ reply. reply.persists ≡ may_persist head.minor (head.closing || says_close head.fields) framing came.now) }
 {
     let names = listed(alloc, &head.fields)?;
-    let persists = may_persist(head.minor, names.bytes(), framing, came);
+    let closes = head.closing || lists_close(names.bytes());
+    let persists = may_persist(head.minor, closes, framing, came);
     let fields = own_fields(alloc, names.bytes(), head.fields)?;
     Ok(Reply {
         response: Response {

@@ -5,6 +5,7 @@ ghost use Rattle.httparse.specs.Grammar.{is_uri_byte};
 ghost use Rattle.side_world.specs.Faults.{Rose};
 ghost use Rattle.http_client.specs.Written.{token_of, takes_content, request_line, host_line, is_said, own_line, length_line, head, is_visible, is_field, is_sendable, prepared_with, prepared, Sends, SendsSome};
 
+use crate::framing::{is_of_connection, is_of_framing};
 use httparse::{is_header_value, is_token, is_uri_token};
 use itoa::Buffer;
 use side_base::{Blob, Field, Fields, LinkRequest, Method, NoMemory, is_same_word};
@@ -185,7 +186,7 @@ fn push_fields(out: &mut Blob, fields: &Fields) -> Result<(), NoMemory>
     Ok(())
 }
 
-/// Appends a field, unless the link says it itself.
+/// Appends a field, unless it is the link's to say.
 fn push_own_line(out: &mut Blob, field: &Field) -> Result<(), NoMemory>
     ensures { OnOk result (out.new ≡ out.old ++ own_line field.now) }
 {
@@ -198,15 +199,12 @@ fn push_own_line(out: &mut Blob, field: &Field) -> Result<(), NoMemory>
     out.push(LINE_END)
 }
 
-/// Whether the link itself says the field of this name.
+/// Whether it is the link's to say the field of this name: who is asked, or what concerns the connection alone.
 #[tactic(auto, unfolding(crate::specs::Written::is_said))]
 fn is_said(name: &[u8]) -> bool
     ensures { result ≡ is_said name.now }
 {
-    is_same_word(name, b"host")
-        || is_same_word(name, b"content-length")
-        || is_same_word(name, b"transfer-encoding")
-        || is_same_word(name, b"connection")
+    is_same_word(name, b"host") || is_of_connection(name) || is_of_framing(name)
 }
 
 fn push_length_line(out: &mut Blob, request: &LinkRequest) -> Result<(), NoMemory>

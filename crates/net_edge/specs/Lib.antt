@@ -1,4 +1,5 @@
 pub mod AtHand
+pub mod Calls
 pub mod CallTimes
 pub mod Patience
 pub mod Room

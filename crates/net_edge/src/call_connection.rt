@@ -1,12 +1,12 @@
-//! Connections to other programs, and those that are kept.
-ghost use Rattle.std.specs.Prelude.{◌≡◌, ◌≤◌, ◌<◌, ◌-◌, ◌↔◌, All, Some, true, IfOk, IfSome, length, slice_index_or};
+//! Connections to other programs.
+ghost use Rattle.std.specs.Prelude.{◌≡◌, ◌↔◌, Some, true, IfOk};
 ghost use Rattle.side_world.specs.Link.{IsReply};
 ghost use Rattle.http_client.specs.Written.{prepared};
-ghost use Rattle.net_edge.specs.declared.call_connection.CallConnection.{CallConnection};
+ghost use Rattle.net_edge.specs.Calls.{IsReady};
 
 use crate::call_stream::{CallSink, CallSource, cause_of};
-use crate::call_time::Caller;
-use crate::waiting::is_quiet;
+use crate::call_time::{CallTime, Caller, share_end};
+use crate::waiting::{is_quiet, now_ms};
 use http_client::{AskErr, Prepared, Reply, ask};
 use side_base::{Blob, LinkRequest, Text};
 use side_world::LinkErr;
@@ -17,67 +17,75 @@ use std::os::fd::AsRawFd;
 use std::sync::Arc;
 use std::time::Duration;
 
-/// How many connections are kept.
-const MOST_KEPT: usize = 8;
-
-/// For how many milliseconds one is kept on which there is no call.
-const KEPT_MS: u64 = 1_000;
-
 /// How often one address is tried at most within a call.
 const TRIES: u32 = u32::MAX;
 
 /// A connection to another program.
 #[derive(Drop)]
 pub(crate) struct CallConnection {
-    host: Blob,
-    port: u16,
-    /// The moment at which its last call ended, in milliseconds.
-    since: u64,
+    pub(crate) host: Blob,
+    pub(crate) port: u16,
+    /// The moment at which its last call ended, or at which it was opened, in milliseconds.
+    pub(crate) since: u64,
     pub(crate) source: CallSource,
     pub(crate) sink: CallSink,
 }
 
 impl CallConnection {
-    /// A new one to the target of this request, for a call that is over at this moment.
+    /// A new one to the target of this request, for a call that begins now and is over at that moment.
     pub(crate) fn open<R: Net<Listener = TcpListener, Stream = TcpStream> + AllocGlobal>(
         rt: &R,
         caller: &Caller,
         request: &LinkRequest,
-        end: u64,
-    ) -> Result<Self, LinkErr> {
+        time: CallTime,
+    ) -> Result<Self, LinkErr>
+        ensures { IfOk result (IsReady request.now time.begin time.end) }
+    {
         let Ok(host) = Blob::from_bytes(rt.alloc(), request.host.bytes()) else {
             return Err(LinkErr::NoMemory);
         };
-        let stream = connect(rt, caller, request.host.as_str(), request.port, end)?;
-        match CallConnection::of_stream(rt.alloc(), caller, host, request.port, stream, end) {
+        let stream = connect(rt, caller, request.host.as_str(), request.port, time.end)?;
+        match CallConnection::of_stream(rt.alloc(), caller, (host, request.port), stream, time) {
             Ok(connection) => Ok(connection),
             Err(error) => Err(cause_of(&error)),
         }
     }
 
-    /// The one of this stream.
+    /// The one of this stream to this host and port.
     fn of_stream(
         alloc: Global,
         caller: &Caller,
-        host: Blob,
-        port: u16,
+        target: (Blob, u16),
         stream: TcpStream,
-        end: u64,
-    ) -> io::Result<Self> {
+        time: CallTime,
+    ) -> io::Result<Self>
+        ensures host { IfOk result (λ it. it.host ≡ target.0) }
+        ensures port { IfOk result (λ it. it.port ≡ target.1) }
+        ensures new { IfOk result (λ it. it.since ≡ time.begin) }
+        ensures reads { IfOk result (λ it. it.source.end ≡ time.end) }
+        ensures writes { IfOk result (λ it. it.sink.end ≡ time.end) }
+    {
         stream.set_nodelay(true)?;
         let stream = Arc::new(alloc, stream)?;
         let other = Arc::try_clone(&stream)?;
+        let (host, port) = target;
         Ok(CallConnection {
             host,
             port,
-            since: 0,
-            source: CallSource::new(caller.share()?, stream, end),
-            sink: CallSink::new(caller.share()?, other, end),
+            since: time.begin,
+            source: CallSource::new(caller.share()?, stream, time.end),
+            sink: CallSink::new(caller.share()?, other, time.end),
         })
     }
 
     /// A call begins on it that is over at this moment.
-    pub(crate) fn begin(&mut self, end: u64) {
+    pub(crate) fn begin(&mut self, end: u64)
+        ensures source { self.new.source ≡ record self.old.source { end = end } }
+        ensures sink { self.new.sink ≡ record self.old.sink { end = end } }
+        ensures host { self.new.host ≡ self.old.host }
+        ensures port { self.new.port ≡ self.old.port }
+        ensures since { self.new.since ≡ self.old.since }
+    {
         self.source.begin(end);
         self.sink.begin(end);
     }
@@ -90,7 +98,9 @@ impl CallConnection {
         request: &LinkRequest,
     ) -> (Result<Reply, AskErr>, Self)
         requires { prepared request.now ≡ Some ready.now }
-        ensures { IfOk result.0 (λ it. IsReply it.response) }
+        ensures reply { IfOk result.0 (λ it. IsReply it.response) }
+        ensures host { result.1.host ≡ self.host }
+        ensures port { result.1.port ≡ self.port }
     {
         let CallConnection {
             host,
@@ -111,7 +121,7 @@ impl CallConnection {
     }
 
     /// Whether it goes to this target.
-    fn is_to(&self, host: &Text, port: u16) -> bool
+    pub(crate) fn is_to(&self, host: &Text, port: u16) -> bool
         ensures { result ≡ true ↔ ((self.now.host ≡ host.now) × (self.now.port ≡ port)) }
     {
         self.port == port && self.host.bytes() == host.bytes()
@@ -123,68 +133,8 @@ impl CallConnection {
     }
 }
 
-/// Connections that may be used again, at most one to each target, the one that was used last at the end.
-#[derive(Drop)]
-pub(crate) struct KeptConnections {
-    kept: Vec<CallConnection>,
-    ghost few: { length kept.items ≤ 8 },
-}
-
-impl KeptConnections {
-    /// None yet.
-    pub(crate) fn new(alloc: Global) -> Self {
-        KeptConnections {
-            kept: Vec::new(alloc),
-        }
-    }
-
-    /// Takes the one to this target, if there is one that has idled for less than a second by now.
-    pub(crate) fn take(&mut self, host: &Text, port: u16, now: u64) -> Option<CallConnection>
-        ensures host { IfSome result (λ it. it.host ≡ host.now) }
-        ensures port { IfSome result (λ it. it.port ≡ port) }
-        ensures young { IfSome result (λ it. now - it.since < 1000) }
-    {
-        self.let_go(now);
-        match self.place_of(host, port) {
-            Some(at) => Some(self.kept.remove(at)),
-            None => None,
-        }
-    }
-
-    /// The place of the one to this target.
-    fn place_of(&self, host: &Text, port: u16) -> Option<usize>
-        ensures within { IfSome result (λ at. at < length self.now.kept.items) }
-        ensures host { IfSome result (λ at. (it : CallConnection) → (slice_index_or self.now.kept.items at it).host ≡ host.now) }
-        ensures port { IfSome result (λ at. (it : CallConnection) → (slice_index_or self.now.kept.items at it).port ≡ port) }
-    {
-        for at in 0..self.kept.len() {
-            if self.kept[at].is_to(host, port) {
-                return Some(at);
-            }
-        }
-        None
-    }
-
-    /// Lets those go that have idled for a second.
-    fn let_go(&mut self, now: u64)
-        ensures { All (λ it. now - it.since < 1000) self.new.kept.items }
-    {
-        self.kept
-            .retain(|it| now.saturating_sub(it.since) < KEPT_MS);
-    }
-
-    /// Keeps one whose call ends now. Where there are eight, the one that has idled longest is let go; where there is no memory, the new one.
-    pub(crate) fn put(&mut self, connection: CallConnection, now: u64) {
-        let mut connection = connection;
-        connection.since = now;
-        if self.kept.len() >= MOST_KEPT {
-            drop(self.kept.remove(0));
-        }
-        drop(self.kept.push(connection));
-    }
-}
-
-/// Connects to the addresses of the host in turn, until one can be connected to.
+/// Connects to the addresses of the host in turn, until one can be connected to. Each has its part of the time that is left, and the last all of
+/// it.
 fn connect<R: Net<Listener = TcpListener, Stream = TcpStream>>(
     rt: &R,
     caller: &Caller,
@@ -197,11 +147,13 @@ fn connect<R: Net<Listener = TcpListener, Stream = TcpStream>>(
         Ok(addresses) => addresses,
         Err(error) => return Err(cause_of(&error)),
     };
+    let mut left = addresses.len();
     for address in addresses {
-        match connect_to(rt, caller, address, end) {
+        match connect_to(rt, caller, address, share_end(now_ms(), end, left)) {
             Ok(stream) => return Ok(stream),
             Err(cause) => last = cause,
         }
+        left = left.saturating_sub(1);
     }
     Err(last)
 }

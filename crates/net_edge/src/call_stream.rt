@@ -1,8 +1,10 @@
 //! The two directions of a connection to another program, and the time that a call has for them.
-ghost use Rattle.std.specs.Prelude.{◌≡◌, ◌≤◌, None, false, length, IfOk};
+ghost use Rattle.std.specs.Prelude.{◌≡◌, ◌≢◌, ◌≤◌, None, false, length, IfOk};
+ghost use Rattle.side_world.specs.declared.link.LinkErr.TheVariants.{Expired};
 ghost use Rattle.side_world.specs.Faults.{Rose};
 
 use crate::call_time::Caller;
+use crate::connection::is_not_yet;
 use host_devices::FaultCount;
 use side_world::{Failed, LinkErr, Sink, Source};
 use std::io::{self, ErrorKind, Read, Write};
@@ -21,7 +23,7 @@ pub(crate) struct CallSource {
     caller: Caller,
     stream: Arc<TcpStream>,
     /// The moment at which the call is over.
-    end: u64,
+    pub(crate) end: u64,
     /// For how many milliseconds a read of the socket waits; 0 where that wasn't said.
     waits_ms: u64,
     ended: bool,
@@ -32,7 +34,9 @@ pub(crate) struct CallSource {
 
 impl CallSource {
     /// Of a new connection.
-    pub(crate) fn new(caller: Caller, stream: Arc<TcpStream>, end: u64) -> Self {
+    pub(crate) fn new(caller: Caller, stream: Arc<TcpStream>, end: u64) -> Self
+        ensures { result.end ≡ end }
+    {
         CallSource {
             caller,
             stream,
@@ -45,7 +49,9 @@ impl CallSource {
     }
 
     /// A call begins that is over at this moment.
-    pub(crate) fn begin(&mut self, end: u64) {
+    pub(crate) fn begin(&mut self, end: u64)
+        ensures { self.new ≡ record self.old { end = end } }
+    {
         self.end = end;
     }
 
@@ -125,7 +131,7 @@ pub(crate) struct CallSink {
     caller: Caller,
     stream: Arc<TcpStream>,
     /// The moment at which the call is over.
-    end: u64,
+    pub(crate) end: u64,
     /// For how many milliseconds a write to the socket waits; 0 where that wasn't said.
     waits_ms: u64,
     /// Why the last write that failed did.
@@ -135,7 +141,9 @@ pub(crate) struct CallSink {
 
 impl CallSink {
     /// Of a new connection.
-    pub(crate) fn new(caller: Caller, stream: Arc<TcpStream>, end: u64) -> Self {
+    pub(crate) fn new(caller: Caller, stream: Arc<TcpStream>, end: u64) -> Self
+        ensures { result.end ≡ end }
+    {
         CallSink {
             caller,
             stream,
@@ -147,7 +155,9 @@ impl CallSink {
     }
 
     /// A call begins that is over at this moment.
-    pub(crate) fn begin(&mut self, end: u64) {
+    pub(crate) fn begin(&mut self, end: u64)
+        ensures { self.new ≡ record self.old { end = end } }
+    {
         self.end = end;
     }
 
@@ -220,17 +230,11 @@ fn write_once(stream: &TcpStream, piece: &[u8]) -> io::Result<usize>
     stream.write(piece)
 }
 
-fn is_not_yet(error: &io::Error) -> bool {
-    matches!(
-        error.kind(),
-        ErrorKind::WouldBlock | ErrorKind::TimedOut | ErrorKind::Interrupted
-    )
-}
-
-/// What an error of the host means for a call.
-pub(crate) fn cause_of(error: &io::Error) -> LinkErr {
+/// What an error of the host means for a call. None is an expiry, which only the end of the call's time is.
+pub(crate) fn cause_of(error: &io::Error) -> LinkErr
+    ensures { result ≢ Expired }
+{
     match error.kind() {
-        ErrorKind::TimedOut | ErrorKind::WouldBlock => LinkErr::Expired,
         ErrorKind::OutOfMemory => LinkErr::NoMemory,
         _ => LinkErr::Failed,
     }

@@ -1,5 +1,5 @@
 ghost use Rattle.std.specs.Prelude.{◌≡◌};
-ghost use Rattle.net_edge.specs.CallTimes.{call_end, end_behind};
+ghost use Rattle.net_edge.specs.CallTimes.{call_end, end_behind, share_end};
 
 use crate::door::{Door, LOOK_MS};
 use crate::waiting::now_ms;
@@ -80,8 +80,28 @@ impl Caller {
     }
 }
 
+/// When a call begins and by when it is over, in milliseconds.
+#[derive(Clone, Copy, Debug)]
+pub(crate) struct CallTime {
+    pub(crate) begin: u64,
+    pub(crate) end: u64,
+}
+
+impl CallTime {
+    /// That of a call that begins now, within this limit, or within the usual one where it is 0.
+    pub(crate) fn of(now: u64, limit_ms: u64) -> Self
+        ensures begin { result.begin ≡ now }
+        ensures end { result.end ≡ call_end now limit_ms }
+    {
+        CallTime {
+            begin: now,
+            end: call_end(now, limit_ms),
+        }
+    }
+}
+
 /// The moment at which a call is over that begins now.
-pub(crate) fn call_end(now: u64, limit_ms: u64) -> u64
+fn call_end(now: u64, limit_ms: u64) -> u64
     ensures { result ≡ call_end now limit_ms }
 {
     let limit = if limit_ms == 0 {
@@ -90,6 +110,13 @@ pub(crate) fn call_end(now: u64, limit_ms: u64) -> u64
         limit_ms
     };
     now.saturating_add(limit)
+}
+
+/// The moment up to which one of so many addresses that are left is tried, where the call is over at that moment.
+pub(crate) fn share_end(now: u64, end: u64, left: usize) -> u64
+    ensures { result ≡ share_end now end left }
+{
+    now + end.saturating_sub(now) / (left as u64).max(1)
 }
 
 /// The moment at which all calls are over where all workers leave now.

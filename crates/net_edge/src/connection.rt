@@ -1,4 +1,5 @@
-ghost use Rattle.std.specs.Prelude.{◌≡◌, ◌≤◌, length, IfOk, IfSome};
+ghost use Rattle.std.specs.Prelude.{◌≡◌, ◌≤◌, ◌↔◌, ◌⊎◌, true, length, IfOk, IfSome};
+ghost use Rattle.std.specs.IoError.{error_kind};
 
 use crate::door::Door;
 use crate::pace::Pace;
@@ -134,6 +135,9 @@ pub(crate) fn part_with(stream: &TcpStream) -> bool {
     true
 }
 
-fn is_not_yet(error: &io::Error) -> bool {
+/// Whether nothing was there, or a signal came before: no other error of a connection is tried again.
+pub(crate) fn is_not_yet(error: &io::Error) -> bool
+    ensures { result ≡ true ↔ ((error_kind error.now ≡ ErrorKind.WouldBlock) ⊎ (error_kind error.now ≡ ErrorKind.Interrupted)) }
+{
     matches!(error.kind(), ErrorKind::WouldBlock | ErrorKind::Interrupted)
 }

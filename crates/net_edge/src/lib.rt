@@ -12,6 +12,7 @@ mod door_limits;
 mod entrance;
 mod holders;
 mod host_outside;
+mod kept_connections;
 mod other_work;
 mod pace;
 mod parting;

@@ -1,10 +1,12 @@
-ghost use Rattle.std.specs.Prelude.{◌≡◌, None, Some, IfOk};
+ghost use Rattle.std.specs.Prelude.{◌≡◌, None, Some, All, IfOk};
 ghost use Rattle.side_world.specs.Link.{IsReply};
 ghost use Rattle.http_client.specs.Written.{prepared};
 ghost use Rattle.net_edge.specs.CallTimes.{KeepsWhere};
+ghost use Rattle.net_edge.specs.Calls.{IsTo, IsReady, IsElsewhere, IsOutcome, Answers, AreAmong, KeepsOwn};
 
-use crate::call_connection::{CallConnection, KeptConnections};
-use crate::call_time::{Caller, call_end};
+use crate::call_connection::CallConnection;
+use crate::call_time::{CallTime, Caller};
+use crate::kept_connections::KeptConnections;
 use crate::waiting::now_ms;
 use host_devices::FaultCount;
 use http_client::{AskErr, Prepared, Reply, ReplyErr, ask, prepare};
@@ -15,11 +17,12 @@ use std::net::{Net, TcpListener, TcpStream};
 
 /// A link that calls other programs by HTTP/1.1 over TCP. It tells no calls.
 ///
-/// A connection is kept for the next call to its host and port, eight at most, each until it has idled for a second: not behind a reply of
-/// HTTP/1.0, one that says `Connection: close` or goes on to the end of the input, one behind which bytes came, or behind a call that failed
-/// or expired. Before it is used again it is looked at, and let go where it has ended, or bytes came that nobody asked for. Nothing is sent
-/// twice: a call whose connection ends within it has failed, whatever was sent. Where a host has many addresses, the next is tried only
-/// where no connection was made.
+/// A connection is kept for the next call to its host and port, one to each and eight at most: not behind a reply of HTTP/1.0, one that says
+/// `Connection: close` or goes on to the end of the input, one behind which bytes came, or behind a call that failed or expired. One that has
+/// idled for a second isn't used: it is closed when the link's next call begins, wherever that goes, and not by a clock. Before it is used again
+/// it is looked at, and let go where it has ended, or bytes came that nobody asked for. Nothing is sent twice: a call whose connection ends
+/// within it has failed, whatever was sent. Where a host has many addresses, the next is tried only where no connection was made; each has its
+/// part of the time that is left, so that a silent one doesn't take all of it.
 ///
 /// The limit holds for the whole call: finding the host's addresses, connecting, writing and reading. A call without one has
 /// 60,000 ms. Once all workers leave their door, all their calls have 5,000 ms more at most. The system's resolver has a limit of its own,
@@ -98,15 +101,16 @@ fn attempt<R: Net<Listener = TcpListener, Stream = TcpStream> + AllocGlobal>(
     request: &LinkRequest,
     limit_ms: u64,
 ) -> Result<Response, LinkErr>
-    ensures { IfOk result IsReply }
+    ensures reply { IfOk result IsReply }
+    ensures keeps { KeepsOwn request.now result kept.old.kept.items kept.new.kept.items }
 {
     let ready = match prepare(rt.alloc(), request) {
         Ok(Some(ready)) => ready,
         Ok(None) => return Err(LinkErr::Failed),
         Err(_) => return Err(LinkErr::NoMemory),
     };
-    let end = call_end(now_ms(), limit_ms);
-    let connection = connection_to(rt, caller, kept, request, end)?;
+    let time = CallTime::of(now_ms(), limit_ms);
+    let connection = connection_to(rt, caller, kept, request, time)?;
     let (answer, left) = ask_over(rt.alloc(), connection, &ready, request);
     if let Some(connection) = left {
         kept.put(connection, now_ms());
@@ -114,22 +118,26 @@ fn attempt<R: Net<Listener = TcpListener, Stream = TcpStream> + AllocGlobal>(
     answer
 }
 
-/// A connection to the target of a request, for a call that is over at this moment: the one that is kept, where it is quiet, or a new one.
+/// A connection to the target of a request, for a call of this time: the one that is kept, where it is quiet, or a new one.
 fn connection_to<R: Net<Listener = TcpListener, Stream = TcpStream> + AllocGlobal>(
     rt: &R,
     caller: &Caller,
     kept: &mut KeptConnections,
     request: &LinkRequest,
-    end: u64,
-) -> Result<CallConnection, LinkErr> {
-    if let Some(connection) = kept.take(&request.host, request.port, now_ms()) {
+    time: CallTime,
+) -> Result<CallConnection, LinkErr>
+    ensures ready { IfOk result (IsReady request.now time.begin time.end) }
+    ensures others { All (IsElsewhere request.now.host request.now.port) kept.new.kept.items }
+    ensures among { AreAmong kept.old.kept.items kept.new.kept.items }
+{
+    if let Some(connection) = kept.take(&request.host, request.port, time.begin) {
         if connection.is_quiet() {
             let mut connection = connection;
-            connection.begin(end);
+            connection.begin(time.end);
             return Ok(connection);
         }
     }
-    CallConnection::open(rt, caller, request, end)
+    CallConnection::open(rt, caller, request, time)
 }
 
 /// Asks over a connection, which comes back where it may be used again.
@@ -139,8 +147,10 @@ fn ask_over(
     ready: &Prepared,
     request: &LinkRequest,
 ) -> (Result<Response, LinkErr>, Option<CallConnection>)
-    requires { prepared request.now ≡ Some ready.now }
-    ensures { IfOk result.0 IsReply }
+    requires ready { prepared request.now ≡ Some ready.now }
+    requires target { IsTo request.now connection }
+    ensures reply { IfOk result.0 IsReply }
+    ensures outcome { IsOutcome request.now result.0 result.1 }
 {
     let (reply, connection) = connection.ask(alloc, ready, request);
     answer_of(reply, connection)
@@ -153,6 +163,7 @@ fn answer_of(
 ) -> (Result<Response, LinkErr>, Option<CallConnection>)
     requires { IfOk reply (λ it. IsReply it.response) }
     ensures reply { IfOk result.0 IsReply }
+    ensures answers { Answers reply result.0 }
     ensures kept { KeepsWhere reply connection result.1 }
 {
     match reply {
@@ -173,7 +184,11 @@ fn answer_of(
 }
 
 /// Why a call has no answer that was sent; `cause`: why the last read of its connection failed.
-fn cause_of_reply(why: ReplyErr, cause: LinkErr) -> LinkErr {
+fn cause_of_reply(why: ReplyErr, cause: LinkErr) -> LinkErr
+    ensures bad { why ≡ ReplyErr.Bad → result ≡ LinkErr.Failed }
+    ensures read { why ≡ ReplyErr.SourceFailed → result ≡ cause }
+    ensures lacks { why ≡ ReplyErr.NoMemory → result ≡ LinkErr.NoMemory }
+{
     match why {
         ReplyErr::Bad => LinkErr::Failed,
         ReplyErr::SourceFailed => cause,

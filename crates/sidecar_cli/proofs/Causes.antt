@@ -1,5 +1,5 @@
 -- Each status has its cause.
-use Rattle.std.specs.Prelude.{◌≡◌, ◌⊎◌, ℕ, ◌+◌, zero, suc, List, [], ◌∷◌, ◌++◌, length, map, Option, Some, None, IsSome, unwrap_or, Result, Ok, Err, refl}
+use Rattle.std.specs.Prelude.{◌≡◌, ◌⊎◌, ℕ, Bool, true, false, is_some, ◌+◌, zero, suc, List, [], ◌∷◌, ◌++◌, length, map, Option, Some, None, IsSome, unwrap_or, Result, Ok, Err, refl}
 use Rattle.std.proofs.Common.{◌∙◌, sym, subst, ap, inl, inr, ⊎_elim, arith, true≢false}
 use Rattle.std.proofs.lemmas.List.{length-append, length-map}
 use Rattle.std.specs.Option.{option_or}
@@ -21,6 +21,8 @@ use Rattle.turn_cell.proofs.Lists.{in_range, one_place, there}
 use Rattle.state_core.specs.declared.store.Store.{Store}
 use Rattle.side_base.specs.declared.message.Request.{Request}
 use Rattle.side_base.specs.declared.message.Response.{Response}
+use Rattle.side_world.specs.declared.link.LinkErr.{LinkErr}
+use Rattle.side_world.specs.declared.link.LinkErr.TheVariants as miss
 use Rattle.turn_cell.specs.declared.error.ApiErr.{ApiErr}
 use Rattle.http_frames.specs.declared.refusal.FrameErr.{FrameErr}
 use Rattle.http_frames.specs.Requests.{IsRefused as IsRefusedAs}
@@ -30,6 +32,7 @@ use Rattle.conn_serve.specs.Session.{Session}
 use Rattle.conn_serve.specs.declared.ended.Ended.{Ended}
 use Rattle.conn_serve.specs.declared.ended.Ended.TheVariants as ends
 use Rattle.resource_spec.specs.Component.{Loaded}
+use Rattle.topic_spec.specs.declared.sub.Sub.{Sub}
 use Rattle.resource_files.specs.declared.resources.Resources.{Resources}
 use Rattle.resource_files.specs.declared.resources.ResourcesErr.{ResourcesErr}
 use Rattle.resource_files.specs.declared.resources.ResourcesErr.TheVariants as fault
@@ -48,27 +51,33 @@ use Rattle.turn_pass.specs.Pass.{count_shown}
 use Rattle.sidecar_objects.specs.Pass.{cells_of, seats_of}
 use Rattle.sidecar_core.specs.Shown.{some_seat}
 use Rattle.sidecar_core.specs.Started.{IsStarted}
+use Rattle.sidecar_turns.specs.declared.draining.Drained.{Drained}
+use Rattle.sidecar_turns.specs.declared.draining.Drained.TheVariants as drained
 use Rattle.sidecar_words.specs.declared.given.Words.{Words}
 use Rattle.sidecar_words.specs.declared.given.Mode.{Mode}
 use Rattle.sidecar_words.specs.declared.given.Mode.TheVariants as mode
 use Rattle.sidecar_words.specs.Meaning.{Means}
 use Rattle.sidecar_words.proofs.OneMeaning.{one_meaning}
-use Rattle.sidecar_cli.specs.Causes.{AllIsWell, AllIsWellOfCheck, AreRequests, EndsAsItShould, HasFault, HasSession, IsFileRefused, IsFull, IsFullAt, IsSpent, IsUntouched, IsWhy, IsWhyOfCheck, done, closed, asked}
+use Rattle.sidecar_cli.specs.Causes.{AllIsWell, AllIsWellOfCheck, AreRequests, EndsAsItShould, EndsWell, HasFault, HasSession, IsFileRefusedBy, IsFull, IsFullAt, IsListRefused, IsSpent, IsUntouched, IsWhy, IsWhyOfCheck, done, closed, asked}
 use Rattle.sidecar_cli.specs.Check.{IsCheck}
 use Rattle.sidecar_cli.specs.Check as check
-use Rattle.sidecar_cli.specs.Configured.{IsConfigured, Says}
+use Rattle.sidecar_cli.specs.Configured.{IsConfigured, IsConfiguredFor, Says}
 use Rattle.sidecar_cli.specs.Counting.{AreCountedOf, IsCountedOf, none, more, spent_told}
-use Rattle.sidecar_cli.specs.Play.{IsBegun, IsDown, IsKept, IsPlay}
+use Rattle.sidecar_cli.specs.Play.{AreUnkept, IsBegun, IsConfiguredBy, IsDownBeside, IsDownOver, IsKept, IsPlay}
 use Rattle.sidecar_cli.specs.Play as play
 use Rattle.sidecar_cli.specs.Run.{IsCommand, IsRun}
 use Rattle.sidecar_cli.specs.Run as run
-use Rattle.sidecar_cli.specs.Status.{status_after}
-use Rattle.sidecar_cli.specs.World.{FilesAt, WorldAt}
+use Rattle.sidecar_cli.specs.Status.{held_over, status_after}
+use Rattle.sidecar_cli.specs.Subscribed.{AsksForList, Hears, IsListRefusedBy, IsSubscribed}
+use Rattle.sidecar_cli.specs.Subscribed as subscribed
+use Rattle.sidecar_cli.specs.World.{FilesAt, OutsideAt, WorldAt}
 use Rattle.sidecar_cli.specs.declared.status.Input.TheVariants.{Cut, Refused}
 use Rattle.sidecar_cli.specs.declared.status.Device.{Device}
-use Rattle.sidecar_cli.specs.declared.status.Device.TheVariants.{Source, Sink, Files, Disk, Acceptor, Outside}
+use Rattle.sidecar_cli.specs.declared.status.Device.TheVariants.{Source, Sink, Files, Disk, Acceptor, Outside, Link}
 use Rattle.sidecar_cli.specs.declared.status.Status.{Status}
 use Rattle.sidecar_cli.specs.declared.status.Status.TheVariants as status
+use Rattle.sidecar_cli.proofs.Drained.{lone_drained_on, sound_drained_on}
+use Rattle.sidecar_cli.proofs.Fitting.{lone_served, sound_served}
 
 -- ---- a pass that has just begun
 
@@ -218,115 +227,219 @@ module _ (single : OneStream) {E : Type 0} (exchange : Request → List E → Re
       let few = are.few in
       omega (arith, wide, long, hundred, few))
 
+-- ---- the list of the app
+
+abbrev is_ok : Status → Bool
+is_ok status.Ok = true
+is_ok (status.BadInput input) = false
+is_ok status.Usage = false
+is_ok (status.BadResources text) = false
+is_ok (status.OutsideFailed device) = false
+is_ok status.NoMemory = false
+is_ok status.Limit = false
+is_ok (status.Spent count) = false
+
+abbrev status_in : Status → Result (List Sub) Status → Status
+status_in other (Ok subs) = other
+status_in other (Err e) = e
+
+same_end : (one other : Status) → ◌≡◌ {A = Result (List Sub) Status} (Err one) (Err other) → one ≡ other
+same_end one other same = ap (status_in one) same
+
+abbrev is_had : Result (List Sub) Status → Bool
+is_had (Ok subs) = true
+is_had (Err e) = false
+
+module _ (P : Status → Type 0) (app_port : Option ℕ) (declared : List Sub) (link link' : LinkAt) (end : Status)
+    (refused : (port : ℕ) (text : List ℕ) (response : Response) → app_port ≡ Some port → AsksForList port (Ok response) link link' → IsListRefusedBy declared response text → P (status.BadResources text))
+    (rose : Rose link.faults link'.faults ⊎ Rose link.expiries link'.expiries → P (status.OutsideFailed Link)) (lacks : P status.NoMemory) where
+  unheard_by : (port : ℕ) (answer : Result Response LinkErr) → app_port ≡ Some port → AsksForList port answer link link' → Hears declared answer (Err end) → P end
+  unheard_by port (Ok response) beside ask (inl told) = subst P (sym told.2) (refused port told.0 response beside ask told.1)
+  unheard_by port (Ok response) beside ask (inr is) = subst P (sym is) lacks
+  unheard_by port (Err miss.Failed) beside ask is = subst P (sym (same_end end (status.OutsideFailed Link) is)) (rose (inl (subst (λ n. Rose link.faults n) (sym ask.faults.3) ask.faults.1)))
+  unheard_by port (Err miss.Expired) beside ask is = subst P (sym (same_end end (status.OutsideFailed Link) is)) (rose (inr (subst (λ n. Rose link.expiries n) (sym ask.expiries.3) ask.expiries.1)))
+  unheard_by port (Err miss.NoMemory) beside ask is = subst P (sym (same_end end status.NoMemory is)) lacks
+
+  -- subscriptions that were not had end the run by the list, by the link, or for want of memory
+  pub unlisted_by : IsSubscribed app_port declared link link' (Err end) → P end
+  unlisted_by (subscribed.alone no_port same is) = absurd (true≢false (sym (ap is_had is)))
+  unlisted_by (subscribed.asked port answer beside ask heard) = unheard_by port answer beside ask heard
+  unlisted_by (subscribed.lacks same is) = subst P (sym (same_end end status.NoMemory is)) lacks
+
 -- ---- a session
 
 module _ {D : Type 0} {disking : Keeps D} {keeping : Ghosts (AnyKeeper D disking)} (kinds : Kinds (Store (AnyKeeper D disking) keeping)) where
   module _ (given : Words) (world world' : WorldAt) where
-    -- what a session and the counts behind it met of exhausted cells
-    spent_then : {ended : Ended} {spent : Option ℕ} (count : ℕ) → spent ≡ Some count → HasSession kinds world world' ended spent → IsSpent kinds world world' count
-    spent_then {ended} {spent} count e s =
-        let went = s.served.served.acted in
-        let before : Standing (Store (AnyKeeper D disking) keeping) = record { seats = seats_of s.pass; clock = s.started.clock; link = s.started.link; words = s.words } in
-        let behind : Standing (Store (AnyKeeper D disking) keeping) = record { seats = seats_of s.after; clock = s.over.clock; link = s.over.link; words = s.served.rest } in
-        let lone = lone_stays kinds (cells_of s.objects) before _ behind went s.lone in
-        let sound = sound_stays kinds (cells_of s.objects) before _ behind went s.sound in
-        let met = met_of kinds (cells_of s.objects) s.over.clock s.over.link s.served.rest count _ (seats_of s.after) _ s.counted (seats_of s.last) s.told.counted lone sound (sym s.spent_is ∙ e) in
-        record { ended = ended; spent = spent; session = s; seats = met.seats; lone = met.lone; sound = met.sound; full = full_of kinds (cells_of s.objects) met.seats count met.lone met.sound met.shows }
+    -- the pass behind a session, and behind the deliveries, is alone and sound
+    module _ {ended : Ended} {how : Drained} {spent : Option ℕ} (s : HasSession kinds world world' ended how spent) where
+      lone_after : IsLone (cells_of s.objects) (seats_of s.after)
+      lone_after = lone_served s.served s.lone
 
-    spent_in : {spent : Option ℕ} (count : ℕ) → HasSession kinds world world' (ends.Spent count) spent → IsSpent kinds world world' count
-    spent_in {spent} count s =
+      sound_after : IsSoundPass kinds (cells_of s.objects) (seats_of s.after)
+      sound_after = sound_served s.served s.sound
+
+      lone_idle : IsLone (cells_of s.objects) (seats_of s.idle)
+      lone_idle = lone_drained_on s.drained lone_after
+
+      sound_idle : IsSoundPass kinds (cells_of s.objects) (seats_of s.idle)
+      sound_idle = sound_drained_on s.drained sound_after
+
+    -- what a session, deliveries and the counts behind them met of exhausted cells
+    spent_then : {ended : Ended} {how : Drained} {spent : Option ℕ} (count : ℕ) → spent ≡ Some count → HasSession kinds world world' ended how spent → IsSpent kinds world world' count
+    spent_then {ended} {how} {spent} count e s =
+        let met = met_of kinds (cells_of s.objects) s.later.clock s.later.link s.drained.rest count _ (seats_of s.idle) _ s.counted (seats_of s.last) s.told.counted (lone_idle s) (sound_idle s) (sym s.spent_is ∙ e) in
+        record { ended = ended; how = how; spent = spent; session = s; seats = met.seats; lone = met.lone; sound = met.sound; full = full_of kinds (cells_of s.objects) met.seats count met.lone met.sound met.shows }
+
+    spent_in : {how : Drained} {spent : Option ℕ} (count : ℕ) → HasSession kinds world world' (ends.Spent count) how spent → IsSpent kinds world world' count
+    spent_in {how} {spent} count s =
         let end = s.served.served.session.ends in
-        let went = s.served.served.acted in
-        let before : Standing (Store (AnyKeeper D disking) keeping) = record { seats = seats_of s.pass; clock = s.started.clock; link = s.started.link; words = s.words } in
-        let behind : Standing (Store (AnyKeeper D disking) keeping) = record { seats = seats_of s.after; clock = s.over.clock; link = s.over.link; words = s.served.rest } in
-        let lone = lone_stays kinds (cells_of s.objects) before _ behind went s.lone in
-        let sound = sound_stays kinds (cells_of s.objects) before _ behind went s.sound in
-        record { ended = ends.Spent count; spent = spent; session = s; seats = seats_of s.after; lone = lone; sound = sound; full = full_of kinds (cells_of s.objects) (seats_of s.after) count lone sound (some_seat s.config (seats_of s.after) count (request_in end.next.whole) (s.served.served.shown end.next count end.this end.why)) }
+        record {
+          ended = ends.Spent count;
+          how = how;
+          spent = spent;
+          session = s;
+          seats = seats_of s.after;
+          lone = lone_after s;
+          sound = sound_after s;
+          full = full_of kinds (cells_of s.objects) (seats_of s.after) count (lone_after s) (sound_after s) (some_seat s.config (seats_of s.after) count (request_in end.next.whole) (s.served.served.shown end.next count end.this end.why));
+        }
 
-    source_rose : {started over : WorldAt} → IsUntouched world started → IsUntouched over world' → Rose started.source.faults over.source.faults → Rose world.source.faults world'.source.faults
-    source_rose {started} {over} before behind rose = subst (λ n. Rose n world'.source.faults) (ap (λ s. s.faults) before.source) (subst (λ n. Rose started.source.faults n) (sym (ap (λ s. s.faults) behind.source)) rose)
+    -- what a session did with the source and the sink is what the run did with them
+    module _ {ended : Ended} {how : Drained} {spent : Option ℕ} (s : HasSession kinds world world' ended how spent) where
+      source_rose : Rose s.started.source.faults s.over.source.faults → Rose world.source.faults world'.source.faults
+      source_rose rose = subst (λ n. Rose n world'.source.faults) (ap (λ x. x.faults) s.before.source) (subst (λ n. Rose s.started.source.faults n) (sym (ap (λ x. x.faults) s.behind.source ∙ ap (λ w. w.source.faults) s.drained.only)) rose)
 
-    sink_rose : {started over : WorldAt} → IsUntouched world started → IsUntouched over world' → Rose started.sink.faults over.sink.faults → Rose world.sink.faults world'.sink.faults
-    sink_rose {started} {over} before behind rose = subst (λ n. Rose n world'.sink.faults) (ap (λ s. s.faults) before.sink) (subst (λ n. Rose started.sink.faults n) (sym (ap (λ s. s.faults) behind.sink)) rose)
+      sink_rose : Rose s.started.sink.faults s.over.sink.faults → Rose world.sink.faults world'.sink.faults
+      sink_rose rose = subst (λ n. Rose n world'.sink.faults) (ap (λ x. x.faults) s.before.sink) (subst (λ n. Rose s.started.sink.faults n) (sym (ap (λ x. x.faults) s.behind.sink ∙ ap (λ w. w.sink.faults) s.drained.only)) rose)
 
-    -- the status behind a session has its cause
-    why_served : (ended : Ended) (spent : Option ℕ) → HasSession kinds world world' ended spent → IsWhy kinds given world world' (status_after ended spent)
-    why_served ends.Done None s = done s
-    why_served ends.Closed None s = closed s
-    why_served ends.Asked None s = asked s
-    why_served ends.ClosedByPeer None s = s
-    why_served (ends.Refused why) None s = s
-    why_served ends.Limit None s = s
-    why_served ends.SourceFailed None s = source_rose s.before s.behind s.served.served.cause.0
-    why_served ends.SinkFailed None s = sink_rose s.before s.behind s.served.served.cause.0
-    why_served ends.NoMemory None s = tt
-    why_served (ends.Spent count) spent s = spent_in count s
-    why_served ends.Done (Some count) s = spent_then count refl s
-    why_served ends.Closed (Some count) s = spent_then count refl s
-    why_served ends.Asked (Some count) s = spent_then count refl s
-    why_served ends.ClosedByPeer (Some count) s = spent_then count refl s
-    why_served (ends.Refused why) (Some count) s = spent_then count refl s
-    why_served ends.Limit (Some count) s = spent_then count refl s
-    why_served ends.SourceFailed (Some count) s = spent_then count refl s
-    why_served ends.SinkFailed (Some count) s = spent_then count refl s
-    why_served ends.NoMemory (Some count) s = spent_then count refl s
+    -- deliveries that ended without want of memory
+    abbrev not_held : Drained → Type 0
+    not_held drained.Held = ⊥
+    not_held drained.Done = Unit {0}
+    not_held (drained.Spent count) = Unit {0}
+    not_held drained.UsedUp = Unit {0}
+
+    is_fine : (how : Drained) → not_held how → how ≡ drained.Held → ⊥
+    is_fine how fine is = subst not_held is fine
+
+    -- the status behind a session that would have ended well, and behind its deliveries, has its cause
+    why_well : (how : Drained) → ((how ≡ drained.Held → ⊥) → EndsWell kinds world world') → IsWhy kinds given world world' (held_over how status.Ok)
+    why_well drained.Held fine = tt
+    why_well drained.Done fine = fine (is_fine drained.Done tt)
+    why_well (drained.Spent count) fine = fine (is_fine (drained.Spent count) tt)
+    why_well drained.UsedUp fine = fine (is_fine drained.UsedUp tt)
+
+    -- another status is as it was
+    held_not : (how : Drained) (end : Status) → is_ok end ≡ false → held_over how end ≡ end
+    held_not drained.Held status.Ok other = absurd (true≢false other)
+    held_not drained.Held (status.BadInput input) other = refl
+    held_not drained.Held status.Usage other = refl
+    held_not drained.Held (status.BadResources text) other = refl
+    held_not drained.Held (status.OutsideFailed device) other = refl
+    held_not drained.Held status.NoMemory other = refl
+    held_not drained.Held status.Limit other = refl
+    held_not drained.Held (status.Spent count) other = refl
+    held_not drained.Done end other = refl
+    held_not (drained.Spent count) end other = refl
+    held_not drained.UsedUp end other = refl
+
+    why_other : (how : Drained) (end : Status) → is_ok end ≡ false → IsWhy kinds given world world' end → IsWhy kinds given world world' (held_over how end)
+    why_other how end other why = subst (IsWhy kinds given world world') (sym (held_not how end other)) why
+
+    -- the status behind a session and its deliveries has its cause
+    why_served : (ended : Ended) (how : Drained) (spent : Option ℕ) → HasSession kinds world world' ended how spent → IsWhy kinds given world world' (held_over how (status_after ended spent))
+    why_served ends.Done how None s = why_well how (λ fine. done (how, fine, s))
+    why_served ends.Closed how None s = why_well how (λ fine. closed (how, fine, s))
+    why_served ends.Asked how None s = why_well how (λ fine. asked (how, fine, s))
+    why_served ends.ClosedByPeer how None s = why_other how (status.BadInput Cut) refl (how, s)
+    why_served (ends.Refused why) how None s = why_other how (status.BadInput (Refused why)) refl (how, s)
+    why_served ends.Limit how None s = why_other how status.Limit refl (how, s)
+    why_served ends.SourceFailed how None s = why_other how (status.OutsideFailed Source) refl (source_rose s s.served.served.cause.0)
+    why_served ends.SinkFailed how None s = why_other how (status.OutsideFailed Sink) refl (sink_rose s s.served.served.cause.0)
+    why_served ends.NoMemory how None s = why_other how status.NoMemory refl tt
+    why_served (ends.Spent count) how spent s = why_other how (status.Spent count) refl (spent_in count s)
+    why_served ends.Done how (Some count) s = why_other how (status.Spent count) refl (spent_then count refl s)
+    why_served ends.Closed how (Some count) s = why_other how (status.Spent count) refl (spent_then count refl s)
+    why_served ends.Asked how (Some count) s = why_other how (status.Spent count) refl (spent_then count refl s)
+    why_served ends.ClosedByPeer how (Some count) s = why_other how (status.Spent count) refl (spent_then count refl s)
+    why_served (ends.Refused why) how (Some count) s = why_other how (status.Spent count) refl (spent_then count refl s)
+    why_served ends.Limit how (Some count) s = why_other how (status.Spent count) refl (spent_then count refl s)
+    why_served ends.SourceFailed how (Some count) s = why_other how (status.Spent count) refl (spent_then count refl s)
+    why_served ends.SinkFailed how (Some count) s = why_other how (status.Spent count) refl (spent_then count refl s)
+    why_served ends.NoMemory how (Some count) s = why_other how (status.Spent count) refl (spent_then count refl s)
 
     -- ---- the start
 
     -- the resources were read, and nothing else was asked but numbers
     record HasRead (resources : Resources) (now : WorldAt) : Type 0 where
-      pub configured : IsConfigured given.resources given.app world.files now.files (Ok resources)
+      pub configured : IsConfiguredFor given world.files now.files (Ok resources)
       pub disks : now.outside.disks ≡ world.outside.disks
       pub calls : now.outside.calls ≡ world.outside.calls
       pub faults : now.outside.faults ≡ world.outside.faults
+      pub link : now.link ≡ world.link
       pub untouched : IsUntouched world now
 
-    module _ (resources : Resources) (now : WorldAt) (read : HasRead resources now) (rest : world' ≡ record now { outside = world'.outside }) where
+    module _ (resources : Resources) (now : WorldAt) (read : HasRead resources now) (rest : world' ≡ record now { outside = world'.outside; link = world'.link }) where
       still : IsUntouched world world'
       still = record { source = ap (λ w. w.source) rest ∙ read.untouched.source; sink = ap (λ w. w.sink) rest ∙ read.untouched.sink }
 
       outside_rose : Rose now.outside.faults world'.outside.faults → Rose world.outside.faults world'.outside.faults
       outside_rose rose = subst (λ n. Rose n world'.outside.faults) read.faults rose
 
+      configured_still : IsConfiguredFor given world.files world'.files (Ok resources)
+      configured_still = subst (λ files. IsConfiguredFor given world.files files (Ok resources)) (sym (ap (λ w. w.files) rest)) read.configured
+
       -- a start that is refused has its cause
       why_refused : (e : KeepersErr) (end : Status) → IsRefused disking resources.components e now.outside.disks world'.outside.disks now.outside.calls world'.outside.calls → Counts e now.outside.faults world'.outside.faults → play.SaysOfKeepers e end
           → IsWhy kinds given world world' end
       why_refused (lack.NotAJournal component at) end (inl begun) counts says = absurd (subst TellsMore begun.cause tt)
-      why_refused (lack.NotAJournal component at) end (inr one) counts (inl same) = subst (IsWhy kinds given world world') (sym same) (inr record {
+      why_refused (lack.NotAJournal component at) end (inr one) counts (inl same) = subst (IsWhy kinds given world world') (sym same) (inr (inl record {
         resources = resources;
-        configured = subst (λ files. IsConfigured given.resources given.app world.files files (Ok resources)) (sym (ap (λ w. w.files) rest)) read.configured;
+        configured = configured_still;
         component = component;
         at = at;
         refused = subst (λ disks. IsRefusedAtOne disking resources.components (lack.NotAJournal component at) disks world'.outside.disks world.outside.calls world'.outside.calls) read.disks
             (subst (λ calls. IsRefusedAtOne disking resources.components (lack.NotAJournal component at) now.outside.disks world'.outside.disks calls world'.outside.calls) read.calls one);
         tells = refl;
-      })
+      }))
       why_refused (lack.NotAJournal component at) end (inr one) counts (inr same) = subst (IsWhy kinds given world world') (sym same) tt
       why_refused lack.OutsideFailed end refused counts same = subst (IsWhy kinds given world world') (sym same) (outside_rose counts, still)
       why_refused lack.DiskFailed end refused counts same = subst (IsWhy kinds given world world') (sym same) (outside_rose counts, still)
       why_refused lack.NoMemory end refused counts same = subst (IsWhy kinds given world world') (sym same) tt
 
-      why_down : (config : Config) (end : Status) → config.components ≡ resources.components → IsDown disking config now.outside world'.outside end → IsWhy kinds given world world' end
-      why_down config end same (play.refused e refused counts numbers says) =
-          why_refused e end (subst (λ cs. IsRefused disking cs e now.outside.disks world'.outside.disks now.outside.calls world'.outside.calls) same refused) counts says
-      why_down config end same (play.lacks keepers kept is) = subst (IsWhy kinds given world world') (sym is) tt
+      -- so has one whose app's list was not had
+      why_unlisted : (end : Status) → IsSubscribed given.app_port resources.subscriptions now.link world'.link (Err end) → IsWhy kinds given world world' end
+      why_unlisted end had = unlisted_by (IsWhy kinds given world world') given.app_port resources.subscriptions world.link world'.link end
+          (λ port text response beside asked refused. inr (inr record { resources = resources; configured = configured_still; port = port; beside = beside; response = response; asked = asked; refused = refused }))
+          (λ rose. (rose, still)) tt (subst (λ l. IsSubscribed given.app_port resources.subscriptions l world'.link (Err end)) read.link had)
+
+      why_over : (keepers : List (AnyKeeper D disking)) (between : OutsideAt) (end : Status) → IsDownOver disking given resources keepers between world'.outside now.link world'.link end → IsWhy kinds given world world' end
+      why_over keepers between end (play.unlisted had back) = why_unlisted end had
+      why_over keepers between end (play.lacks config configured same is) = subst (IsWhy kinds given world world') (sym is) tt
+
+      why_down : (end : Status) → IsDownBeside disking given resources now.outside world'.outside now.link world'.link end → IsWhy kinds given world world' end
+      why_down end (play.unkept un same) = why_refused un.error end un.refused un.counts un.says
+      why_down end (play.kept keepers between are_kept over) = why_over keepers between end over
 
     -- a run that came as far as this has its cause
-    why_kept : (resources : Resources) (now : WorldAt) (words : Stream) (end : Status) → HasRead resources now → IsKept kinds (record { app = given.app; app_port = None; peers = given.peers; components = resources.components; subs = []; policies = resources.policies }) words now world' end
-        → IsWhy kinds given world world' end
-    why_kept resources now words end read (play.down down rest) = why_down resources now read rest (record { app = given.app; app_port = None; peers = given.peers; components = resources.components; subs = []; policies = resources.policies }) end refl down
-    why_kept resources now words end read (play.up objects pass started up rest session) = subst (IsWhy kinds given world world') (sym session.ends) (why_served session.ended session.spent record {
-      config = record { app = given.app; app_port = None; peers = given.peers; components = resources.components; subs = []; policies = resources.policies };
+    why_kept : (resources : Resources) (now : WorldAt) (words : Stream) (end : Status) → HasRead resources now → IsKept kinds given resources words now world' end → IsWhy kinds given world world' end
+    why_kept resources now words end read (play.down down rest) = why_down resources now read rest end down
+    why_kept resources now words end read (play.up config objects pass started configured up rest session) = subst (IsWhy kinds given world world') (sym session.ends) (why_served session.ended session.how session.spent record {
+      config = config;
       objects = objects;
       pass = pass;
       after = session.after;
+      idle = session.idle;
       last = session.finished.last;
       words = words;
+      more = session.more;
       started = started;
       over = session.between;
+      later = session.later;
       lone = begins_lone up.started;
       sound = up.sound;
       served = session.served;
+      drained = session.drained;
       counted = session.finished.counted;
       told = session.finished.told;
       spent_is = session.finished.spent_is;
@@ -341,11 +454,11 @@ SaysMore (fault.Refused file refusal) = Unit {0}
 SaysMore fault.Failed = Unit {0}
 
 -- a reading that is refused: the file and its refusal are told, or a fault of the files was counted
-abbrev pub WhyUnread : Words → FilesAt → FilesAt → Status → Type 0
-WhyUnread given files files' (status.BadResources text) = IsFileRefused given files files' text
-WhyUnread given files files' (status.OutsideFailed device) = (device ≡ Files) × Rose files.faults files'.faults
-WhyUnread given files files' status.NoMemory = Unit {0}
-WhyUnread given files files' _ = ⊥
+abbrev pub WhyUnread : Words → Bool → FilesAt → FilesAt → Status → Type 0
+WhyUnread given subscribing files files' (status.BadResources text) = IsFileRefusedBy given subscribing files files' text
+WhyUnread given subscribing files files' (status.OutsideFailed device) = (device ≡ Files) × Rose files.faults files'.faults
+WhyUnread given subscribing files files' status.NoMemory = Unit {0}
+WhyUnread given subscribing files files' _ = ⊥
 
 -- the device is the files
 abbrev pub IsFiles : Device → Type 0
@@ -355,6 +468,7 @@ IsFiles Sink = ⊥
 IsFiles Disk = ⊥
 IsFiles Acceptor = ⊥
 IsFiles Outside = ⊥
+IsFiles Link = ⊥
 
 -- another mode than that of a run on standard input, or of a check
 abbrev IsElse : Mode → Type 0
@@ -369,17 +483,17 @@ IsNoCheck mode.Check = ⊥
 IsNoCheck (mode.Drill start requests) = Unit {0}
 IsNoCheck mode.Serve = Unit {0}
 
-module _ (given : Words) (files files' : FilesAt) where
-  pub why_unread : (e : ResourcesErr) (folder : Option (List ℕ)) (end : Status) → given.resources ≡ folder → IsConfigured folder given.app files files' (Err e) → Says e end → WhyUnread given files files' end
+module _ (given : Words) (subscribing : Bool) (files files' : FilesAt) where
+  pub why_unread : (e : ResourcesErr) (folder : Option (List ℕ)) (end : Status) → given.resources ≡ folder → IsConfigured folder given.app subscribing files files' (Err e) → Says e end → WhyUnread given subscribing files files' end
   why_unread (fault.Refused file refusal) None end named read says = absurd (subst SaysMore read.1 tt)
   why_unread fault.Failed None end named read says = absurd (subst SaysMore read.1 tt)
-  why_unread fault.NoMemory folder end named read same = subst (WhyUnread given files files') (sym same) tt
-  why_unread (fault.Refused file refusal) (Some folder) end named read (inl same) = subst (WhyUnread given files files') (sym same) record { folder = folder; named = named; file = file; refusal = refusal; refused = read.1.0; tells = refl }
-  why_unread (fault.Refused file refusal) (Some folder) end named read (inr same) = subst (WhyUnread given files files') (sym same) tt
-  why_unread fault.Failed (Some folder) end named read same = subst (WhyUnread given files files') (sym same) (refl, read.1.1)
+  why_unread fault.NoMemory folder end named read same = subst (WhyUnread given subscribing files files') (sym same) tt
+  why_unread (fault.Refused file refusal) (Some folder) end named read (inl same) = subst (WhyUnread given subscribing files files') (sym same) record { folder = folder; named = named; file = file; refusal = refusal; refused = read.1.0; tells = refl }
+  why_unread (fault.Refused file refusal) (Some folder) end named read (inr same) = subst (WhyUnread given subscribing files files') (sym same) tt
+  why_unread fault.Failed (Some folder) end named read same = subst (WhyUnread given subscribing files files') (sym same) (refl, read.1.1)
 
 module _ {D : Type 0} {disking : Keeps D} {keeping : Ghosts (AnyKeeper D disking)} (kinds : Kinds (Store (AnyKeeper D disking) keeping)) (given : Words) (world world' : WorldAt) where
-  unread_stdio : (end : Status) → IsUntouched world world' → WhyUnread given world.files world'.files end → IsWhy kinds given world world' end
+  unread_stdio : (end : Status) → IsUntouched world world' → WhyUnread given (is_some given.app_port) world.files world'.files end → IsWhy kinds given world world' end
   unread_stdio (status.BadResources text) left why = inl why
   unread_stdio (status.OutsideFailed device) left why = subst (λ d. HasFault d world world') (sym why.0) (why.1, left)
   unread_stdio status.NoMemory left why = tt
@@ -390,12 +504,13 @@ module _ {D : Type 0} {disking : Keeps D} {keeping : Ghosts (AnyKeeper D disking
   unread_stdio (status.Spent count) left why = absurd why
 
   why_begun : (numbers : Option (List ℕ)) (words : Stream) (end : Status) → IsBegun kinds given words (record world { outside = record world.outside { numbers = numbers } }) world' end → IsWhy kinds given world world' end
-  why_begun numbers words end (play.refused e read says rest) = unread_stdio end (record { source = ap (λ w. w.source) rest; sink = ap (λ w. w.sink) rest }) (why_unread given world.files world'.files e given.resources end refl read says)
+  why_begun numbers words end (play.refused e read says rest) = unread_stdio end (record { source = ap (λ w. w.source) rest; sink = ap (λ w. w.sink) rest }) (why_unread given (is_some given.app_port) world.files world'.files e given.resources end refl read says)
   why_begun numbers words end (play.read resources now read rest kept) = why_kept kinds given world world' resources now words end (record {
     configured = read;
     disks = ap (λ w. w.outside.disks) rest;
     calls = ap (λ w. w.outside.calls) rest;
     faults = ap (λ w. w.outside.faults) rest;
+    link = ap (λ w. w.link) rest;
     untouched = record { source = ap (λ w. w.source) rest; sink = ap (λ w. w.sink) rest };
   }) kept
 
@@ -404,7 +519,7 @@ module _ {D : Type 0} {disking : Keeps D} {keeping : Ghosts (AnyKeeper D disking
   why_played words_of end ran = why_begun ran.between.outside.numbers (words_of ran.seed) end (subst (λ w. IsBegun kinds given (words_of ran.seed) w world' end) ran.only ran.begun)
 
 module _ (given : Words) (world world' : WorldAt) where
-  unread_check : (end : Status) → IsUntouched world world' → WhyUnread given world.files world'.files end → IsWhyOfCheck given world world' end
+  unread_check : (end : Status) → IsUntouched world world' → WhyUnread given true world.files world'.files end → IsWhyOfCheck given world world' end
   unread_check (status.BadResources text) left why = why
   unread_check (status.OutsideFailed Files) left why = (why.1, left)
   unread_check (status.OutsideFailed Source) left why = absurd (subst IsFiles (sym why.0) tt)
@@ -412,6 +527,7 @@ module _ (given : Words) (world world' : WorldAt) where
   unread_check (status.OutsideFailed Disk) left why = absurd (subst IsFiles (sym why.0) tt)
   unread_check (status.OutsideFailed Acceptor) left why = absurd (subst IsFiles (sym why.0) tt)
   unread_check (status.OutsideFailed Outside) left why = absurd (subst IsFiles (sym why.0) tt)
+  unread_check (status.OutsideFailed Link) left why = absurd (subst IsFiles (sym why.0) tt)
   unread_check status.NoMemory left why = tt
   unread_check status.Ok left why = absurd why
   unread_check (status.BadInput input) left why = absurd why
@@ -421,7 +537,7 @@ module _ (given : Words) (world world' : WorldAt) where
 
   -- a check
   pub why_checked : (end : Status) → IsCheck given world world' end → IsWhyOfCheck given world world' end
-  why_checked end (check.refused e read says rest) = unread_check end (record { source = ap (λ w. w.source) rest; sink = ap (λ w. w.sink) rest }) (why_unread given world.files world'.files e given.resources end refl read says)
+  why_checked end (check.refused e read says rest) = unread_check end (record { source = ap (λ w. w.source) rest; sink = ap (λ w. w.sink) rest }) (why_unread given true world.files world'.files e given.resources end refl read says)
   why_checked end (check.counted resources read (check.sent same told no_fault) rest) = subst (IsWhyOfCheck given world world') (sym same) tt
   why_checked end (check.counted resources read (check.failed same front rose) rest) = subst (IsWhyOfCheck given world world') (sym same) rose
   why_checked end (check.counted resources read (check.lacks same left) rest) = subst (IsWhyOfCheck given world world') (sym same) tt
@@ -430,14 +546,15 @@ module _ {D : Type 0} {disking : Keeps D} {keeping : Ghosts (AnyKeeper D disking
   -- where all is well, a status is 0, or there was no memory
   pub ends_well : OneStream → SomeStream → (end : Status) → IsWhy kinds given world world' end → AllIsWell kinds given world world' → EndsAsItShould kinds world world' end
   ends_well single exists status.Ok why well = inl (refl, why)
-  ends_well single exists (status.BadInput Cut) why well = absurd (no_cut single _ _ _ _ _ _ why.served.served.session (well.bytes ends.ClosedByPeer None why))
-  ends_well single exists (status.BadInput (Refused reason)) why well = absurd (no_refusal single _ _ _ _ _ _ reason why.served.served.session (well.bytes (ends.Refused reason) None why))
+  ends_well single exists (status.BadInput Cut) why well = absurd (no_cut single _ _ _ _ _ _ why.1.served.served.session (well.bytes ends.ClosedByPeer why.0 None why.1))
+  ends_well single exists (status.BadInput (Refused reason)) why well = absurd (no_refusal single _ _ _ _ _ _ reason why.1.served.served.session (well.bytes (ends.Refused reason) why.0 None why.1))
   ends_well single exists status.Usage why well = absurd why
   ends_well single exists (status.BadResources text) (inl why) well = absurd (well.files text why)
-  ends_well single exists (status.BadResources text) (inr why) well = absurd (well.journals text why)
+  ends_well single exists (status.BadResources text) (inr (inl why)) well = absurd (well.journals text why)
+  ends_well single exists (status.BadResources text) (inr (inr why)) well = absurd (well.lists text why)
   ends_well single exists (status.OutsideFailed device) why well = absurd (well.devices device why)
   ends_well single exists status.NoMemory why well = inr refl
-  ends_well single exists status.Limit why well = absurd (no_limit single _ _ _ _ _ _ exists why.served.served.session (well.bytes ends.Limit None why))
+  ends_well single exists status.Limit why well = absurd (no_limit single _ _ _ _ _ _ exists why.1.served.served.session (well.bytes ends.Limit why.0 None why.1))
   ends_well single exists (status.Spent count) why well = absurd (well.fresh count why)
 
   -- ---- words that mean it
@@ -485,6 +602,7 @@ check_well given world world' (status.OutsideFailed Source) why well = absurd wh
 check_well given world world' (status.OutsideFailed Disk) why well = absurd why
 check_well given world world' (status.OutsideFailed Acceptor) why well = absurd why
 check_well given world world' (status.OutsideFailed Outside) why well = absurd why
+check_well given world world' (status.OutsideFailed Link) why well = absurd why
 check_well given world world' (status.BadInput input) why well = absurd why
 check_well given world world' status.Usage why well = absurd why
 check_well given world world' status.Limit why well = absurd why

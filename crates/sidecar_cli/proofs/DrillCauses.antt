@@ -18,6 +18,7 @@ use Rattle.resource_spec.specs.declared.component.ComponentKind.{ComponentKind}
 use Rattle.resource_spec.specs.declared.component.ComponentKind.TheVariants as kind
 use Rattle.sidecar_keepers.specs.declared.starting.KeepersErr.{KeepersErr}
 use Rattle.sidecar_keepers.specs.declared.starting.KeepersErr.TheVariants as lack
+use Rattle.sidecar_keepers.specs.Refused.{IsRefused}
 use Rattle.sidecar_core.specs.declared.config.Config.{Config}
 use Rattle.sidecar_core.specs.Shown.{some_seat}
 use Rattle.sidecar_objects.specs.Composed.{lone_stays, sound_stays}
@@ -46,7 +47,7 @@ use Rattle.sidecar_cli.specs.World.{OutsideAt, WorldAt}
 use Rattle.sidecar_cli.specs.declared.status.Status.{Status}
 use Rattle.sidecar_cli.specs.declared.status.Status.TheVariants as status
 use Rattle.sidecar_cli.specs.declared.status.Input.TheVariants.{Cut, Refused}
-use Rattle.sidecar_cli.specs.declared.status.Device.TheVariants.{Source, Sink, Files, Disk, Acceptor, Outside}
+use Rattle.sidecar_cli.specs.declared.status.Device.TheVariants.{Source, Sink, Files, Disk, Acceptor, Outside, Link}
 use Rattle.sidecar_cli.proofs.Causes.{begins_lone, full_of, none_is_none, spent_shown}
 
 -- ---- the components of a drill have no journal
@@ -69,14 +70,18 @@ no_journal (x ∷ []) c behind same is = let second : IsJournal kind.PubsubMemor
 no_journal (x ∷ y ∷ front) c behind same is = absurd (omega (arith, ap length same, length-append front (c ∷ behind)))
 
 module _ {D : Type 0} {disking : Keeps D} where
+  -- no keeper of a drill is refused but for want of memory
+  not_kept : (components : List Loaded) (outside outside' : OutsideAt) (e : KeepersErr) (end : Status) → components ≡ usual_components → IsRefused disking components e outside.disks outside'.disks outside.calls outside'.calls → SaysOfKeepers e end → end ≡ status.NoMemory
+  not_kept components outside outside' e end usual (inl begun) says = subst (λ (x : KeepersErr). SaysOfKeepers x end) begun.cause says
+  not_kept components outside outside' lack.NoMemory end usual (inr one) says = says
+  not_kept components outside outside' (lack.NotAJournal component at) end usual (inr one) says = absurd (no_journal one.front one.c one.behind (sym usual ∙ one.in_order) one.cause.1.kind)
+  not_kept components outside outside' lack.OutsideFailed end usual (inr one) says = absurd (no_journal one.front one.c one.behind (sym usual ∙ one.in_order) one.cause.0)
+  not_kept components outside outside' lack.DiskFailed end usual (inr one) says = absurd (no_journal one.front one.c one.behind (sym usual ∙ one.in_order) one.cause.kind)
+
   -- the objects of a drill are not started only where there is no memory
-  not_started : (config : Config) (outside outside' : OutsideAt) (end : Status) → config.components ≡ usual_components → IsDown disking config outside outside' end → end ≡ status.NoMemory
-  not_started config outside outside' end usual (play.lacks keepers kept same) = same
-  not_started config outside outside' end usual (play.refused e (inl begun) counts numbers says) = subst (λ (x : KeepersErr). SaysOfKeepers x end) begun.cause says
-  not_started config outside outside' end usual (play.refused lack.NoMemory (inr one) counts numbers says) = says
-  not_started config outside outside' end usual (play.refused (lack.NotAJournal component at) (inr one) counts numbers says) = absurd (no_journal one.front one.c one.behind (sym usual ∙ one.in_order) one.cause.1.kind)
-  not_started config outside outside' end usual (play.refused lack.OutsideFailed (inr one) counts numbers says) = absurd (no_journal one.front one.c one.behind (sym usual ∙ one.in_order) one.cause.0)
-  not_started config outside outside' end usual (play.refused lack.DiskFailed (inr one) counts numbers says) = absurd (no_journal one.front one.c one.behind (sym usual ∙ one.in_order) one.cause.kind)
+  not_started : (components : List Loaded) (outside outside' : OutsideAt) (end : Status) → components ≡ usual_components → IsDown disking components outside outside' end → end ≡ status.NoMemory
+  not_started components outside outside' end usual (play.lacks keepers kept same) = same
+  not_started components outside outside' end usual (play.refused un) = not_kept components outside outside' un.error end usual un.refused un.says
 
 abbrev err_in : Status → Result Written Status → Status
 err_in other (Ok kept) = other
@@ -180,7 +185,7 @@ module _ {D : Type 0} {disking : Keeps D} {keeping : Ghosts (AnyKeeper D disking
       }
 
       why_stopped : (outside outside' : OutsideAt) (end : Status) → IsDrilled kinds config bytes words outside outside' (Err end) → Why end
-      why_stopped outside outside' end (drill.down refusal down is) = subst Why (sym (not_started config outside outside' end components (subst (λ (e : Status). IsDown disking config outside outside' e) (err_same refusal end (sym is)) down))) tt
+      why_stopped outside outside' end (drill.down refusal down is) = subst Why (sym (not_started config.components outside outside' end components (subst (λ (e : Status). IsDown disking config.components outside outside' e) (err_same refusal end (sym is)) down))) tt
       why_stopped outside outside' end (drill.up objects pass between up session) = stopped_by session.ended (spent_of (seats_of session.after)) end (has_drill (begins_lone up.started) up.sound session) session.ends
 
       why_told : (outside outside' : OutsideAt) (kept : Written) (end : Status) → IsDrilled kinds config bytes words outside outside' (Ok kept) → IsToldOf requests kept.contents world.sink world'.sink end → Why end
@@ -242,6 +247,7 @@ module _ {D : Type 0} {disking : Keeps D} {keeping : Ghosts (AnyKeeper D disking
       sink_alone (status.OutsideFailed Disk) why = why
       sink_alone (status.OutsideFailed Acceptor) why = why
       sink_alone (status.OutsideFailed Outside) why = why
+      sink_alone (status.OutsideFailed Link) why = why
       sink_alone status.NoMemory why = why
       sink_alone status.Limit why = why
       sink_alone (status.Spent count) why = why

@@ -33,7 +33,7 @@ use Rattle.sidecar_keepers.specs.Kinds.{Fits, AllFit}
 use Rattle.sidecar_keepers.specs.Stores as choice
 use Rattle.sidecar_serving.specs.Passes.{root_pass}
 use Rattle.sidecar_words.specs.declared.given.Words.{Words}
-use Rattle.sidecar_cli.specs.Play.{AreKept, IsBegun, IsDown, IsServed, IsSession, lacks}
+use Rattle.sidecar_cli.specs.Play.{AreKept, IsBegun, IsDown, IsServed, lacks}
 use Rattle.sidecar_cli.specs.World.{OutsideAt, WorldAt}
 use Rattle.sidecar_cli.specs.declared.status.Status.{Status}
 use Rattle.sidecar_cli.specs.declared.status.Status.TheVariants as ends
@@ -100,11 +100,6 @@ module _ {D : Type 0} {disking : Keeps D} {keeping : Ghosts (AnyKeeper D disking
       → IsStarted config keepers config' objects pass → IsStarted config keepers config objects pass
   started_of {config} {config'} {keepers} {objects} {pass} started = subst (λ c. IsStarted config keepers c objects pass) started.same started
 
-  -- a session over a configuration is one over the same
-  pub session_of : {kinds : Kinds (Store (AnyKeeper D disking) keeping)} {config config' : Config} {objects : Objects (AnyKeeper D disking) keeping} {pass : Pass (AnyKeeper D disking) keeping} {words : Stream} {world world' : WorldAt} {status : Status}
-      → config' ≡ config → IsSession kinds config' objects pass words world world' status → IsSession kinds config objects pass words world world' status
-  session_of {kinds} {objects = objects} {pass = pass} {words} {world} {world'} {status} same session = subst (λ c. IsSession kinds c objects pass words world world' status) same session
-
   -- the keepers that are given back fit their components
   pub fit_closed : ((c : Loaded) (old new : AnyKeeper D disking) (answers : List (Option Changes)) → keeping.leads old answers new → Fits c old → Fits c new)
       → {config config' : Config} (cells : List (Begun (Store (AnyKeeper D disking) keeping))) (seats : List (Sitting (Store (AnyKeeper D disking) keeping) Cmd Reply)) {given : List (AnyKeeper D disking)}
@@ -113,14 +108,14 @@ module _ {D : Type 0} {disking : Keeps D} {keeping : Ghosts (AnyKeeper D disking
   fit_closed stays {config} {config'} cells seats {given} same closed fits = subst (λ (c : Config). AllFit (choice.stores_of c.components) given) (sym same) (subst (λ l. AllFit (choice.stores_of config.components) l) (sym closed.2) (all_fit stays _ cells seats closed.0 closed.1 fits))
 
 -- a pass that is alone stays so
-pub lone_served : {D : Type 0} {disking : Keeps D} {keeping : Ghosts (AnyKeeper D disking)} {kinds : Kinds (Store (AnyKeeper D disking) keeping)} {config : Config} {objects : Objects (AnyKeeper D disking) keeping} {pass after : Pass (AnyKeeper D disking) keeping} {words : Stream} {world world' : WorldAt} {ended : Ended}
-    → IsServed kinds config objects pass after words world world' ended → IsLone (cells_of objects) (seats_of pass) → IsLone (cells_of objects) (seats_of after)
-lone_served {kinds = kinds} {objects = objects} {pass = pass} {after = after} {words = words} {world = world} {world' = world'} served lone = lone_stays kinds (cells_of objects) (record { seats = seats_of pass; clock = world.clock; link = world.link; words = words }) _ (record { seats = seats_of after; clock = world'.clock; link = world'.link; words = served.rest }) served.served.acted lone
+pub lone_served : {D : Type 0} {disking : Keeps D} {keeping : Ghosts (AnyKeeper D disking)} {kinds : Kinds (Store (AnyKeeper D disking) keeping)} {config : Config} {objects : Objects (AnyKeeper D disking) keeping} {pass after : Pass (AnyKeeper D disking) keeping} {words rest : Stream} {world world' : WorldAt} {ended : Ended}
+    → IsServed kinds config objects pass after words rest world world' ended → IsLone (cells_of objects) (seats_of pass) → IsLone (cells_of objects) (seats_of after)
+lone_served {kinds = kinds} {objects = objects} {pass = pass} {after = after} {words = words} {rest = rest} {world = world} {world' = world'} served lone = lone_stays kinds (cells_of objects) (record { seats = seats_of pass; clock = world.clock; link = world.link; words = words }) _ (record { seats = seats_of after; clock = world'.clock; link = world'.link; words = rest }) served.served.acted lone
 
 -- what holds of every seat goes on to hold
-pub sound_served : {D : Type 0} {disking : Keeps D} {keeping : Ghosts (AnyKeeper D disking)} {kinds : Kinds (Store (AnyKeeper D disking) keeping)} {config : Config} {objects : Objects (AnyKeeper D disking) keeping} {pass after : Pass (AnyKeeper D disking) keeping} {words : Stream} {world world' : WorldAt} {ended : Ended}
-    → IsServed kinds config objects pass after words world world' ended → IsSoundPass kinds (cells_of objects) (seats_of pass) → IsSoundPass kinds (cells_of objects) (seats_of after)
-sound_served {kinds = kinds} {objects = objects} {pass = pass} {after = after} {words = words} {world = world} {world' = world'} served sound = sound_stays kinds (cells_of objects) (record { seats = seats_of pass; clock = world.clock; link = world.link; words = words }) _ (record { seats = seats_of after; clock = world'.clock; link = world'.link; words = served.rest }) served.served.acted sound
+pub sound_served : {D : Type 0} {disking : Keeps D} {keeping : Ghosts (AnyKeeper D disking)} {kinds : Kinds (Store (AnyKeeper D disking) keeping)} {config : Config} {objects : Objects (AnyKeeper D disking) keeping} {pass after : Pass (AnyKeeper D disking) keeping} {words rest : Stream} {world world' : WorldAt} {ended : Ended}
+    → IsServed kinds config objects pass after words rest world world' ended → IsSoundPass kinds (cells_of objects) (seats_of pass) → IsSoundPass kinds (cells_of objects) (seats_of after)
+sound_served {kinds = kinds} {objects = objects} {pass = pass} {after = after} {words = words} {rest = rest} {world = world} {world' = world'} served sound = sound_stays kinds (cells_of objects) (record { seats = seats_of pass; clock = world.clock; link = world.link; words = words }) _ (record { seats = seats_of after; clock = world'.clock; link = world'.link; words = rest }) served.served.acted sound
 
 -- numbers were given, and the outside is as before but for them
 pub numbered : (world : WorldAt) (after : OutsideAt) → after.disks ≡ world.outside.disks → after.calls ≡ world.outside.calls → after.backs ≡ world.outside.backs → after.faults ≡ world.outside.faults
@@ -133,7 +128,7 @@ pub begun_by : {D : Type 0} {disking : Keeps D} {keeping : Ghosts (AnyKeeper D d
 begun_by {disking = disking} {keeping = keeping} {kinds = kinds} {given = given} {world = world} {world' = world'} {status = status} same begun = subst (λ w. IsBegun kinds given w world world' status) same begun
 
 -- objects that were not started over their keepers
-pub down_without : {D X : Type 0} {disking : Keeps D} {config : Config} {keepers : List (AnyKeeper D disking)} {outside outside' : OutsideAt} (result : Result X Status)
-    → IfErr result (λ status. status ≡ ends.NoMemory) → AreKept disking config keepers outside outside' → IfErr result (λ status. IsDown disking config outside outside' status)
+pub down_without : {D X : Type 0} {disking : Keeps D} {components : List Loaded} {keepers : List (AnyKeeper D disking)} {outside outside' : OutsideAt} (result : Result X Status)
+    → IfErr result (λ status. status ≡ ends.NoMemory) → AreKept disking components keepers outside outside' → IfErr result (λ status. IsDown disking components outside outside' status)
 down_without (Ok up) lacking kept = tt
 down_without {keepers = keepers} (Err status) lacking kept = lacks keepers kept lacking

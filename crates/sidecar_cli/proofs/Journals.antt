@@ -77,6 +77,6 @@ all_own reading before [] after same own = subst (λ (r : Resources). AreApart (
 all_own reading before (file ∷ later) after adds own = all_own reading adds.0 later after adds.1.1 (adds_own reading file.bytes before adds.0 adds.1.0 own)
 
 -- the journals that are configured have paths of their own
-pub configured_own : (folder : Option (List ℕ)) (app : List ℕ) (files files' : FilesAt) (resources : Resources) → IsConfigured folder app files files' (Ok resources) → AreApart (paths_of (stores_of resources.components))
-configured_own None app files files' resources read = subst (λ (r : Resources). AreApart (paths_of (stores_of r.components))) (sym read.1) tt
-configured_own (Some folder) app files files' resources read = subst AreApart (sym (same_paths resources.components)) (all_own (reading_for app true) _ _ resources read.1.0.added tt)
+pub configured_own : (folder : Option (List ℕ)) (app : List ℕ) (subscribing : Bool) (files files' : FilesAt) (resources : Resources) → IsConfigured folder app subscribing files files' (Ok resources) → AreApart (paths_of (stores_of resources.components))
+configured_own None app subscribing files files' resources read = subst (λ (r : Resources). AreApart (paths_of (stores_of r.components))) (sym read.1) tt
+configured_own (Some folder) app subscribing files files' resources read = subst AreApart (sym (same_paths resources.components)) (all_own (reading_for app subscribing) _ _ resources read.1.0.added tt)

@@ -1,6 +1,9 @@
+mod Beginning
 mod Causes
 mod Counted
 mod Countings
+mod Drained
+mod Fits
 mod Fitting
 mod Journals
 mod Lines
@@ -8,6 +11,6 @@ mod Noted
 mod ServeCauses
 mod Serves
 mod Shown
-mod Unsubscribed
+mod Refusing
 pub mod Drilled
 pub mod DrillCauses

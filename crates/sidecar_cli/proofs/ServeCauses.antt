@@ -1,5 +1,5 @@
 -- Each status of a run that serves has its cause.
-use Rattle.std.specs.Prelude.{◌≡◌, ◌⊎◌, ◌||◌, ℕ, zero, suc, Bool, true, false, List, [], ◌∷◌, ◌++◌, length, map, All, Option, Some, None, IsSome, unwrap_or, Ok, refl}
+use Rattle.std.specs.Prelude.{◌≡◌, ◌⊎◌, ◌||◌, ℕ, zero, suc, Bool, true, false, List, [], ◌∷◌, ◌++◌, length, map, All, Option, Some, None, IsSome, is_some, unwrap_or, Ok, refl}
 use Rattle.std.specs.Option.{option_or}
 use Rattle.std.proofs.Common.{◌∙◌, ap, sym, subst, inl, inr, arith, true≢false}
 use Rattle.std.proofs.lemmas.List.Elements.{All-cons, All-head, All-nil, All-tail}
@@ -33,8 +33,8 @@ use Rattle.sidecar_words.specs.declared.given.Mode.TheVariants as mode
 use Rattle.sidecar_words.specs.Meaning.{Means}
 use Rattle.sidecar_words.proofs.OneMeaning.{one_meaning}
 use Rattle.sidecar_cli.specs.Causes.{IsUntouched}
-use Rattle.sidecar_cli.specs.Configured.{IsConfigured}
-use Rattle.sidecar_cli.specs.Play.{IsUp, SaysOfKeepers}
+use Rattle.sidecar_cli.specs.Configured.{IsConfiguredFor}
+use Rattle.sidecar_cli.specs.Play.{IsDownBeside, IsDownOver, IsUp, SaysOfKeepers}
 use Rattle.sidecar_cli.specs.Play as play
 use Rattle.sidecar_cli.specs.Run.{IsCommand, IsRun}
 use Rattle.sidecar_cli.specs.Run as run
@@ -45,7 +45,7 @@ use Rattle.sidecar_cli.specs.World.{OutsideAt, WorldAt}
 use Rattle.sidecar_cli.specs.declared.status.Device.TheVariants as device
 use Rattle.sidecar_cli.specs.declared.status.Status.{Status}
 use Rattle.sidecar_cli.specs.declared.status.Status.TheVariants as status
-use Rattle.sidecar_cli.proofs.Causes.{IsFiles, TellsMore, WhyUnread, full_of, met_of, none_is_none, same_count, why_unread}
+use Rattle.sidecar_cli.proofs.Causes.{IsFiles, TellsMore, WhyUnread, full_of, met_of, none_is_none, same_count, unlisted_by, why_unread}
 use Rattle.sidecar_cli.proofs.Countings.{silent, still, unasked}
 use Rattle.sidecar_cli.proofs.Fitting.{root_started}
 use Rattle.sidecar_cli.proofs.Serves.{served_sound}
@@ -280,23 +280,32 @@ module _ {D : Type 0} {disking : Keeps D} {keeping : Ghosts (AnyKeeper D disking
     why_serving end (serve.went after over e spent served opens finished ends) = subst (IsWhyOfServing kinds given world world') (sym ends) (why_went after over e spent served opens finished served.served)
     why_serving end (serve.unopened after over e served refused closed quiet) = why_unopened after over e end refused closed served.served
 
-  module _ (resources : Resources) (numbers : Option (List ℕ)) (read : IsConfigured given.resources given.app world.files world'.files (Ok resources)) where
+  module _ (resources : Resources) (numbers : Option (List ℕ)) (read : IsConfiguredFor given world.files world'.files (Ok resources)) where
     -- a start that is refused has its cause
     why_refused : (e : KeepersErr) (end : Status) → IsRefused disking resources.components e world.outside.disks world'.outside.disks world.outside.calls world'.outside.calls → Counts e world.outside.faults world'.outside.faults → SaysOfKeepers e end → IsWhyOfServing kinds given world world' end
     why_refused (lack.NotAJournal component at) end (inl begun) counts says = absurd (subst TellsMore begun.cause tt)
-    why_refused (lack.NotAJournal component at) end (inr one) counts (inl same) = subst (IsWhyOfServing kinds given world world') (sym same) (inr record { resources = resources; configured = read; component = component; at = at; refused = one; tells = refl })
+    why_refused (lack.NotAJournal component at) end (inr one) counts (inl same) = subst (IsWhyOfServing kinds given world world') (sym same) (inr (inl record { resources = resources; configured = read; component = component; at = at; refused = one; tells = refl }))
     why_refused (lack.NotAJournal component at) end (inr one) counts (inr same) = subst (IsWhyOfServing kinds given world world') (sym same) tt
     why_refused lack.OutsideFailed end refused counts same = subst (IsWhyOfServing kinds given world world') (sym same) (rose_once world.outside.faults world'.outside.faults counts, left)
     why_refused lack.DiskFailed end refused counts same = subst (IsWhyOfServing kinds given world world') (sym same) (counts, left)
     why_refused lack.NoMemory end refused counts same = subst (IsWhyOfServing kinds given world world') (sym same) tt
 
-    why_kept : (words : List Stream) (end : Status) → IsKeptServing kinds (record { app = given.app; app_port = None; peers = given.peers; components = resources.components; subs = []; policies = resources.policies }) given.port words world.note world'.note (record world.outside { numbers = numbers }) world'.outside end
-        → IsWhyOfServing kinds given world world' end
-    why_kept words end (serve.down (play.refused e refused counts numbered says) quiet) = why_refused e end refused counts says
-    why_kept words end (serve.down (play.lacks keepers kept is) quiet) = subst (IsWhyOfServing kinds given world world') (sym is) tt
-    why_kept words end (serve.up objects pass between up serving) = why_serving (record { app = given.app; app_port = None; peers = given.peers; components = resources.components; subs = []; policies = resources.policies }) (record world.outside { numbers = numbers }) between objects pass words up refl end serving
+    -- so has one whose app's list was not had
+    why_over : (keepers : List (AnyKeeper D disking)) (between : OutsideAt) (end : Status) → IsDownOver disking given resources keepers between world'.outside world.link world'.link end → IsWhyOfServing kinds given world world' end
+    why_over keepers between end (play.unlisted had back) = unlisted_by (IsWhyOfServing kinds given world world') given.app_port resources.subscriptions world.link world'.link end
+        (λ port text response beside asked refused. inr (inr record { resources = resources; configured = read; port = port; beside = beside; response = response; asked = asked; refused = refused }))
+        (λ rose. (rose, left)) tt had
+    why_over keepers between end (play.lacks config configured same is) = subst (IsWhyOfServing kinds given world world') (sym is) tt
 
-  unread_serving : (end : Status) → WhyUnread given world.files world'.files end → IsWhyOfServing kinds given world world' end
+    why_down : (end : Status) → IsDownBeside disking given resources (record world.outside { numbers = numbers }) world'.outside world.link world'.link end → IsWhyOfServing kinds given world world' end
+    why_down end (play.unkept un same) = why_refused un.error end un.refused un.counts un.says
+    why_down end (play.kept keepers between are_kept over) = why_over keepers between end over
+
+    why_kept : (words : List Stream) (end : Status) → IsKeptServing kinds given resources words world.link world'.link world.note world'.note (record world.outside { numbers = numbers }) world'.outside end → IsWhyOfServing kinds given world world' end
+    why_kept words end (serve.down down quiet) = why_down end down
+    why_kept words end (serve.up config objects pass between configured up serving) = why_serving config (record world.outside { numbers = numbers }) between objects pass words up refl end serving
+
+  unread_serving : (end : Status) → WhyUnread given (is_some given.app_port) world.files world'.files end → IsWhyOfServing kinds given world world' end
   unread_serving (status.BadResources text) why = inl why
   unread_serving (status.OutsideFailed device.Files) why = (why.1, left)
   unread_serving (status.OutsideFailed device.Source) why = absurd (subst IsFiles (sym why.0) tt)
@@ -304,6 +313,7 @@ module _ {D : Type 0} {disking : Keeps D} {keeping : Ghosts (AnyKeeper D disking
   unread_serving (status.OutsideFailed device.Disk) why = absurd (subst IsFiles (sym why.0) tt)
   unread_serving (status.OutsideFailed device.Acceptor) why = absurd (subst IsFiles (sym why.0) tt)
   unread_serving (status.OutsideFailed device.Outside) why = absurd (subst IsFiles (sym why.0) tt)
+  unread_serving (status.OutsideFailed device.Link) why = absurd (subst IsFiles (sym why.0) tt)
   unread_serving status.NoMemory why = tt
   unread_serving status.Ok why = absurd why
   unread_serving (status.BadInput input) why = absurd why
@@ -313,7 +323,7 @@ module _ {D : Type 0} {disking : Keeps D} {keeping : Ghosts (AnyKeeper D disking
 
 module _ {D : Type 0} {disking : Keeps D} {keeping : Ghosts (AnyKeeper D disking)} (kinds : Kinds (Store (AnyKeeper D disking) keeping)) (given : Words) (world world' : WorldAt) where
   why_begun : (numbers : Option (List ℕ)) (words : List Stream) (end : Status) → IsBegunServing kinds given words (record world { outside = record world.outside { numbers = numbers } }) world' end → IsWhyOfServing kinds given world world' end
-  why_begun numbers words end (serve.refused e read says rest) = unread_serving kinds given world world' (record { source = ap (λ w. w.source) rest; sink = ap (λ w. w.sink) rest }) end (why_unread given world.files world'.files e given.resources end refl read says)
+  why_begun numbers words end (serve.refused e read says rest) = unread_serving kinds given world world' (record { source = ap (λ w. w.source) rest; sink = ap (λ w. w.sink) rest }) end (why_unread given (is_some given.app_port) world.files world'.files e given.resources end refl read says)
   why_begun numbers words end (serve.read resources read kept rest) = why_kept kinds given world world' (record { source = ap (λ w. w.source) rest; sink = ap (λ w. w.sink) rest }) resources numbers read words end kept
 
   why_serve : (words_of : ℕ → Stream) (end : Status) → IsServe kinds words_of given world world' end → IsWhyOfServing kinds given world world' end
@@ -338,11 +348,13 @@ module _ {D : Type 0} {disking : Keeps D} {keeping : Ghosts (AnyKeeper D disking
   serve_well status.Ok why well = inl refl
   serve_well status.NoMemory why well = inr refl
   serve_well (status.BadResources text) (inl why) well = absurd (well.files text why)
-  serve_well (status.BadResources text) (inr why) well = absurd (well.journals text why)
+  serve_well (status.BadResources text) (inr (inl why)) well = absurd (well.journals text why)
+  serve_well (status.BadResources text) (inr (inr why)) well = absurd (well.lists text why)
   serve_well (status.OutsideFailed device.Files) why well = absurd (well.read why)
   serve_well (status.OutsideFailed device.Disk) why well = absurd (well.disks why)
   serve_well (status.OutsideFailed device.Acceptor) why well = absurd (well.acceptors why)
   serve_well (status.OutsideFailed device.Outside) why well = absurd (well.outside why.0)
+  serve_well (status.OutsideFailed device.Link) why well = absurd (well.app why)
   serve_well (status.OutsideFailed device.Source) why well = absurd why
   serve_well (status.OutsideFailed device.Sink) why well = absurd why
   serve_well (status.BadInput input) why well = absurd why

@@ -41,11 +41,6 @@ module _ {O : Type 0} (kinds : Kinds O) (cells : CellsAt O) where
   served_sound config port words calls calls' at after end root sound (unopened workers asked between few low met waits told failed ends) = sound_met config words workers between after (subst (λ s. IsSoundPass kinds cells s) root sound) met
 
 module _ {D : Type 0} {disking : Keeps D} {keeping : Ghosts (AnyKeeper D disking)} {kinds : Kinds (Store (AnyKeeper D disking) keeping)} where
-  -- serving over a configuration is serving over the same
-  pub serving_of : {config config' : Config} {objects : Objects (AnyKeeper D disking) keeping} {pass : Pass (AnyKeeper D disking) keeping} {port : ℕ} {words : List Stream} {note note' : SinkAt} {outside outside' : OutsideAt} {status : Status}
-      → config' ≡ config → IsServing kinds config' objects pass port words note note' outside outside' status → IsServing kinds config objects pass port words note note' outside outside' status
-  serving_of {objects = objects} {pass = pass} {port} {words} {note} {note'} {outside} {outside'} {status} same serving = subst (λ c. IsServing kinds c objects pass port words note note' outside outside' status) same serving
-
   -- a run with the same random words
   pub begun_serving_by : {given : Words} {words words' : List Stream} {world world' : WorldAt} {status : Status} → words ≡ words' → IsBegunServing kinds given words world world' status → IsBegunServing kinds given words' world world' status
   begun_serving_by {given} {world = world} {world' = world'} {status = status} same begun = subst (λ w. IsBegunServing kinds given w world world' status) same begun

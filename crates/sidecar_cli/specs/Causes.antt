@@ -1,9 +1,10 @@
 -- Why a run on standard input, or a check, ended with its status.
-use Rattle.std.specs.Prelude.{◌≡◌, ◌⊎◌, ℕ, ◌<◌, ◌^◌, List, [], ◌++◌, length, Option, Some, None, true, Ok, codes, decimal}
+use Rattle.std.specs.Prelude.{◌≡◌, ◌≢◌, ◌⊎◌, ℕ, Bool, true, ◌<◌, ◌^◌, List, [], ◌++◌, length, Option, Some, None, Ok, codes, decimal, is_some}
 use Rattle.std.specs.Option.{option_or}
 use mathlib.Core.Option.{some}
 use lib.ListN.{get_elem?}
 use Rattle.side_world.specs.declared.disk.Disk.{Ghosts as Keeps}
+use Rattle.side_base.specs.declared.message.Response.{Response}
 use Rattle.side_world.specs.Faults.{Rose}
 use Rattle.rand_core.specs.Stream.{Stream}
 use Rattle.keeper_core.specs.declared.keeper.Keeper.{Ghosts}
@@ -28,24 +29,27 @@ use Rattle.sidecar_objects.specs.Passes.{IsLone, IsSoundPass}
 use Rattle.sidecar_objects.specs.Kind.{Kind, Kinds, SeatsAt, seats_in}
 use Rattle.sidecar_objects.specs.Shown.{spent_of}
 use Rattle.sidecar_objects.specs.Pass.{cells_of, seats_of}
+use Rattle.sidecar_turns.specs.declared.draining.Drained.{Drained}
+use Rattle.sidecar_turns.specs.declared.draining.Drained.TheVariants.{Held}
 use Rattle.sidecar_words.specs.declared.given.Words.{Words}
-use Rattle.sidecar_cli.specs.Configured.{IsConfigured}
+use Rattle.sidecar_cli.specs.Configured.{IsConfiguredFor}
 use Rattle.sidecar_cli.specs.Counting.{IsTold}
-use Rattle.sidecar_cli.specs.Play.{IsServed}
+use Rattle.sidecar_cli.specs.Play.{IsDrained, IsServed}
+use Rattle.sidecar_cli.specs.Subscribed.{AsksForList, IsListRefusedBy}
 use Rattle.sidecar_cli.specs.World.{FilesAt, WorldAt}
 use Rattle.sidecar_cli.specs.declared.status.Status.{Status}
 use Rattle.sidecar_cli.specs.declared.status.Status.TheVariants as status
 use Rattle.sidecar_cli.specs.declared.status.Input.TheVariants.{Cut, Refused}
 use Rattle.sidecar_cli.specs.declared.status.Device.{Device}
-use Rattle.sidecar_cli.specs.declared.status.Device.TheVariants.{Source, Sink, Files, Disk, Acceptor, Outside}
+use Rattle.sidecar_cli.specs.declared.status.Device.TheVariants.{Source, Sink, Files, Disk, Acceptor, Outside, Link}
 
 -- nothing was read from the source, and nothing written to the sink
 pub record IsUntouched (world world' : WorldAt) : Type 0 where
   pub source : world'.source ≡ world.source
   pub sink : world'.sink ≡ world.sink
 
--- A fault of this device was counted. What isn't the source or the sink fails before anything is read or written; a disk that comes back with a fault is
--- counted by the outside. No acceptor is asked
+-- A fault of this device was counted, or of the link that a call expired. What isn't the source or the sink fails before anything is read or written; a disk that comes back with a
+-- fault is counted by the outside. No acceptor is asked
 abbrev pub HasFault : Device → WorldAt → WorldAt → Type 0
 HasFault Source world world' = Rose world.source.faults world'.source.faults
 HasFault Sink world world' = Rose world.sink.faults world'.sink.faults
@@ -53,24 +57,42 @@ HasFault Files world world' = Rose world.files.faults world'.files.faults × IsU
 HasFault Disk world world' = Rose world.outside.faults world'.outside.faults × IsUntouched world world'
 HasFault Acceptor world world' = ⊥
 HasFault Outside world world' = Rose world.outside.faults world'.outside.faults × IsUntouched world world'
+HasFault Link world world' = (Rose world.link.faults world'.link.faults ⊎ Rose world.link.expiries world'.link.expiries) × IsUntouched world world'
 
--- a resource file is refused, and this tells which one, and why
-pub record IsFileRefused (given : Words) (files files' : FilesAt) (text : List ℕ) : Type 0 where
+-- a resource file is refused, of which subscriptions are read or passed over, and this tells which one, and why
+pub record IsFileRefusedBy (given : Words) (subscribing : Bool) (files files' : FilesAt) (text : List ℕ) : Type 0 where
   pub folder : List ℕ
   pub named : given.resources ≡ Some folder
   pub file : List ℕ
   pub refusal : Refusal
-  pub refused : IsRefusedAt files.folders files.calls files'.calls folder (reading_for given.app true) file refusal
+  pub refused : IsRefusedAt files.folders files.calls files'.calls folder (reading_for given.app subscribing) file refusal
   pub tells : text ≡ file ++ (codes ": " ++ told_as refusal)
+
+-- the same of a run, which reads subscriptions where the app has a port, and of a check, which does so always
+abbrev pub IsFileRefused : Words → FilesAt → FilesAt → List ℕ → Type 0
+IsFileRefused given = IsFileRefusedBy given (is_some given.app_port)
+
+abbrev pub IsFileRefusedOfCheck : Words → FilesAt → FilesAt → List ℕ → Type 0
+IsFileRefusedOfCheck given = IsFileRefusedBy given true
 
 -- the files are read, and a journal of a component that they name is refused; this tells which one, and where
 pub record IsJournalRefused {D : Type 0} (disking : Keeps D) (given : Words) (world world' : WorldAt) (text : List ℕ) : Type 0 where
   pub resources : Resources
-  pub configured : IsConfigured given.resources given.app world.files world'.files (Ok resources)
+  pub configured : IsConfiguredFor given world.files world'.files (Ok resources)
   pub component : List ℕ
   pub at : ℕ
   pub refused : IsRefusedAtOne disking resources.components (NotAJournal component at) world.outside.disks world'.outside.disks world.outside.calls world'.outside.calls
   pub tells : text ≡ component ++ (codes ": " ++ (codes "NotAJournal at " ++ decimal at))
+
+-- the files are read, and the list that the app answers is refused; this tells why
+pub record IsListRefused (given : Words) (world world' : WorldAt) (text : List ℕ) : Type 0 where
+  pub resources : Resources
+  pub configured : IsConfiguredFor given world.files world'.files (Ok resources)
+  pub port : ℕ
+  pub beside : given.app_port ≡ Some port
+  pub response : Response
+  pub asked : AsksForList port (Ok response) world.link world'.link
+  pub refused : IsListRefusedBy resources.subscriptions response text
 
 -- the bytes are fewer than 100,000 whole requests, with nothing behind them
 pub record AreRequests (bytes : List ℕ) : Type 0 where
@@ -93,41 +115,51 @@ pub record IsFull {O : Type 0} (seats : SeatsAt O) (count : ℕ) : Type 0 where
   pub full : IsFullAt place count (seats_in seats kind)
 
 module _ {D : Type 0} {disking : Keeps D} {keeping : Ghosts (AnyKeeper D disking)} (kinds : Kinds (Store (AnyKeeper D disking) keeping)) where
-  -- A session was served, over objects that had just begun, and the ledgers were counted behind it: it ended so, and this is the first count that a seat of the
-  -- pass shows behind it, or else what was read of the first exhausted cell of a ledger, if there is one. Nothing was read or written but by it
-  pub record HasSession (world world' : WorldAt) (ended : Ended) (spent : Option ℕ) : Type 0 where
+  -- A session was served, over objects that had just begun, what was due behind it was delivered, and the ledgers were counted behind that: the session and the deliveries ended so,
+  -- and this is the first count that a seat of the pass shows behind them, or else what was read of the first exhausted cell of a ledger, if there is one. Nothing was read or
+  -- written but by the session
+  pub record HasSession (world world' : WorldAt) (ended : Ended) (how : Drained) (spent : Option ℕ) : Type 0 where
     pub config : Config
     pub objects : Objects (AnyKeeper D disking) keeping
     pub pass : Pass (AnyKeeper D disking) keeping
     pub after : Pass (AnyKeeper D disking) keeping
+    pub idle : Pass (AnyKeeper D disking) keeping
     pub last : Pass (AnyKeeper D disking) keeping
     pub words : Stream
+    pub more : Stream
     pub started : WorldAt
     pub over : WorldAt
+    pub later : WorldAt
     pub lone : IsLone (cells_of objects) (seats_of pass)
     pub sound : IsSoundPass kinds (cells_of objects) (seats_of pass)
-    pub served : IsServed kinds config objects pass after words started over ended
+    pub served : IsServed kinds config objects pass after words more started over ended
+    pub drained : IsDrained kinds config objects after idle more over later how
     pub counted : Option ℕ
-    pub told : IsTold kinds (cells_of objects) config.components (seats_of after) (seats_of last) over.note world'.note counted
-    pub spent_is : spent ≡ option_or (spent_of (seats_of after)) counted
+    pub told : IsTold kinds (cells_of objects) config.components (seats_of idle) (seats_of last) later.note world'.note counted
+    pub spent_is : spent ≡ option_or (spent_of (seats_of idle)) counted
     pub before : IsUntouched world started
-    pub behind : IsUntouched over world'
+    pub behind : IsUntouched later world'
 
-  -- the session, and each count behind it, met no exhausted cell
+  -- the session, each delivery and each count behind it met no exhausted cell
   abbrev pub EndsWith : WorldAt → WorldAt → Ended → Type 0
-  EndsWith world world' ended = HasSession world world' ended None
+  EndsWith world world' ended = (how : Drained) × HasSession world world' ended how None
+
+  -- the same, and the deliveries didn't end for want of memory
+  abbrev pub EndsFine : WorldAt → WorldAt → Ended → Type 0
+  EndsFine world world' ended = (how : Drained) × (how ≢ Held) × HasSession world world' ended how None
 
   -- the session ended between two requests, or with one that asked for it
   pub data EndsWell (world world' : WorldAt) : Type 0 where
-    done : EndsWith world world' ends.Done → EndsWell world world'
-    closed : EndsWith world world' ends.Closed → EndsWell world world'
-    asked : EndsWith world world' ends.Asked → EndsWell world world'
+    done : EndsFine world world' ends.Done → EndsWell world world'
+    closed : EndsFine world world' ends.Closed → EndsWell world world'
+    asked : EndsFine world world' ends.Asked → EndsWell world world'
 
   -- a cell was exhausted: the seats of the session's pass, at a moment of the run, are sound and alone, and one of them shows this count and has seen 2^62 entries
   pub record IsSpent (world world' : WorldAt) (count : ℕ) : Type 0 where
     pub ended : Ended
+    pub how : Drained
     pub spent : Option ℕ
-    pub session : HasSession world world' ended spent
+    pub session : HasSession world world' ended how spent
     pub seats : SeatsAt (Store (AnyKeeper D disking) keeping)
     pub lone : IsLone (cells_of session.objects) seats
     pub sound : IsSoundPass kinds (cells_of session.objects) seats
@@ -139,7 +171,7 @@ module _ {D : Type 0} {disking : Keeps D} {keeping : Ghosts (AnyKeeper D disking
   IsWhy given world world' (status.BadInput Cut) = EndsWith world world' ends.ClosedByPeer
   IsWhy given world world' (status.BadInput (Refused why)) = EndsWith world world' (ends.Refused why)
   IsWhy given world world' status.Usage = ⊥
-  IsWhy given world world' (status.BadResources text) = IsFileRefused given world.files world'.files text ⊎ IsJournalRefused disking given world world' text
+  IsWhy given world world' (status.BadResources text) = IsFileRefused given world.files world'.files text ⊎ (IsJournalRefused disking given world world' text ⊎ IsListRefused given world world' text)
   IsWhy given world world' (status.OutsideFailed device) = HasFault device world world'
   IsWhy given world world' status.NoMemory = Unit {0}
   IsWhy given world world' status.Limit = EndsWith world world' ends.Limit
@@ -149,8 +181,9 @@ module _ {D : Type 0} {disking : Keeps D} {keeping : Ghosts (AnyKeeper D disking
   pub record AllIsWell (given : Words) (world world' : WorldAt) : Type 0 where
     pub files : (text : List ℕ) → ¬ IsFileRefused given world.files world'.files text
     pub journals : (text : List ℕ) → ¬ IsJournalRefused disking given world world' text
+    pub lists : (text : List ℕ) → ¬ IsListRefused given world world' text
     pub devices : (device : Device) → ¬ HasFault device world world'
-    pub bytes : (ended : Ended) (spent : Option ℕ) (session : HasSession world world' ended spent) → AreRequests session.served.served.bytes
+    pub bytes : (ended : Ended) (how : Drained) (spent : Option ℕ) (session : HasSession world world' ended how spent) → AreRequests session.served.served.bytes
     pub fresh : (count : ℕ) → ¬ IsSpent world world' count
 
   -- the session ended between two requests or with one that asked for it, and the status is 0; or there was no memory
@@ -164,7 +197,7 @@ module _ {D : Type 0} {disking : Keeps D} {keeping : Ghosts (AnyKeeper D disking
 -- why a check ends so
 abbrev pub IsWhyOfCheck : Words → WorldAt → WorldAt → Status → Type 0
 IsWhyOfCheck given world world' status.Ok = Unit {0}
-IsWhyOfCheck given world world' (status.BadResources text) = IsFileRefused given world.files world'.files text
+IsWhyOfCheck given world world' (status.BadResources text) = IsFileRefusedOfCheck given world.files world'.files text
 IsWhyOfCheck given world world' (status.OutsideFailed Sink) = HasFault Sink world world'
 IsWhyOfCheck given world world' (status.OutsideFailed Files) = HasFault Files world world'
 IsWhyOfCheck given world world' status.NoMemory = Unit {0}
@@ -172,7 +205,7 @@ IsWhyOfCheck given world world' _ = ⊥
 
 -- no resource file is refused, and neither the files nor the sink fails
 pub record AllIsWellOfCheck (given : Words) (world world' : WorldAt) : Type 0 where
-  pub files : (text : List ℕ) → ¬ IsFileRefused given world.files world'.files text
+  pub files : (text : List ℕ) → ¬ IsFileRefusedOfCheck given world.files world'.files text
   pub read : ¬ HasFault Files world world'
   pub wrote : ¬ HasFault Sink world world'
 

@@ -1,5 +1,5 @@
 -- A check: the resources are read, and the sink gets how many components there are, and how many subscriptions are kept.
-use Rattle.std.specs.Prelude.{◌≡◌, ℕ, List, ◌++◌, Ok, Err, length, codes, decimal}
+use Rattle.std.specs.Prelude.{◌≡◌, ℕ, List, ◌++◌, true, Ok, Err, length, codes, decimal}
 use Rattle.side_world.specs.Faults.{Rose}
 use Rattle.side_world.specs.Told.{Told, SentSome}
 use Rattle.conn_serve.specs.Ends.{SinkAt}
@@ -23,7 +23,7 @@ pub data IsCounted (components subscriptions : ℕ) (sink sink' : SinkAt) (statu
   failed : status ≡ ends.OutsideFailed Sink → SentSome sink.contents sink'.contents (check_line components subscriptions) → Rose sink.faults sink'.faults → IsCounted components subscriptions sink sink' status
   lacks : status ≡ ends.NoMemory → sink' ≡ sink → IsCounted components subscriptions sink sink' status
 
--- nothing but files and sink was asked
+-- nothing but files and sink was asked; subscriptions are read without a port of the app too
 pub data IsCheck (given : Words) (world world' : WorldAt) (status : Status) : Type 0 where
-  refused : (e : ResourcesErr) → IsConfigured given.resources given.app world.files world'.files (Err e) → Says e status → world' ≡ record world { files = world'.files } → IsCheck given world world' status
-  counted : (resources : Resources) → IsConfigured given.resources given.app world.files world'.files (Ok resources) → IsCounted (length resources.components) (length (kept resources.components given.app resources.subscriptions)) world.sink world'.sink status → world' ≡ record world { files = world'.files; sink = world'.sink } → IsCheck given world world' status
+  refused : (e : ResourcesErr) → IsConfigured given.resources given.app true world.files world'.files (Err e) → Says e status → world' ≡ record world { files = world'.files } → IsCheck given world world' status
+  counted : (resources : Resources) → IsConfigured given.resources given.app true world.files world'.files (Ok resources) → IsCounted (length resources.components) (length (kept resources.components given.app resources.subscriptions)) world.sink world'.sink status → world' ≡ record world { files = world'.files; sink = world'.sink } → IsCheck given world world' status

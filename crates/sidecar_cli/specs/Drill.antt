@@ -34,7 +34,7 @@ use Rattle.sidecar_cli.specs.Status.{status_after}
 use Rattle.sidecar_cli.specs.World.{OutsideAt, WorldAt}
 use Rattle.sidecar_cli.specs.declared.status.Status.{Status}
 use Rattle.sidecar_cli.specs.declared.status.Status.TheVariants as ends
-use Rattle.sidecar_cli.specs.declared.status.Device.TheVariants.{Source, Sink, Files, Disk, Acceptor, Outside}
+use Rattle.sidecar_cli.specs.declared.status.Device.TheVariants.{Source, Sink, Files, Disk, Acceptor, Outside, Link}
 
 -- ---- what it begins with
 
@@ -97,6 +97,7 @@ stop_of (ends.OutsideFailed Files) = Some (ends.OutsideFailed Files)
 stop_of (ends.OutsideFailed Disk) = Some (ends.OutsideFailed Disk)
 stop_of (ends.OutsideFailed Acceptor) = Some (ends.OutsideFailed Acceptor)
 stop_of (ends.OutsideFailed Outside) = Some (ends.OutsideFailed Outside)
+stop_of (ends.OutsideFailed Link) = Some (ends.OutsideFailed Link)
 stop_of ends.NoMemory = Some ends.NoMemory
 stop_of ends.Limit = Some ends.Limit
 stop_of (ends.Spent count) = Some (ends.Spent count)
@@ -134,7 +135,7 @@ module _ {D : Type 0} {disking : Keeps D} {keeping : Ghosts (AnyKeeper D disking
 
   -- all objects were started, and then the session was served; or they were not
   pub data IsDrilled (config : Config) (bytes : List ℕ) (words : Stream) (outside outside' : OutsideAt) (result : Result Written Status) : Type 0 where
-    down : (status : Status) → IsDown disking config outside outside' status → result ≡ Err status → IsDrilled config bytes words outside outside' result
+    down : (status : Status) → IsDown disking config.components outside outside' status → result ≡ Err status → IsDrilled config bytes words outside outside' result
     up : (objects : Objects (AnyKeeper D disking) keeping) (pass : Pass (AnyKeeper D disking) keeping) (between : OutsideAt) → IsUp kinds config outside between objects pass
         → IsDrillSession config objects pass bytes words between outside' result → IsDrilled config bytes words outside outside' result
 

@@ -21,7 +21,7 @@ use Rattle.sidecar_cli.specs.World.{WorldAt}
 use Rattle.sidecar_cli.specs.declared.status.Status.{Status}
 use Rattle.sidecar_cli.specs.declared.status.Status.TheVariants as status
 use Rattle.sidecar_cli.specs.declared.status.Input.TheVariants.{Cut, Refused}
-use Rattle.sidecar_cli.specs.declared.status.Device.TheVariants.{Source, Sink, Files, Disk, Acceptor, Outside}
+use Rattle.sidecar_cli.specs.declared.status.Device.TheVariants.{Source, Sink, Files, Disk, Acceptor, Outside, Link}
 
 -- it ended between two requests, or with one that asked for it
 abbrev pub EndsBetween : Ended → Type 0
@@ -78,6 +78,7 @@ module _ {D : Type 0} {disking : Keeps D} {keeping : Ghosts (AnyKeeper D disking
   IsWhyOfDrill given world world' (status.OutsideFailed Disk) = ⊥
   IsWhyOfDrill given world world' (status.OutsideFailed Acceptor) = ⊥
   IsWhyOfDrill given world world' (status.OutsideFailed Outside) = ⊥
+  IsWhyOfDrill given world world' (status.OutsideFailed Link) = ⊥
   IsWhyOfDrill given world world' status.NoMemory = Unit {0}
   IsWhyOfDrill given world world' status.Limit = (out : List ℕ) × HasDrill given out ends.Limit None
   IsWhyOfDrill given world world' (status.Spent count) = IsSpentInDrill given count

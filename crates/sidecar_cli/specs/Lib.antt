@@ -4,6 +4,7 @@ pub mod Configured
 pub mod Counting
 pub mod Drill
 pub mod DrillCauses
+pub mod Fits
 pub mod Journals
 pub mod Lines
 pub mod Note
@@ -12,4 +13,5 @@ pub mod Run
 pub mod Serve
 pub mod ServeCauses
 pub mod Status
+pub mod Subscribed
 pub mod World

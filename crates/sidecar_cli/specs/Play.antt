@@ -1,9 +1,10 @@
--- A run on standard input: the random numbers, the resources, the keepers, the start, and one session.
-use Rattle.std.specs.Prelude.{◌≡◌, ℕ, List, [], ◌∷◌, ◌++◌, ◌⊎◌, Option, None, map, Ok, Err, codes, decimal}
+-- A run on standard input: the random numbers, the resources, the keepers, the list of the app, the start, one session, and the deliveries behind it.
+use Rattle.std.specs.Prelude.{◌≡◌, ℕ, List, [], ◌∷◌, ◌++◌, ◌⊎◌, Option, map, Ok, Err, codes, decimal}
 use Rattle.std.specs.Option.{option_or}
 use Rattle.side_world.specs.declared.disk.Disk.{Ghosts as Keeps}
 use Rattle.side_world.specs.Faults.{RoseWith}
 use Rattle.side_world.specs.Told.{Tells}
+use Rattle.link_call.specs.LinkAt.{LinkAt}
 use Rattle.rand_core.specs.Stream.{Stream}
 use Rattle.keeper_core.specs.declared.keeper.Keeper.{Ghosts}
 use Rattle.keeper_journal.specs.declared.any_keeper.AnyKeeper.{AnyKeeper}
@@ -13,6 +14,7 @@ use Rattle.state_core.specs.Store.{keeper_of}
 use Rattle.conn_serve.specs.declared.ended.Ended.{Ended}
 use Rattle.conn_serve.specs.Ends.{SinkAt}
 use Rattle.conn_serve.specs.Served.{Served}
+use Rattle.resource_spec.specs.Component.{Loaded}
 use Rattle.resource_files.specs.declared.resources.Resources.{Resources}
 use Rattle.resource_files.specs.declared.resources.ResourcesErr.{ResourcesErr}
 use Rattle.sidecar_keepers.specs.declared.starting.KeepersErr.{KeepersErr}
@@ -28,16 +30,22 @@ use Rattle.sidecar_core.specs.declared.shared.Shared.{Shared}
 use Rattle.sidecar_objects.specs.Passes.{IsSoundPass}
 use Rattle.sidecar_objects.specs.Kind.{Kinds}
 use Rattle.sidecar_objects.specs.Kind as kind
-use Rattle.sidecar_objects.specs.Did.{Did, Standing}
+use Rattle.sidecar_objects.specs.Did.{Did, Does, Standing}
+use Rattle.sidecar_objects.specs.declared.doing.Doing.{Doing}
+use Rattle.sidecar_objects.specs.declared.doing.Doing.TheVariants.{Timed}
 use Rattle.sidecar_objects.specs.Shown.{spent_of}
+use Rattle.sidecar_core.specs.Delivery.{DrainsIn}
 use Rattle.sidecar_core.specs.Exchange.{Exchange}
 use Rattle.sidecar_objects.specs.Pass.{cells_of, seats_of}
 use Rattle.sidecar_core.specs.Shown.{ShownFor}
 use Rattle.sidecar_core.specs.Started.{IsStarted}
+use Rattle.sidecar_turns.specs.declared.draining.Drained.{Drained}
+use Rattle.topic_spec.specs.declared.sub.Sub.{Sub}
 use Rattle.sidecar_words.specs.declared.given.Words.{Words}
-use Rattle.sidecar_cli.specs.Configured.{IsConfigured, Says}
+use Rattle.sidecar_cli.specs.Configured.{IsConfiguredFor, Says, config_of}
 use Rattle.sidecar_cli.specs.Counting.{IsTold}
-use Rattle.sidecar_cli.specs.Status.{status_after}
+use Rattle.sidecar_cli.specs.Status.{held_over, status_after}
+use Rattle.sidecar_cli.specs.Subscribed.{IsSubscribed}
 use Rattle.sidecar_cli.specs.World.{OutsideAt, WorldAt}
 use Rattle.sidecar_cli.specs.declared.status.Status.{Status}
 use Rattle.sidecar_cli.specs.declared.status.Status.TheVariants as ends
@@ -50,41 +58,86 @@ SaysOfKeepers lack.OutsideFailed status = status ≡ ends.OutsideFailed Outside
 SaysOfKeepers lack.DiskFailed status = status ≡ ends.OutsideFailed Disk
 SaysOfKeepers lack.NoMemory status = status ≡ ends.NoMemory
 
--- a keeper was made for each store, each disk taken once
-pub record AreKept {D : Type 0} (disking : Keeps D) (config : Config) (keepers : List (AnyKeeper D disking)) (outside outside' : OutsideAt) : Type 0 where
-  pub made : AreMade disking (stores_of config.components) keepers outside.disks outside'.disks
-  pub takes : Tells outside.calls outside'.calls (takes_of config.components)
+-- a keeper was made for each store of these components, each disk taken once
+pub record AreKept {D : Type 0} (disking : Keeps D) (components : List Loaded) (keepers : List (AnyKeeper D disking)) (outside outside' : OutsideAt) : Type 0 where
+  pub made : AreMade disking (stores_of components) keepers outside.disks outside'.disks
+  pub takes : Tells outside.calls outside'.calls (takes_of components)
   pub no_fault : outside'.faults ≡ outside.faults
+  pub numbers : outside'.numbers ≡ outside.numbers
+
+-- a keeper was refused, and this ends the run
+pub record AreUnkept {D : Type 0} (disking : Keeps D) (components : List Loaded) (outside outside' : OutsideAt) (status : Status) : Type 0 where
+  pub error : KeepersErr
+  pub refused : IsRefused disking components error outside.disks outside'.disks outside.calls outside'.calls
+  pub counts : Counts error outside.faults outside'.faults
+  pub numbers : outside'.numbers ≡ outside.numbers
+  pub says : SaysOfKeepers error status
+
+-- the disks of the keepers of these components' stores went back
+pub record WentBack {D : Type 0} (disking : Keeps D) (components : List Loaded) (keepers : List (AnyKeeper D disking)) (outside outside' : OutsideAt) : Type 0 where
+  pub back : AreBack disking (stores_of components) keepers outside.disks outside'.disks
+  pub faults : RoseWith (faults_on_disks disking keepers) outside.faults outside'.faults
+  pub calls : outside'.calls ≡ outside.calls
   pub numbers : outside'.numbers ≡ outside.numbers
 
 -- the objects were started over a keeper for each store; what holds of every seat holds of those of the pass
 pub record IsUp {D : Type 0} {disking : Keeps D} {keeping : Ghosts (AnyKeeper D disking)} (kinds : Kinds (Store (AnyKeeper D disking) keeping)) (config : Config) (outside outside' : OutsideAt) (objects : Objects (AnyKeeper D disking) keeping) (pass : Pass (AnyKeeper D disking) keeping) : Type 0 where
   pub keepers : List (AnyKeeper D disking)
-  pub kept : AreKept disking config keepers outside outside'
+  pub kept : AreKept disking config.components keepers outside outside'
   pub started : IsStarted config keepers config objects pass
   pub sound : IsSoundPass kinds (cells_of objects) (seats_of pass)
 
 -- a keeper was refused; or there was a keeper for each store, and no memory for the objects
-pub data IsDown {D : Type 0} (disking : Keeps D) (config : Config) (outside outside' : OutsideAt) (status : Status) : Type 0 where
-  refused : (e : KeepersErr) → IsRefused disking config.components e outside.disks outside'.disks outside.calls outside'.calls → Counts e outside.faults outside'.faults → outside'.numbers ≡ outside.numbers → SaysOfKeepers e status → IsDown disking config outside outside' status
-  lacks : (keepers : List (AnyKeeper D disking)) → AreKept disking config keepers outside outside' → status ≡ ends.NoMemory → IsDown disking config outside outside' status
+pub data IsDown {D : Type 0} (disking : Keeps D) (components : List Loaded) (outside outside' : OutsideAt) (status : Status) : Type 0 where
+  refused : AreUnkept disking components outside outside' status → IsDown disking components outside outside' status
+  lacks : (keepers : List (AnyKeeper D disking)) → AreKept disking components keepers outside outside' → status ≡ ends.NoMemory → IsDown disking components outside outside' status
+
+-- the subscriptions were had, and a run by these words over these resources is configured so
+pub record IsConfiguredBy (given : Words) (resources : Resources) (link link' : LinkAt) (config : Config) : Type 0 where
+  pub subs : List Sub
+  pub subscribed : IsSubscribed given.app_port resources.subscriptions link link' (Ok subs)
+  pub same : config ≡ config_of given resources subs
+
+-- How a run ends that has a keeper for each store, and whose objects were not started: the subscriptions were not had, and the disks went back; or there was no memory for the objects
+pub data IsDownOver {D : Type 0} (disking : Keeps D) (given : Words) (resources : Resources) (keepers : List (AnyKeeper D disking)) (outside outside' : OutsideAt) (link link' : LinkAt) (status : Status) : Type 0 where
+  unlisted : IsSubscribed given.app_port resources.subscriptions link link' (Err status) → WentBack disking resources.components keepers outside outside' → IsDownOver disking given resources keepers outside outside' link link' status
+  lacks : (config : Config) → IsConfiguredBy given resources link link' config → outside' ≡ outside → status ≡ ends.NoMemory → IsDownOver disking given resources keepers outside outside' link link' status
+
+-- the same of a run that begins: or a keeper was refused, and the app was not asked
+pub data IsDownBeside {D : Type 0} (disking : Keeps D) (given : Words) (resources : Resources) (outside outside' : OutsideAt) (link link' : LinkAt) (status : Status) : Type 0 where
+  unkept : AreUnkept disking resources.components outside outside' status → link' ≡ link → IsDownBeside disking given resources outside outside' link link' status
+  kept : (keepers : List (AnyKeeper D disking)) (between : OutsideAt) → AreKept disking resources.components keepers outside between → IsDownOver disking given resources keepers between outside' link link' status
+      → IsDownBeside disking given resources outside outside' link link' status
+
+-- what a drain did: a moment was read, and from there on what was due was delivered
+pub record DrainsFromNow (config : Config) (events : List Doing) (how : Drained) : Type 0 where
+  pub began : ℕ
+  pub turns : List Doing
+  pub whole : events ≡ Timed began ∷ turns
+  pub drains : DrainsIn config began turns how
 
 module _ {D : Type 0} {disking : Keeps D} {keeping : Ghosts (AnyKeeper D disking)} (kinds : Kinds (Store (AnyKeeper D disking) keeping)) where
   -- what a pass and all that it works with show
   abbrev pub standing_at : Pass (AnyKeeper D disking) keeping → WorldAt → Stream → Standing (Store (AnyKeeper D disking) keeping)
   standing_at pass world words = record { seats = seats_of pass; clock = world.clock; link = world.link; words = words }
 
-  -- one session over these objects was served by this pass, with random words from here on; files, the outside and the note were not asked
-  pub record IsServed (config : Config) (objects : Objects (AnyKeeper D disking) keeping) (pass after : Pass (AnyKeeper D disking) keeping) (words : Stream) (world world' : WorldAt) (ended : Ended) : Type 0 where
-    pub rest : Stream
+  -- one session over these objects was served by this pass, with random words from here on, of which these are left; files, the outside and the note were not asked
+  pub record IsServed (config : Config) (objects : Objects (AnyKeeper D disking) keeping) (pass after : Pass (AnyKeeper D disking) keeping) (words rest : Stream) (world world' : WorldAt) (ended : Ended) : Type 0 where
     pub served : Served (Exchange config) (λ events. Did kinds (cells_of objects) (standing_at pass world words) events (standing_at after world' rest)) (ShownFor config (seats_of after)) world.source world'.source world.sink world'.sink ended
     pub files : world'.files ≡ world.files
     pub outside : world'.outside ≡ world.outside
     pub note : world'.note ≡ world.note
 
   -- one session over what all passes share was
-  abbrev pub IsServedBy : Shared (AnyKeeper D disking) keeping → Pass (AnyKeeper D disking) keeping → Pass (AnyKeeper D disking) keeping → Stream → WorldAt → WorldAt → Ended → Type 0
+  abbrev pub IsServedBy : Shared (AnyKeeper D disking) keeping → Pass (AnyKeeper D disking) keeping → Pass (AnyKeeper D disking) keeping → Stream → Stream → WorldAt → WorldAt → Ended → Type 0
   IsServedBy shared = IsServed shared.config shared.objects
+
+  -- what was due behind a session was delivered by this pass, with the random words from here on; nothing was read or written by the source, the sink and the note, and
+  -- neither files nor the outside were asked
+  pub record IsDrained (config : Config) (objects : Objects (AnyKeeper D disking) keeping) (pass after : Pass (AnyKeeper D disking) keeping) (words : Stream) (world world' : WorldAt) (how : Drained) : Type 0 where
+    pub rest : Stream
+    pub does : Does kinds (cells_of objects) (standing_at pass world words) (standing_at after world' rest) (λ events. DrainsFromNow config events how)
+    pub only : world' ≡ record world { link = world'.link; clock = world'.clock }
 
   -- the cells were closed by this pass, and the disks of the stores' keepers went back
   pub record IsClosed (config : Config) (objects : Objects (AnyKeeper D disking) keeping) (pass : Pass (AnyKeeper D disking) keeping) (outside outside' : OutsideAt) : Type 0 where
@@ -105,28 +158,33 @@ module _ {D : Type 0} {disking : Keeps D} {keeping : Ghosts (AnyKeeper D disking
     pub sound : IsSoundPass kinds (cells_of objects) (seats_of last)
     pub closed : IsClosed config objects last outside outside'
 
-  -- One session over objects that were just started, by their pass; then all was counted, told and closed
+  -- One session over objects that were just started, by their pass; then what was due was delivered; and then all was counted, told and closed
   pub record IsSession (config : Config) (objects : Objects (AnyKeeper D disking) keeping) (pass : Pass (AnyKeeper D disking) keeping) (words : Stream) (world world' : WorldAt) (status : Status) : Type 0 where
     pub after : Pass (AnyKeeper D disking) keeping
     pub between : WorldAt
     pub ended : Ended
+    pub more : Stream
+    pub served : IsServed config objects pass after words more world between ended
+    pub idle : Pass (AnyKeeper D disking) keeping
+    pub later : WorldAt
+    pub how : Drained
+    pub drained : IsDrained config objects after idle more between later how
     pub spent : Option ℕ
-    pub served : IsServed config objects pass after words world between ended
-    pub finished : IsFinished config objects after between.note world'.note between.outside world'.outside spent
-    pub rest : world' ≡ record between { note = world'.note; outside = world'.outside }
-    pub ends : status ≡ status_after ended spent
+    pub finished : IsFinished config objects idle later.note world'.note later.outside world'.outside spent
+    pub rest : world' ≡ record later { note = world'.note; outside = world'.outside }
+    pub ends : status ≡ held_over how (status_after ended spent)
 
   -- all objects were started, and then the session was played; or they were not, and nothing was read
-  pub data IsKept (config : Config) (words : Stream) (world world' : WorldAt) (status : Status) : Type 0 where
-    down : IsDown disking config world.outside world'.outside status → world' ≡ record world { outside = world'.outside } → IsKept config words world world' status
-    up : (objects : Objects (AnyKeeper D disking) keeping) (pass : Pass (AnyKeeper D disking) keeping) (between : WorldAt) → IsUp kinds config world.outside between.outside objects pass → between ≡ record world { outside = between.outside }
-        → IsSession config objects pass words between world' status → IsKept config words world world' status
+  pub data IsKept (given : Words) (resources : Resources) (words : Stream) (world world' : WorldAt) (status : Status) : Type 0 where
+    down : IsDownBeside disking given resources world.outside world'.outside world.link world'.link status → world' ≡ record world { outside = world'.outside; link = world'.link } → IsKept given resources words world world' status
+    up : (config : Config) (objects : Objects (AnyKeeper D disking) keeping) (pass : Pass (AnyKeeper D disking) keeping) (between : WorldAt) → IsConfiguredBy given resources world.link between.link config → IsUp kinds config world.outside between.outside objects pass
+        → between ≡ record world { outside = between.outside; link = between.link } → IsSession config objects pass words between world' status → IsKept given resources words world world' status
 
   -- the resources were read, and then all objects were started; or they were refused, and nothing else was done
   pub data IsBegun (given : Words) (words : Stream) (world world' : WorldAt) (status : Status) : Type 0 where
-    refused : (e : ResourcesErr) → IsConfigured given.resources given.app world.files world'.files (Err e) → Says e status → world' ≡ record world { files = world'.files } → IsBegun given words world world' status
-    read : (resources : Resources) (between : WorldAt) → IsConfigured given.resources given.app world.files between.files (Ok resources) → between ≡ record world { files = between.files }
-        → IsKept (record { app = given.app; app_port = None; peers = given.peers; components = resources.components; subs = []; policies = resources.policies }) words between world' status → IsBegun given words world world' status
+    refused : (e : ResourcesErr) → IsConfiguredFor given world.files world'.files (Err e) → Says e status → world' ≡ record world { files = world'.files } → IsBegun given words world world' status
+    read : (resources : Resources) (between : WorldAt) → IsConfiguredFor given world.files between.files (Ok resources) → between ≡ record world { files = between.files }
+        → IsKept given resources words between world' status → IsBegun given words world world' status
 
   -- three numbers were asked for: that of the random words, and two for the secret bytes
   pub record IsPlay (words_of : ℕ → Stream) (given : Words) (world world' : WorldAt) (status : Status) : Type 0 where

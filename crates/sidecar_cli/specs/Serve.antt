@@ -1,8 +1,9 @@
--- A run that serves on a port: the random numbers, the resources, the keepers, the start, the workers, and how it ends.
+-- A run that serves on a port: the random numbers, the resources, the keepers, the list of the app, the start, the workers, and how it ends.
 use Rattle.std.specs.Prelude.{◌≡◌, ℕ, List, [], ◌∷◌, ◌++◌, length, map, Option, Some, None, Ok, Err}
 use Rattle.std.specs.Option.{option_or}
 use Rattle.side_world.specs.declared.disk.Disk.{Ghosts as Keeps}
 use Rattle.side_world.specs.Told.{Tells}
+use Rattle.link_call.specs.LinkAt.{LinkAt}
 use Rattle.rand_core.specs.Stream.{Stream}
 use Rattle.keeper_core.specs.declared.keeper.Keeper.{Ghosts}
 use Rattle.keeper_journal.specs.declared.any_keeper.AnyKeeper.{AnyKeeper}
@@ -19,8 +20,8 @@ use Rattle.sidecar_serving.specs.declared.end.End.{End}
 use Rattle.sidecar_serving.specs.declared.end.End.TheVariants as ended
 use Rattle.sidecar_serving.specs.Served.{IsServed}
 use Rattle.sidecar_words.specs.declared.given.Words.{Words}
-use Rattle.sidecar_cli.specs.Configured.{IsConfigured, Says}
-use Rattle.sidecar_cli.specs.Play.{IsClosed, IsDown, IsFinished, IsUp}
+use Rattle.sidecar_cli.specs.Configured.{IsConfiguredFor, Says}
+use Rattle.sidecar_cli.specs.Play.{IsClosed, IsConfiguredBy, IsDownBeside, IsFinished, IsUp}
 use Rattle.sidecar_cli.specs.Status.{spent_or}
 use Rattle.sidecar_cli.specs.World.{OutsideAt, WorldAt, secret_of}
 use Rattle.sidecar_cli.specs.declared.status.Status.{Status}
@@ -75,17 +76,16 @@ module _ {D : Type 0} {disking : Keeps D} {keeping : Ghosts (AnyKeeper D disking
         → IsClosed kinds config objects after between outside' → note' ≡ note → IsServing config objects pass port words note note' outside outside' status
 
   -- all objects were started, and then they were served; or they were not
-  pub data IsKeptServing (config : Config) (port : ℕ) (words : List Stream) (note note' : SinkAt) (outside outside' : OutsideAt) (status : Status) : Type 0 where
-    down : IsDown disking config outside outside' status → note' ≡ note → IsKeptServing config port words note note' outside outside' status
-    up : (objects : Objects (AnyKeeper D disking) keeping) (pass : Pass (AnyKeeper D disking) keeping) (between : OutsideAt) → IsUp kinds config outside between objects pass → IsServing config objects pass port words note note' between outside' status
-        → IsKeptServing config port words note note' outside outside' status
+  pub data IsKeptServing (given : Words) (resources : Resources) (words : List Stream) (link link' : LinkAt) (note note' : SinkAt) (outside outside' : OutsideAt) (status : Status) : Type 0 where
+    down : IsDownBeside disking given resources outside outside' link link' status → note' ≡ note → IsKeptServing given resources words link link' note note' outside outside' status
+    up : (config : Config) (objects : Objects (AnyKeeper D disking) keeping) (pass : Pass (AnyKeeper D disking) keeping) (between : OutsideAt) → IsConfiguredBy given resources link link' config → IsUp kinds config outside between objects pass
+        → IsServing config objects pass given.port words note note' between outside' status → IsKeptServing given resources words link link' note note' outside outside' status
 
   -- the resources were read, and then all objects were started; or they were refused, and nothing else was done
   pub data IsBegunServing (given : Words) (words : List Stream) (world world' : WorldAt) (status : Status) : Type 0 where
-    refused : (e : ResourcesErr) → IsConfigured given.resources given.app world.files world'.files (Err e) → Says e status → world' ≡ record world { files = world'.files } → IsBegunServing given words world world' status
-    read : (resources : Resources) → IsConfigured given.resources given.app world.files world'.files (Ok resources)
-        → IsKeptServing (record { app = given.app; app_port = None; peers = given.peers; components = resources.components; subs = []; policies = resources.policies }) given.port words world.note world'.note world.outside world'.outside status
-        → world' ≡ record world { files = world'.files; note = world'.note; outside = world'.outside } → IsBegunServing given words world world' status
+    refused : (e : ResourcesErr) → IsConfiguredFor given world.files world'.files (Err e) → Says e status → world' ≡ record world { files = world'.files } → IsBegunServing given words world world' status
+    read : (resources : Resources) → IsConfiguredFor given world.files world'.files (Ok resources) → IsKeptServing given resources words world.link world'.link world.note world'.note world.outside world'.outside status
+        → world' ≡ record world { files = world'.files; link = world'.link; note = world'.note; outside = world'.outside } → IsBegunServing given words world world' status
 
   -- a number was asked for the random words of each worker, in order, and two for the secret bytes; or there was no memory, and none was asked for
   pub data IsServe (words_of : ℕ → Stream) (given : Words) (world world' : WorldAt) (status : Status) : Type 0 where

@@ -24,12 +24,12 @@ use Rattle.sidecar_serving.specs.Passes.{root_pass}
 use Rattle.sidecar_serving.specs.Served.{WereMet}
 use Rattle.sidecar_serving.specs.Worker.{EndsWith}
 use Rattle.sidecar_words.specs.declared.given.Words.{Words}
-use Rattle.sidecar_cli.specs.Causes.{HasFault, IsFileRefused, IsFull, IsJournalRefused, IsUntouched}
+use Rattle.sidecar_cli.specs.Causes.{HasFault, IsFileRefused, IsFull, IsJournalRefused, IsListRefused, IsUntouched}
 use Rattle.sidecar_cli.specs.Counting.{IsTold}
 use Rattle.sidecar_cli.specs.World.{OutsideAt, WorldAt}
 use Rattle.sidecar_cli.specs.declared.status.Status.{Status}
 use Rattle.sidecar_cli.specs.declared.status.Status.TheVariants as status
-use Rattle.sidecar_cli.specs.declared.status.Device.TheVariants.{Acceptor, Disk, Files, Outside, Sink, Source}
+use Rattle.sidecar_cli.specs.declared.status.Device.TheVariants.{Acceptor, Disk, Files, Link, Outside, Sink, Source}
 
 -- a count of faults rose, and it may have risen again behind that
 abbrev pub RoseOnce : ℕ → ℕ → Type 0
@@ -112,13 +112,14 @@ module _ {D : Type 0} {disking : Keeps D} {keeping : Ghosts (AnyKeeper D disking
   IsWhyOfServing given world world' status.Ok = (serving : HasServing world world' None) × All (λ w. IsWellEnded w.ended) serving.workers
   IsWhyOfServing given world world' (status.BadInput input) = ⊥
   IsWhyOfServing given world world' status.Usage = ⊥
-  IsWhyOfServing given world world' (status.BadResources text) = IsFileRefused given world.files world'.files text ⊎ IsJournalRefused disking given world world' text
+  IsWhyOfServing given world world' (status.BadResources text) = IsFileRefused given world.files world'.files text ⊎ (IsJournalRefused disking given world world' text ⊎ IsListRefused given world world' text)
   IsWhyOfServing given world world' (status.OutsideFailed Source) = ⊥
   IsWhyOfServing given world world' (status.OutsideFailed Sink) = ⊥
   IsWhyOfServing given world world' (status.OutsideFailed Files) = HasFault Files world world'
   IsWhyOfServing given world world' (status.OutsideFailed Disk) = HasFault Disk world world'
   IsWhyOfServing given world world' (status.OutsideFailed Acceptor) = HasFailedAcceptor world world'
   IsWhyOfServing given world world' (status.OutsideFailed Outside) = RoseOnce world.outside.faults world'.outside.faults × IsUntouched world world'
+  IsWhyOfServing given world world' (status.OutsideFailed Link) = HasFault Link world world'
   IsWhyOfServing given world world' status.NoMemory = Unit {0}
   IsWhyOfServing given world world' status.Limit = ⊥
   IsWhyOfServing given world world' (status.Spent count) = IsSpentInServing world world' count
@@ -127,8 +128,10 @@ module _ {D : Type 0} {disking : Keeps D} {keeping : Ghosts (AnyKeeper D disking
   pub record AllIsWellOfServing (given : Words) (world world' : WorldAt) : Type 0 where
     pub files : (text : List ℕ) → ¬ IsFileRefused given world.files world'.files text
     pub journals : (text : List ℕ) → ¬ IsJournalRefused disking given world world' text
+    pub lists : (text : List ℕ) → ¬ IsListRefused given world world' text
     pub read : ¬ HasFault Files world world'
     pub disks : ¬ HasFault Disk world world'
+    pub app : ¬ HasFault Link world world'
     pub outside : ¬ RoseOnce world.outside.faults world'.outside.faults
     pub acceptors : ¬ HasFailedAcceptor world world'
     pub fresh : (count : ℕ) → ¬ IsSpentInServing world world' count

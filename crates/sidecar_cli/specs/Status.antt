@@ -4,11 +4,13 @@ use Rattle.std.specs.Option.{option_or}
 use Rattle.conn_serve.specs.declared.ended.Ended.{Ended}
 use Rattle.conn_serve.specs.declared.ended.Ended.TheVariants as ends
 use Rattle.http_frames.specs.Refusals.{refused_name}
+use Rattle.sidecar_turns.specs.declared.draining.Drained.{Drained}
+use Rattle.sidecar_turns.specs.declared.draining.Drained.TheVariants as drained
 use Rattle.sidecar_cli.specs.declared.status.Status.{Status}
 use Rattle.sidecar_cli.specs.declared.status.Status.TheVariants.{Ok, BadInput, Usage, BadResources, OutsideFailed, NoMemory, Limit, Spent}
 use Rattle.sidecar_cli.specs.declared.status.Input.TheVariants.{Cut, Refused}
 use Rattle.sidecar_cli.specs.declared.status.Device.{Device}
-use Rattle.sidecar_cli.specs.declared.status.Device.TheVariants.{Source, Sink, Files, Disk, Acceptor, Outside}
+use Rattle.sidecar_cli.specs.declared.status.Device.TheVariants.{Source, Sink, Files, Disk, Acceptor, Outside, Link}
 
 abbrev pub code_of : Status → ℕ
 code_of Ok = 0
@@ -27,6 +29,7 @@ name_of Files = codes "files"
 name_of Disk = codes "disk"
 name_of Acceptor = codes "acceptor"
 name_of Outside = codes "outside"
+name_of Link = codes "link"
 
 -- a line of two parts, with its end
 abbrev pub line_of : List ℕ → List ℕ → List ℕ
@@ -77,3 +80,8 @@ spent_or (Some count) status = Spent count
 -- how a run ends whose connection ended so, where this was read in an exhausted cell, if there is one
 abbrev pub status_after : Ended → Option ℕ → Status
 status_after ended spent = spent_or (option_or (spent_in ended) spent) (status_of ended)
+
+-- and then what is due was delivered: a run that would have ended well ends for want of memory where a delivery found none
+abbrev pub held_over : Drained → Status → Status
+held_over drained.Held Ok = NoMemory
+held_over how status = status

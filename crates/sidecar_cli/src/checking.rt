@@ -21,7 +21,7 @@ pub(crate) fn check<S: Source, N: Sink, E: Sink, F: Files, L: Link, C: Clock, O:
 ) -> Status
     ensures { OverWorld S.Source N.Sink E.Sink F.Files L.Link C.Clock O.Outside (IsCheck given.now) world.old world.new result }
 {
-    match configured(alloc, &mut world.files, &given.resources, &given.app) {
+    match configured(alloc, &mut world.files, &given.resources, &given.app, true) {
         Ok(resources) => {
             let Resources {
                 components,

@@ -11,17 +11,18 @@ use side_base::{Blob, NoMemory, Text};
 use side_world::Files;
 use std::alloc::Global;
 
-/// The resources for an app: those of the files of a folder, or without a folder a store and a broker in memory.
+/// The resources for an app: those of the files of a folder, of which subscriptions are read or passed over, or without a folder a store and a broker in memory.
 pub(crate) fn configured<F: Files>(
     alloc: Global,
     files: &mut F,
     folder: &Option<Text>,
     app: &Text,
+    subscribing: bool,
 ) -> Result<Resources, ResourcesErr>
-    ensures { IsConfigured folder.now app.now (files_at F.Files files.old) (files_at F.Files files.new) result }
+    ensures { IsConfigured folder.now app.now subscribing (files_at F.Files files.old) (files_at F.Files files.new) result }
 {
     match folder {
-        Some(folder) => read_resources(alloc, files, folder.bytes(), app, true),
+        Some(folder) => read_resources(alloc, files, folder.bytes(), app, subscribing),
         None => match usual_resources(alloc, app) {
             Ok(resources) => Ok(resources),
             Err(NoMemory) => Err(ResourcesErr::NoMemory),

@@ -1,5 +1,5 @@
 //! What holds of a run, as functions whose contract is the law.
-ghost use Rattle.std.specs.Prelude.{◌≡◌, ◌<◌, ◌-◌, ◌^◌, ℕ, List, Option, Ok};
+ghost use Rattle.std.specs.Prelude.{◌≡◌, ◌<◌, ◌-◌, ◌^◌, ℕ, Bool, List, Option, Ok};
 ghost use Rattle.std.specs.List.{flat_map};
 ghost use Rattle.side_world.specs.Told.{Told};
 ghost use Rattle.conn_serve.specs.Ends.{SinkAt};
@@ -46,7 +46,7 @@ pub fn runs_end_well<D: Disk + Send>()
 
 /// The journals that are configured have paths of their own, so that no disk is taken twice.
 pub fn configured_journals_have_own_paths()
-    ensures { (folder : Option (List ℕ)) (app : List ℕ) (files files' : FilesAt) (resources : Resources) → IsConfigured folder app files files' (Ok resources) → AreApart (paths_of (stores_of resources.components)) }
+    ensures { (folder : Option (List ℕ)) (app : List ℕ) (subscribing : Bool) (files files' : FilesAt) (resources : Resources) → IsConfigured folder app subscribing files files' (Ok resources) → AreApart (paths_of (stores_of resources.components)) }
 {}
 
 /// The file of each journal holds after a run what it said before it, then the commits of its store's history, in order, and then at most one more; at other

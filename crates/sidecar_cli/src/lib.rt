@@ -1,8 +1,8 @@
 //! The program: its words become a command, which is run over the world that is given to it.
 //!
 //! - `world` is all that a run has of the outside, and `status` how it ends, with the line that the note gets.
-//! - `running` runs the command: `configuring` reads what is configured, `checking` says how much that is, and `playing` answers the requests
-//!   of one connection over the objects that `starting` made; `drilling` answers generated ones; behind it `counting` tells the note what each ledger counts. `noting` writes a part of a line.
+//! - `running` runs the command: `configuring` reads what is configured, `subscribing` asks the app for its list, `checking` says how much that is, and `playing` answers the requests
+//!   of one connection, and delivers what is due behind them, over the objects that `starting` made; `drilling` answers generated ones; behind it `counting` tells the note what each ledger counts. `noting` writes a part of a line.
 //! - `laws` are what holds of a run, as functions whose contract is the law.
 #![tactic(auto)]
 
@@ -17,6 +17,7 @@ mod running;
 mod serving;
 mod starting;
 mod status;
+mod subscribing;
 mod world;
 
 pub use running::sidecar_main;

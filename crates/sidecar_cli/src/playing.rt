@@ -2,30 +2,30 @@ ghost use Rattle.std.specs.Prelude.{◌≡◌, ◌∷◌, [], ℕ, length, map};
 ghost use Rattle.side_world.specs.Told.{Tells};
 ghost use Rattle.state_core.specs.Store.{keeper_of};
 ghost use Rattle.sidecar_objects.specs.Passes.{IsLone, IsPassOf, IsSoundPass};
-ghost use Rattle.sidecar_objects.specs.Pass.{cells_of, seats_of};
+ghost use Rattle.sidecar_objects.specs.Pass.{DoesBy, cells_of, seats_of};
 ghost use Rattle.sidecar_core.specs.Started.{IsRoomFor};
 ghost use Rattle.sidecar_keepers.specs.Kinds.{AllFit};
 ghost use Rattle.sidecar_keepers.specs.Stores.{stores_of};
-ghost use Rattle.sidecar_cli.specs.Play.{IsBegun, IsClosed, IsFinished, IsKept, IsPlay, IsServedBy, IsSession};
+ghost use Rattle.sidecar_cli.specs.Play.{DrainsFromNow, IsBegun, IsClosed, IsFinished, IsKept, IsPlay, IsServedBy, IsSession};
 ghost use Rattle.sidecar_cli.specs.World.{OverOutside, OverWorld, outside_at, secret_of, words_by};
 
 use crate::configuring::{configured, without_resources};
 use crate::counting::tell_ledgers;
-use crate::starting::start_objects;
-use crate::status::status_after;
+use crate::starting::start_beside_app;
+use crate::status::{held_over, status_after};
 use crate::{Status, World};
 use conn_serve::{Buffers, Ended};
 use keeper_journal::AnyKeeper;
 use rand_core::{Rng, SeedableRng};
 use rand_pcg::Pcg64;
-use side_world::{Clock, Files, Link, Outside, Sink, Source};
-use sidecar_core::{Config, ObjectKinds, Pass, Room, Shared, serve_connection};
+use resource_files::Resources;
+use side_world::{Clock, Disk, Files, Link, Outside, Sink, Source};
+use sidecar_core::{Drained, ObjectKinds, Pass, Room, Shared, drain, serve_connection};
 use sidecar_keepers::give_back;
 use sidecar_words::Words;
 use state_core::Store;
 use std::alloc::Global;
 use std::sync::Wait;
-use topic_spec::Subs;
 
 /// Answers the requests of the one connection of the source and the sink, over stores that are started for it.
 pub(crate) fn play<S: Source, N: Sink, E: Sink, F: Files, L: Link, C: Clock, O: Outside, W: Wait>(
@@ -73,18 +73,14 @@ fn begin<S: Source, N: Sink, E: Sink, F: Files, L: Link, C: Clock, O: Outside, R
 ) -> Status
     ensures { OverWorld S.Source N.Sink E.Sink F.Files L.Link C.Clock O.Outside (IsBegun ⟦<Store<AnyKeeper<O::Disk>> as ObjectKinds>⟧.kinds given (R.stream rng.old)) world.old world.new result }
 {
-    match configured(alloc, &mut world.files, &given.resources, &given.app) {
-        Ok(resources) => {
-            let config = Config {
-                app: given.app,
-                app_port: None,
-                peers: given.peers,
-                components: resources.components,
-                subs: Subs::new(alloc),
-                policies: resources.policies,
-            };
-            keep(rt, alloc, config, secret, rng, world)
-        }
+    match configured(
+        alloc,
+        &mut world.files,
+        &given.resources,
+        &given.app,
+        given.app_port.is_some(),
+    ) {
+        Ok(resources) => keep(rt, alloc, given, resources, secret, rng, world),
         Err(error) => without_resources(alloc, error),
     }
 }
@@ -93,20 +89,28 @@ fn begin<S: Source, N: Sink, E: Sink, F: Files, L: Link, C: Clock, O: Outside, R
 fn keep<S: Source, N: Sink, E: Sink, F: Files, L: Link, C: Clock, O: Outside, R: Rng, W: Wait>(
     rt: &W,
     alloc: Global,
-    config: Config,
+    given: Words,
+    resources: Resources,
     secret: [u8; 16],
     rng: &mut R,
     world: &mut World<S, N, E, F, L, C, O>,
 ) -> Status
-    ensures { OverWorld S.Source N.Sink E.Sink F.Files L.Link C.Clock O.Outside (IsKept ⟦<Store<AnyKeeper<O::Disk>> as ObjectKinds>⟧.kinds config (R.stream rng.old)) world.old world.new result }
+    ensures { OverWorld S.Source N.Sink E.Sink F.Files L.Link C.Clock O.Outside (IsKept ⟦<Store<AnyKeeper<O::Disk>> as ObjectKinds>⟧.kinds given resources (R.stream rng.old)) world.old world.new result }
 {
-    match start_objects(alloc, config, secret, &mut world.outside) {
+    match start_beside_app(
+        alloc,
+        given,
+        resources,
+        secret,
+        &mut world.link,
+        &mut world.outside,
+    ) {
         Ok(up) => session(rt, alloc, up.shared, up.pass, up.room, rng, world),
         Err(status) => status,
     }
 }
 
-/// Plays the session by a pass that is alone, tells the counts of the ledgers, ends the cells, and gives the disks back.
+/// Plays the session by a pass that is alone, delivers what is due, tells the counts of the ledgers, ends the cells, and gives the disks back.
 fn session<S: Source, N: Sink, E: Sink, F: Files, L: Link, C: Clock, O: Outside, R: Rng, W: Wait>(
     rt: &W,
     alloc: Global,
@@ -124,8 +128,16 @@ fn session<S: Source, N: Sink, E: Sink, F: Files, L: Link, C: Clock, O: Outside,
     ensures { OverWorld S.Source N.Sink E.Sink F.Files L.Link C.Clock O.Outside (IsSession ⟦<Store<AnyKeeper<O::Disk>> as ObjectKinds>⟧.kinds shared.config shared.objects pass (R.stream rng.old)) world.old world.new result }
 {
     let ended = served(rt, alloc, &shared, &mut pass, rng, world);
+    let how = drained(
+        rt,
+        &shared,
+        &mut pass,
+        &mut world.link,
+        &mut world.clock,
+        rng,
+    );
     let spent = finish(rt, shared, pass, room, &mut world.note, &mut world.outside);
-    status_after(ended, spent)
+    held_over(how, status_after(ended, spent))
 }
 
 /// Answers the requests of the one connection.
@@ -138,7 +150,7 @@ fn served<S: Source, N: Sink, E: Sink, F: Files, L: Link, C: Clock, O: Outside, 
     world: &mut World<S, N, E, F, L, C, O>,
 ) -> Ended
     requires { IsPassOf (cells_of shared.now.objects) (seats_of pass.old) }
-    ensures served { OverWorld S.Source N.Sink E.Sink F.Files L.Link C.Clock O.Outside (IsServedBy ⟦<Store<AnyKeeper<O::Disk>> as ObjectKinds>⟧.kinds shared.now pass.old pass.new (R.stream rng.old)) world.old world.new result }
+    ensures served { OverWorld S.Source N.Sink E.Sink F.Files L.Link C.Clock O.Outside (IsServedBy ⟦<Store<AnyKeeper<O::Disk>> as ObjectKinds>⟧.kinds shared.now pass.old pass.new (R.stream rng.old) (R.stream rng.new)) world.old world.new result }
     ensures pass { IsPassOf (cells_of shared.now.objects) (seats_of pass.new) }
 {
     let mut buffers = Buffers::new(alloc);
@@ -153,6 +165,23 @@ fn served<S: Source, N: Sink, E: Sink, F: Files, L: Link, C: Clock, O: Outside, 
         &mut world.clock,
         rng,
     )
+}
+
+/// Delivers what is due, and what soon will be, from now on.
+fn drained<D: Disk, L: Link, C: Clock, R: Rng, W: Wait>(
+    rt: &W,
+    shared: &Shared<AnyKeeper<D>>,
+    pass: &mut Pass<AnyKeeper<D>>,
+    link: &mut L,
+    clock: &mut C,
+    rng: &mut R,
+) -> Drained
+    requires { IsPassOf (cells_of shared.now.objects) (seats_of pass.old) }
+    ensures does { DoesBy ⟦<Store<AnyKeeper<D>> as ObjectKinds>⟧.kinds L.Link C.Clock R.stream shared.now.objects pass.old pass.new link.old link.new clock.old clock.new rng.old rng.new (DrainsFromNow shared.now.config) result }
+    ensures pass { IsPassOf (cells_of shared.now.objects) (seats_of pass.new) }
+{
+    let began = clock.now();
+    drain(rt, shared, pass, began, link, clock, rng)
 }
 
 /// Tells the counts of the ledgers by a pass that is alone, ends the cells, and gives the disks back. Answers the first count that a seat of the pass shows of an

@@ -1,5 +1,6 @@
 ghost use Rattle.std.specs.Prelude.{◌≡◌, ◌<◌, ℕ, List, IfOk, OnErr, length, map};
 ghost use Rattle.rand_core.specs.Stream.{Stream};
+ghost use Rattle.link_call.specs.LinkAt.{link_at};
 ghost use Rattle.side_world.specs.Told.{Tells};
 ghost use Rattle.state_core.specs.Store.{keeper_of};
 ghost use Rattle.sidecar_objects.specs.Passes.{IsLone, IsPassOf, IsSoundPass};
@@ -13,21 +14,21 @@ ghost use Rattle.sidecar_cli.specs.World.{OverOutside, OverWorld, words_by};
 
 use crate::configuring::{configured, without_resources};
 use crate::playing::{close, finish, secret};
-use crate::starting::{Started, start_objects};
+use crate::starting::start_beside_app;
 use crate::{Device, Status, World};
 use keeper_journal::AnyKeeper;
 use rand_core::{Rng, SeedableRng};
 use rand_pcg::Pcg64;
+use resource_files::Resources;
 use side_base::NoMemory;
 use side_world::{Clock, Files, FreeGate, Link, Outside, Sink, Source};
-use sidecar_core::{Config, ObjectKinds, Pass, Room, Shared};
+use sidecar_core::{ObjectKinds, Pass, Room, Shared};
 use sidecar_serving::{End, serve};
 use sidecar_words::Words;
 use state_core::Store;
 use std::alloc::Global;
 use std::sync::Wait;
 use std::thread::Threads;
-use topic_spec::Subs;
 
 /// What workers begin with: a generator of random words for each, and the secret bytes of the keepers.
 #[derive(Drop)]
@@ -120,47 +121,45 @@ fn begin<
     requires { length rngs.items < 65535 }
     ensures { OverWorld S.Source N.Sink E.Sink F.Files L.Link C.Clock O.Outside (IsBegunServing ⟦<Store<AnyKeeper<O::Disk>> as ObjectKinds>⟧.kinds given (map R.stream rngs.items)) world.old world.new result }
 {
-    let port = given.port;
-    match configured(alloc, &mut world.files, &given.resources, &given.app) {
-        Ok(resources) => {
-            let config = Config {
-                app: given.app,
-                app_port: None,
-                peers: given.peers,
-                components: resources.components,
-                subs: Subs::new(alloc),
-                policies: resources.policies,
-            };
-            keep(
-                rt,
-                alloc,
-                config,
-                secret,
-                port,
-                rngs,
-                &mut world.note,
-                &mut world.outside,
-            )
-        }
+    match configured(
+        alloc,
+        &mut world.files,
+        &given.resources,
+        &given.app,
+        given.app_port.is_some(),
+    ) {
+        Ok(resources) => keep(
+            rt,
+            alloc,
+            given,
+            resources,
+            secret,
+            rngs,
+            &mut world.link,
+            &mut world.note,
+            &mut world.outside,
+        ),
         Err(error) => without_resources(alloc, error),
     }
 }
 
 /// Starts all objects, and serves over them.
-fn keep<E: Sink, O: Outside, R: Rng + Drop + Send, W: Threads + Wait + Sync>(
+fn keep<L: Link, E: Sink, O: Outside, R: Rng + Drop + Send, W: Threads + Wait + Sync>(
     rt: &W,
     alloc: Global,
-    config: Config,
+    given: Words,
+    resources: Resources,
     secret: [u8; 16],
-    port: u16,
     rngs: Vec<R>,
+    link: &mut L,
     note: &mut E,
     outside: &mut O,
 ) -> Status
     requires { length rngs.items < 65535 }
-    ensures { OverOutside E.Sink O.Outside (IsKeptServing ⟦<Store<AnyKeeper<O::Disk>> as ObjectKinds>⟧.kinds config port (map R.stream rngs.items)) note.old note.new outside.old outside.new result }
+    ensures { OverOutside E.Sink O.Outside (IsKeptServing ⟦<Store<AnyKeeper<O::Disk>> as ObjectKinds>⟧.kinds given resources (map R.stream rngs.items) (link_at L.Link link.old) (link_at L.Link link.new)) note.old note.new outside.old outside.new result }
 {
-    match start_objects(alloc, config, secret, outside) {
+    let port = given.port;
+    match start_beside_app(alloc, given, resources, secret, link, outside) {
         Ok(up) => serve_over(
             rt, alloc, up.shared, up.pass, up.room, port, rngs, note, outside,
         ),

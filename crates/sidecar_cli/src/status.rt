@@ -1,6 +1,6 @@
 ghost use Rattle.std.specs.Prelude.{◌≡◌, ◌≤◌, OnOk, OnErr};
 ghost use Rattle.conn_serve.specs.Ends.{Cut, Sent, sink_at};
-ghost use Rattle.sidecar_cli.specs.Status.{code_of, line_of, name_of, text_of, spent_in, status_after, status_of};
+ghost use Rattle.sidecar_cli.specs.Status.{code_of, held_over, line_of, name_of, text_of, spent_in, status_after, status_of};
 ghost use Rattle.sidecar_cli.specs.Note.{IsNoted};
 
 use crate::noting::part;
@@ -9,6 +9,7 @@ use http_frames::FrameErr;
 use itoa::Buffer;
 use side_base::Blob;
 use side_world::{Failed, Sink};
+use sidecar_core::Drained;
 
 /// Why the input of a run on standard input is bad.
 #[derive(Clone, Copy, Debug, PartialEq, Eq)]
@@ -28,6 +29,7 @@ pub enum Device {
     Disk,
     Acceptor,
     Outside,
+    Link,
 }
 
 /// How a run ended.
@@ -40,9 +42,9 @@ pub enum Status {
     BadInput(Input),
     /// 2: the words of the command line are refused; nothing was read.
     Usage,
-    /// 3: a resource file or a journal is refused: which one, and why.
+    /// 3: a resource file, a journal or the list of the app is refused: which one, and why.
     BadResources { text: Blob },
-    /// 4: the count of faults of this part of the outside rose.
+    /// 4: the count of faults of this part of the outside rose, or that of expiries of the link.
     OutsideFailed(Device),
     /// 5: there was no memory.
     NoMemory,
@@ -102,6 +104,7 @@ fn name_of(device: Device) -> &'static [u8]
         Device::Disk => b"disk",
         Device::Acceptor => b"acceptor",
         Device::Outside => b"outside",
+        Device::Link => b"link",
     }
 }
 
@@ -146,6 +149,16 @@ pub(crate) fn status_after(ended: Ended, spent: Option<u64>) -> Status
     match spent_in(ended).or(spent) {
         Some(count) => Status::Spent { count },
         None => status_of(ended),
+    }
+}
+
+/// How a run ended that would have ended so, where deliveries behind its connection ended so.
+pub(crate) fn held_over(drained: Drained, status: Status) -> Status
+    ensures { result ≡ held_over drained status }
+{
+    match (drained, status) {
+        (Drained::Held, Status::Ok) => Status::NoMemory,
+        (_, status) => status,
     }
 }
 

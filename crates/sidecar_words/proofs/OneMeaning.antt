@@ -6,7 +6,7 @@ use Rattle.app_peers.specs.Peers.{Writes as Lists, is_comma}
 use Rattle.app_peers.specs.declared.peer.Peer.{Peer}
 use Rattle.clap.specs.Lexer.{long_of}
 use Rattle.sidecar_words.specs.Spelling.{Pair, IsOnce, Spells, Writes, options, flags}
-use Rattle.sidecar_words.specs.Value.{ArePeers, IsNumberOr}
+use Rattle.sidecar_words.specs.Value.{ArePeers, IsNumberIfAny, IsNumberOr}
 use Rattle.sidecar_words.specs.Meaning.{Gives, IsMode, Means, Options, options_of}
 use Rattle.sidecar_words.specs.Found.{GivesValues, HoldsOf}
 use Rattle.sidecar_words.specs.declared.given.Mode.{Mode}
@@ -86,6 +86,12 @@ one_number : (most usual : ℕ) (value : Option Text) (one other : ℕ) → IsNu
 one_number most usual None one other a b = a ∙ sym b
 one_number most usual (Some text) one other a b = a.value ∙ sym b.value
 
+one_if_any : (most : ℕ) (value : Option Text) (one other : Option ℕ) → IsNumberIfAny most value one → IsNumberIfAny most value other → one ≡ other
+one_if_any most None one other a b = a ∙ sym b
+one_if_any most (Some text) None other a b = absurd a
+one_if_any most (Some text) (Some one) None a b = absurd b
+one_if_any most (Some text) (Some one) (Some other) a b = ap Some (a.value ∙ sym b.value)
+
 all_one : (items : List Text) (one other : List Peer) → AllZip Lists items one → AllZip Lists items other → one ≡ other
 all_one [] [] [] a b = refl
 all_one [] [] (y ∷ ys) a b = absurd b
@@ -116,10 +122,11 @@ one_given options one other a b =
     let app : one.app ≡ other.app = ap (some_in one.app) (sym a.app_is ∙ b.app_is) in
     let resources : one.resources ≡ other.resources = sym a.resources_are ∙ b.resources_are in
     let port : one.port ≡ other.port = one_number 65535 3500 _ one.port other.port a.port_is b.port_is in
+    let app_port : one.app_port ≡ other.app_port = one_if_any 65535 options.app_port one.app_port other.app_port a.app_port_is b.app_port_is in
     let workers : one.workers ≡ other.workers = one_number 64 4 _ one.workers other.workers a.workers_are b.workers_are in
     let peers : one.peers ≡ other.peers = one_list one.app options.peers one.peers other.peers a.peers_are (subst (λ (own : Text). ArePeers own options.peers other.peers) (sym app) b.peers_are) in
     let mode : one.mode ≡ other.mode = one_mode options.stdio options.check options.drill one.mode other.mode a.mode_is b.mode_is in
-    λ i. record { app = app i; resources = resources i; port = port i; workers = workers i; peers = peers i; mode = mode i }
+    λ i. record { app = app i; resources = resources i; port = port i; app_port = app_port i; workers = workers i; peers = peers i; mode = mode i }
 
 pub one_meaning : (words : List Text) (one other : Words) → Means words one → Means words other → one ≡ other
 one_meaning words one other (pairs, spelled, once, gives) (others, respelled, again, regives) =

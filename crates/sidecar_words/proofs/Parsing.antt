@@ -191,9 +191,10 @@ found_pairs words a m values is_app plain matches kinds found =
         app = (found.app ∙ value (codes "app-id") (0, omega arith, refl)) i;
         resources = (found.resources ∙ value (codes "resources-path") (1, omega arith, refl)) i;
         port = (found.port ∙ value (codes "dapr-http-port") (2, omega arith, refl)) i;
-        workers = (found.workers ∙ value (codes "workers") (3, omega arith, refl)) i;
-        peers = (found.peers ∙ value (codes "peers") (4, omega arith, refl)) i;
-        drill = (found.drill ∙ value (codes "drill") (5, omega arith, refl)) i;
+        app_port = (found.app_port ∙ value (codes "app-port") (3, omega arith, refl)) i;
+        workers = (found.workers ∙ value (codes "workers") (4, omega arith, refl)) i;
+        peers = (found.peers ∙ value (codes "peers") (5, omega arith, refl)) i;
+        drill = (found.drill ∙ value (codes "drill") (6, omega arith, refl)) i;
         stdio = flag (codes "stdio") values.stdio (0, omega arith, refl) found.stdio i;
         check = flag (codes "check") values.check (1, omega arith, refl) found.check i;
       },

@@ -14,6 +14,7 @@ shown values = record {
   app = text_of values.app;
   resources = text_of values.resources;
   port = text_of values.port;
+  app_port = text_of values.app_port;
   workers = text_of values.workers;
   peers = text_of values.peers;
   drill = text_of values.drill;
@@ -39,6 +40,7 @@ pub record IsFound (found : Found) (values : Values) : Type 0 where
   pub app : text_of values.app ≡ first_value found (codes "app-id")
   pub resources : text_of values.resources ≡ first_value found (codes "resources-path")
   pub port : text_of values.port ≡ first_value found (codes "dapr-http-port")
+  pub app_port : text_of values.app_port ≡ first_value found (codes "app-port")
   pub workers : text_of values.workers ≡ first_value found (codes "workers")
   pub peers : text_of values.peers ≡ first_value found (codes "peers")
   pub drill : text_of values.drill ≡ first_value found (codes "drill")

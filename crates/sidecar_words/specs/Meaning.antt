@@ -1,7 +1,7 @@
 -- What the words of the command line mean.
 use Rattle.std.specs.Prelude.{◌≡◌, ◌-◌, ◌^◌, ℕ, Bool, true, false, List, ◌∷◌, ◌++◌, Option, Some, None, codes, is_some}
 use Rattle.sidecar_words.specs.Spelling.{options, flags, Spells, IsOnce, Pair, value_of, stands}
-use Rattle.sidecar_words.specs.Value.{ArePeers, IsAppId, IsCount, IsNumberOr, IsFilled}
+use Rattle.sidecar_words.specs.Value.{ArePeers, IsAppId, IsCount, IsNumberIfAny, IsNumberOr, IsFilled}
 use Rattle.sidecar_words.specs.declared.given.Mode.{Mode}
 use Rattle.sidecar_words.specs.declared.given.Mode.TheVariants.{Stdio, Check, Drill, Serve}
 use Rattle.sidecar_words.specs.declared.given.Words.{Words}
@@ -11,6 +11,7 @@ pub record Options : Type 0 where
   pub app : Option (List ℕ)
   pub resources : Option (List ℕ)
   pub port : Option (List ℕ)
+  pub app_port : Option (List ℕ)
   pub workers : Option (List ℕ)
   pub peers : Option (List ℕ)
   pub drill : Option (List ℕ)
@@ -23,6 +24,7 @@ options_of pairs = record {
   app = value_of pairs (codes "app-id");
   resources = value_of pairs (codes "resources-path");
   port = value_of pairs (codes "dapr-http-port");
+  app_port = value_of pairs (codes "app-port");
   workers = value_of pairs (codes "workers");
   peers = value_of pairs (codes "peers");
   drill = value_of pairs (codes "drill");
@@ -61,6 +63,7 @@ pub record Gives (options : Options) (given : Words) : Type 0 where
   pub resources_are : options.resources ≡ given.resources
   pub resources_filled : IsFilled given.resources
   pub port_is : IsNumberOr 65535 3500 options.port given.port
+  pub app_port_is : IsNumberIfAny 65535 options.app_port given.app_port
   pub workers_are : IsNumberOr 64 4 options.workers given.workers
   pub peers_are : ArePeers given.app options.peers given.peers
   pub mode_is : IsMode options.stdio options.check options.drill given.mode

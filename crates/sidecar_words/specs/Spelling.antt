@@ -5,7 +5,7 @@ use Rattle.std.specs.Str.{bytes_eq}
 
 -- the names that take a value, and those that stand alone
 abbrev pub options : List (List ℕ)
-options = codes "app-id" ∷ codes "resources-path" ∷ codes "dapr-http-port" ∷ codes "workers" ∷ codes "peers" ∷ codes "drill" ∷ []
+options = codes "app-id" ∷ codes "resources-path" ∷ codes "dapr-http-port" ∷ codes "app-port" ∷ codes "workers" ∷ codes "peers" ∷ codes "drill" ∷ []
 
 abbrev pub flags : List (List ℕ)
 flags = codes "stdio" ∷ codes "check" ∷ []

@@ -33,6 +33,12 @@ abbrev pub IsNumberOr : ℕ → ℕ → Option (List ℕ) → ℕ → Type 0
 IsNumberOr most usual None number = number ≡ usual
 IsNumberOr most usual (Some text) number = IsNumber most text number
 
+-- the number is the one that the value writes, and there is none where there is no value
+abbrev pub IsNumberIfAny : ℕ → Option (List ℕ) → Option ℕ → Type 0
+IsNumberIfAny most None number = number ≡ None
+IsNumberIfAny most (Some text) None = ⊥
+IsNumberIfAny most (Some text) (Some number) = IsNumber most text number
+
 -- the apps are those that the value lists, beside the own app, and there are none where there is no value
 abbrev pub ArePeers : List ℕ → Option (List ℕ) → List Peer → Type 0
 ArePeers own None peers = peers ≡ []

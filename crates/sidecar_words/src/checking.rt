@@ -1,8 +1,9 @@
-ghost use Rattle.std.specs.Prelude.{◌≡◌, ◌↔◌, ℕ, IfOk, IfSome, IfNone, IsTrue, IsErrOf, List, is_some, true};
+ghost use Rattle.std.specs.Prelude.{◌≡◌, ◌↔◌, ℕ, IfOk, IfErr, IfSome, IfNone, IsTrue, IsErrOf, List, Option, is_some, true};
 ghost use Rattle.app_peers.specs.declared.peer.Peer.{Peer};
-ghost use Rattle.sidecar_words.specs.Value.{ArePeers, IsAppId, IsNumber, IsNumberOr, IsFilled, is_app_id_byte, text_of};
+ghost use Rattle.sidecar_words.specs.Value.{ArePeers, IsAppId, IsNumber, IsNumberIfAny, IsNumberOr, IsFilled, is_app_id_byte, text_of};
 ghost use Rattle.sidecar_words.specs.Meaning.{IsMode};
 ghost use Rattle.sidecar_words.specs.Found.{GivesValues};
+ghost use Rattle.sidecar_words.specs.declared.given.WordsErr.TheVariants as errors;
 ghost use Rattle.sidecar_words.specs.declared.given.Words.{Words};
 
 use crate::drilling::drill_of;
@@ -27,6 +28,7 @@ pub(crate) struct Values<'a> {
     pub(crate) app: Option<&'a str>,
     pub(crate) resources: Option<&'a str>,
     pub(crate) port: Option<&'a str>,
+    pub(crate) app_port: Option<&'a str>,
     pub(crate) workers: Option<&'a str>,
     pub(crate) peers: Option<&'a str>,
     pub(crate) drill: Option<&'a str>,
@@ -41,6 +43,7 @@ pub(crate) fn words_of(alloc: Global, values: &Values<'_>) -> Result<Words, Word
 {
     let app = app_id(values.app).ok_or(WordsErr::Usage)?;
     let port = number_or(USUAL_PORT, values.port, PORT_LIMIT).ok_or(WordsErr::Usage)?;
+    let app_port = app_port_of(values.app_port)?;
     let workers = number_or(USUAL_WORKERS, values.workers, WORKERS_LIMIT).ok_or(WordsErr::Usage)?;
     let mode = mode_of(values.stdio, values.check, values.drill).ok_or(WordsErr::Usage)?;
     if !fits(values.resources, mode) {
@@ -51,6 +54,7 @@ pub(crate) fn words_of(alloc: Global, values: &Values<'_>) -> Result<Words, Word
         app: Text::from_str(alloc, app)?,
         resources: copy(alloc, values.resources)?,
         port,
+        app_port,
         workers: u32::from(workers),
         peers,
         mode,
@@ -111,6 +115,20 @@ fn number_or(usual: u16, value: Option<&str>, limit: u16) -> Option<u16>
     match value {
         Some(text) => number(text, limit),
         None => Some(usual),
+    }
+}
+
+/// The port of the app that a value writes, and none where there is no value.
+fn app_port_of(value: Option<&str>) -> Result<Option<u16>, WordsErr>
+    ensures ok { IfOk result (IsNumberIfAny 65535 (text_of value.entry)) }
+    ensures refused { IfErr result (λ error. (error ≡ errors.Usage) × ((port : Option ℕ) → ¬ IsNumberIfAny 65535 (text_of value.entry) port)) }
+{
+    match value {
+        Some(text) => match number(text, PORT_LIMIT) {
+            Some(port) => Ok(Some(port)),
+            None => Err(WordsErr::Usage),
+        },
+        None => Ok(None),
     }
 }
 

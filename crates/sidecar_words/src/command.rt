@@ -13,6 +13,7 @@ pub(crate) fn command<'a>(alloc: Global) -> Result<Command<'a>, AllocError>
         .arg(option(alloc, "app-id"))?
         .arg(option(alloc, "resources-path"))?
         .arg(option(alloc, "dapr-http-port"))?
+        .arg(option(alloc, "app-port"))?
         .arg(option(alloc, "workers"))?
         .arg(option(alloc, "peers"))?
         .arg(option(alloc, "drill"))?

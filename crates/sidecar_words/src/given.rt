@@ -32,6 +32,8 @@ pub struct Words {
     pub resources: Option<Text>,
     /// The port to serve on, 1 to 65535.
     pub port: u16,
+    /// The port where the app takes calls, 1 to 65535; without one it takes none.
+    pub app_port: Option<u16>,
     /// How many workers serve, 1 to 64.
     pub workers: u32,
     /// The other apps that may be called by their ids, at most 256, none of them of the name of this app.

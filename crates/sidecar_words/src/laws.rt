@@ -20,9 +20,9 @@ pub fn words_are_plain()
 
 /// The definition at words that are written out.
 pub fn words_of_examples()
-    ensures stdio { Means (codes "--app-id" ∷ codes "a" ∷ codes "--stdio" ∷ []) (record { app = codes "a"; resources = None; port = 3500; workers = 4; peers = []; mode = Mode.Stdio }) }
-    ensures serving { Means (codes "--workers=64" ∷ codes "--app-id=--b" ∷ []) (record { app = codes "--b"; resources = None; port = 3500; workers = 64; peers = []; mode = Mode.Serve }) }
-    ensures drill { Means (codes "--app-id" ∷ codes "a" ∷ codes "--drill" ∷ codes "05,1000" ∷ []) (record { app = codes "a"; resources = None; port = 3500; workers = 4; peers = []; mode = Mode.Drill 5 1000 }) }
+    ensures stdio { Means (codes "--app-id" ∷ codes "a" ∷ codes "--stdio" ∷ []) (record { app = codes "a"; resources = None; port = 3500; app_port = None; workers = 4; peers = []; mode = Mode.Stdio }) }
+    ensures serving { Means (codes "--workers=64" ∷ codes "--app-id=--b" ∷ []) (record { app = codes "--b"; resources = None; port = 3500; app_port = None; workers = 64; peers = []; mode = Mode.Serve }) }
+    ensures drill { Means (codes "--app-id" ∷ codes "a" ∷ codes "--drill" ∷ codes "05,1000" ∷ []) (record { app = codes "a"; resources = None; port = 3500; app_port = None; workers = 4; peers = []; mode = Mode.Drill 5 1000 }) }
     ensures no_app { (given : WordsRecord) → ¬ Means (codes "--stdio" ∷ []) given }
     ensures twice { (given : WordsRecord) → ¬ Means (codes "--app-id" ∷ codes "a" ∷ codes "--app-id" ∷ codes "b" ∷ []) given }
     ensures two_modes { (given : WordsRecord) → ¬ Means (codes "--app-id" ∷ codes "a" ∷ codes "--stdio" ∷ codes "--check" ∷ []) given }

@@ -77,6 +77,7 @@ fn found<'a>(matches: &ArgMatches<'a>) -> Values<'a>
         app: matches.get_str("app-id"),
         resources: matches.get_str("resources-path"),
         port: matches.get_str("dapr-http-port"),
+        app_port: matches.get_str("app-port"),
         workers: matches.get_str("workers"),
         peers: matches.get_str("peers"),
         drill: matches.get_str("drill"),

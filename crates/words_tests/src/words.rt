@@ -3,21 +3,21 @@ use sidecar_words::{Mode, Words, WordsErr, read_words};
 use std::alloc::Global;
 use std::test::Fail;
 
-/// Words, and behind the arrow what they mean: app id, folder or `-`, port, workers, peers or `-`, mode, and of a drill its two numbers; or `usage`.
-static ROWS: [&str; 95] = [
-    "--app-id a --stdio => a - 3500 4 - stdio",
-    "--app-id=a --stdio => a - 3500 4 - stdio",
-    "--stdio --app-id a => a - 3500 4 - stdio",
-    "--app-id a => a - 3500 4 - serve",
-    "--app-id a --resources-path d --check => a d 3500 4 - check",
-    "--check --resources-path=d --app-id=a => a d 3500 4 - check",
-    "--app-id a --dapr-http-port 1 --workers 64 => a - 1 64 - serve",
-    "--dapr-http-port=65535 --app-id aZ09_- --workers=1 --stdio => aZ09_- - 65535 1 - stdio",
-    "--app-id=--stdio => --stdio - 3500 4 - serve",
-    "--app-id=-a => -a - 3500 4 - serve",
-    "--app-id a --resources-path=x=y => a x=y 3500 4 - serve",
-    "--app-id a --resources-path=-d => a -d 3500 4 - serve",
-    "--app-id 0123456789012345678901234567890123456789012345678901234567890123 => 0123456789012345678901234567890123456789012345678901234567890123 - 3500 4 - serve",
+/// Words, and behind the arrow what they mean: app id, folder or `-`, port, port of the app or `-`, workers, peers or `-`, mode, and of a drill its two numbers; or `usage`.
+static ROWS: [&str; 109] = [
+    "--app-id a --stdio => a - 3500 - 4 - stdio",
+    "--app-id=a --stdio => a - 3500 - 4 - stdio",
+    "--stdio --app-id a => a - 3500 - 4 - stdio",
+    "--app-id a => a - 3500 - 4 - serve",
+    "--app-id a --resources-path d --check => a d 3500 - 4 - check",
+    "--check --resources-path=d --app-id=a => a d 3500 - 4 - check",
+    "--app-id a --dapr-http-port 1 --workers 64 => a - 1 - 64 - serve",
+    "--dapr-http-port=65535 --app-id aZ09_- --workers=1 --stdio => aZ09_- - 65535 - 1 - stdio",
+    "--app-id=--stdio => --stdio - 3500 - 4 - serve",
+    "--app-id=-a => -a - 3500 - 4 - serve",
+    "--app-id a --resources-path=x=y => a x=y 3500 - 4 - serve",
+    "--app-id a --resources-path=-d => a -d 3500 - 4 - serve",
+    "--app-id 0123456789012345678901234567890123456789012345678901234567890123 => 0123456789012345678901234567890123456789012345678901234567890123 - 3500 - 4 - serve",
     "--app-id 01234567890123456789012345678901234567890123456789012345678901234 => usage",
     "--stdio => usage",
     "--app-id a --stdio --check => usage",
@@ -53,10 +53,24 @@ static ROWS: [&str; 95] = [
     "--app-id a --workers 65 => usage",
     "--app-id a --help => usage",
     "--app-id a --version => usage",
-    "--app-id a --app-port 80 => usage",
-    "--app-id a --peers b=c:1 => a - 3500 4 b=c:1 serve",
-    "--app-id a --peers=b=127.0.0.1:65535,c-_9=host.of-c:1 --stdio => a - 3500 4 b=127.0.0.1:65535,c-_9=host.of-c:1 stdio",
-    "--peers b=c:1 --app-id a --drill 0,1 => a - 3500 4 b=c:1 drill 0 1",
+    "--app-id a --app-port 8080 => a - 3500 8080 4 - serve",
+    "--app-port=1 --app-id a --stdio => a - 3500 1 4 - stdio",
+    "--app-id a --app-port 65535 --dapr-http-port 65535 => a - 65535 65535 4 - serve",
+    "--app-id a --app-port 80 --resources-path d --check => a d 3500 80 4 - check",
+    "--app-id a --app-port 80 --drill 1,0 => a - 3500 80 4 - drill 1 0",
+    "--app-id a --app-port 0 => usage",
+    "--app-id a --app-port 65536 => usage",
+    "--app-id a --app-port 080 => usage",
+    "--app-id a --app-port +80 => usage",
+    "--app-id a --app-port=-80 => usage",
+    "--app-id a --app-port 80x => usage",
+    "--app-id a --app-port= => usage",
+    "--app-id a --app-port => usage",
+    "--app-port 80 => usage",
+    "--app-id a --app-port 80 --app-port 80 => usage",
+    "--app-id a --peers b=c:1 => a - 3500 - 4 b=c:1 serve",
+    "--app-id a --peers=b=127.0.0.1:65535,c-_9=host.of-c:1 --stdio => a - 3500 - 4 b=127.0.0.1:65535,c-_9=host.of-c:1 stdio",
+    "--peers b=c:1 --app-id a --drill 0,1 => a - 3500 - 4 b=c:1 drill 0 1",
     "--app-id a --peers a=c:1 => usage",
     "--app-id a --peers b=c:1,a=c:1 => usage",
     "--app-id a --peers b=c:1,b=d:2 => usage",
@@ -74,10 +88,10 @@ static ROWS: [&str; 95] = [
     "--app-id a --peers => usage",
     "--peers b=c:1 => usage",
     "--app-id a --peers b=c:1 --peers d=e:2 => usage",
-    "--app-id a --drill 1,0 => a - 3500 4 - drill 1 0",
-    "--drill=18446744073709551615,99999 --app-id a => a - 3500 4 - drill 18446744073709551615 99999",
-    "--app-id a --drill=007,0000005 => a - 3500 4 - drill 7 5",
-    "--app-id a --resources-path d --dapr-http-port 80 --workers 2 --drill 1,1 => a d 80 2 - drill 1 1",
+    "--app-id a --drill 1,0 => a - 3500 - 4 - drill 1 0",
+    "--drill=18446744073709551615,99999 --app-id a => a - 3500 - 4 - drill 18446744073709551615 99999",
+    "--app-id a --drill=007,0000005 => a - 3500 - 4 - drill 7 5",
+    "--app-id a --resources-path d --dapr-http-port 80 --workers 2 --drill 1,1 => a d 80 - 2 - drill 1 1",
     "--drill 1,0 => usage",
     "--app-id a --drill => usage",
     "--app-id a --drill= => usage",
@@ -136,15 +150,23 @@ fn peers_shown(alloc: Global, words: &Words) -> Result<String, NoMemory> {
     Ok(text)
 }
 
+fn app_port_shown(alloc: Global, words: &Words) -> Result<String, NoMemory> {
+    match words.app_port {
+        Some(port) => format!(in alloc; "{port}"),
+        None => String::from_str(alloc, "-"),
+    }
+}
+
 fn shown(alloc: Global, words: &Words) -> Result<String, NoMemory> {
     let folder = match &words.resources {
         Some(folder) => folder.as_str(),
         None => "-",
     };
     format!(in alloc;
-        "{} {folder} {} {} {} {}",
+        "{} {folder} {} {} {} {} {}",
         words.app.as_str(),
         words.port,
+        app_port_shown(alloc, words)?.as_str(),
         words.workers,
         peers_shown(alloc, words)?.as_str(),
         mode_shown(alloc, words.mode)?

@@ -1,6 +1,5 @@
 use Rattle.std.proofs.Common.{refl}
 use Rattle.sidecar_cli.specs.Play.{down, up}
-use Rattle.sidecar_cli.proofs.Fitting.{session_of}
 use Rattle.sidecar_cli.proofs.playing.keep.Goals as goal
 
 pub session-requires-clause-pass : goal.session-requires-clause-pass
@@ -19,7 +18,7 @@ pub session-requires-clause-fit : goal.session-requires-clause-fit
 session-requires-clause-fit g c κs within = c.in-Ok.ensures.fit
 
 pub returns-in-Ok : goal.returns-in-Ok
-returns-in-Ok g c = up c.in-Ok.up.shared.objects c.in-Ok.up.pass _ c.in-Ok.ensures.up refl (session_of c.in-Ok.ensures.same c.session.ensures)
+returns-in-Ok g c = up c.in-Ok.up.shared.config c.in-Ok.up.shared.objects c.in-Ok.up.pass _ c.in-Ok.ensures.configured c.in-Ok.ensures.up refl c.session.ensures
 
 pub returns-in-Err : goal.returns-in-Err
 returns-in-Err g c = down c.in-Err.ensures.down refl

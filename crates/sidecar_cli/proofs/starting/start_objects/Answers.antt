@@ -10,4 +10,4 @@ pub returns-in-Ok-clause-down : goal.returns-in-Ok-clause-down
 returns-in-Ok-clause-down g c = down_without _ c.over.ensures.lacks (record { made = c.in-Ok.ensures.made; takes = c.in-Ok.ensures.takes; no_fault = c.in-Ok.ensures.no_fault; numbers = c.start_keepers.ensures.numbers })
 
 pub returns-in-Err-clause-down : goal.returns-in-Err-clause-down
-returns-in-Err-clause-down g c = refused c.in-Err.error c.in-Err.ensures.refused c.in-Err.ensures.counts c.start_keepers.ensures.numbers c.without_keepers.ensures
+returns-in-Err-clause-down g c = refused (record { error = c.in-Err.error; refused = c.in-Err.ensures.refused; counts = c.in-Err.ensures.counts; numbers = c.start_keepers.ensures.numbers; says = c.without_keepers.ensures })

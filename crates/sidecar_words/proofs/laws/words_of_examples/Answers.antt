@@ -85,6 +85,7 @@ returns c = record {
       resources_are = refl;
       resources_filled = tt;
       port_is = refl;
+      app_port_is = refl;
       workers_are = refl;
       peers_are = refl;
       mode_is = refl;
@@ -93,7 +94,7 @@ returns c = record {
   );
   serving = (
     (codes "workers", Some (codes "64")) ∷ app (codes "--b") ∷ [],
-    (codes "--workers=64" ∷ [], codes "--app-id=--b" ∷ [], refl, ((3, omega arith, refl), inl refl), (codes "--app-id=--b" ∷ [], [], refl, ((0, omega arith, refl), inl refl), refl)),
+    (codes "--workers=64" ∷ [], codes "--app-id=--b" ∷ [], refl, ((4, omega arith, refl), inl refl), (codes "--app-id=--b" ∷ [], [], refl, ((0, omega arith, refl), inl refl), refl)),
     once_more ((codes "workers", Some (codes "64")) ∷ []) (app (codes "--b")) (once_more [] (codes "workers", Some (codes "64")) none_once refl) refl,
     record {
       app_is = refl;
@@ -101,6 +102,7 @@ returns c = record {
       resources_are = refl;
       resources_filled = tt;
       port_is = refl;
+      app_port_is = refl;
       workers_are = sixty_four;
       peers_are = refl;
       mode_is = refl;
@@ -110,7 +112,7 @@ returns c = record {
   drill = (
     app (codes "a") ∷ (codes "drill", Some (codes "05,1000")) ∷ [],
     spells_app (codes "--drill" ∷ codes "05,1000" ∷ []) ((codes "drill", Some (codes "05,1000")) ∷ [])
-        (codes "--drill" ∷ codes "05,1000" ∷ [], [], refl, ((5, omega arith, refl), inr (refl, refl)), refl),
+        (codes "--drill" ∷ codes "05,1000" ∷ [], [], refl, ((6, omega arith, refl), inr (refl, refl)), refl),
     once_more (app (codes "a") ∷ []) (codes "drill", Some (codes "05,1000")) (once_more [] (app (codes "a")) none_once refl) refl,
     record {
       app_is = refl;
@@ -118,6 +120,7 @@ returns c = record {
       resources_are = refl;
       resources_filled = tt;
       port_is = refl;
+      app_port_is = refl;
       workers_are = refl;
       peers_are = refl;
       mode_is = record { first = codes "05"; second = codes "1000"; form = refl; numbers = (five, thousand) };

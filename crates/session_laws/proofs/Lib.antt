@@ -1,0 +1,9 @@
+mod Routed
+mod Seen
+mod LastTries
+mod Calling
+mod Binding
+mod Publishing
+mod Storing
+mod Passing
+mod Noting
