@@ -1,14 +1,13 @@
 -- The names of the codes.
 use Rattle.std.specs.Prelude.{ℕ, List, codes}
 use Rattle.api_error.specs.declared.code.Code.{Code}
-use Rattle.api_error.specs.declared.code.Code.TheVariants.{BadRequest, NotFound, MethodNotAllowed, MalformedRequest, NotYet, StateStoreNotFound, StateGet, StateBulkGet, StateSave, StateDelete, StateTransaction, DirectInvoke, InvokeOutputBinding, PubsubNotFound, PubsubForbidden, PubsubCloudEventsSer, PubsubPublishMessage, ActorInvokeMethod, ActorState, MetadataFull, Spent, NoMemory}
+use Rattle.api_error.specs.declared.code.Code.TheVariants.{BadRequest, NotFound, MethodNotAllowed, MalformedRequest, StateStoreNotFound, StateGet, StateBulkGet, StateSave, StateDelete, StateTransaction, DirectInvoke, InvokeOutputBinding, PubsubNotFound, PubsubForbidden, PubsubCloudEventsSer, PubsubPublishMessage, ActorInvokeMethod, ActorState, MetadataFull, Spent, NoMemory}
 
 abbrev pub code_name : Code → List ℕ
 code_name BadRequest = codes "ERR_BAD_REQUEST"
 code_name NotFound = codes "ERR_NOT_FOUND"
 code_name MethodNotAllowed = codes "ERR_METHOD_NOT_ALLOWED"
 code_name MalformedRequest = codes "ERR_MALFORMED_REQUEST"
-code_name NotYet = codes "ERR_NOT_YET"
 code_name StateStoreNotFound = codes "ERR_STATE_STORE_NOT_FOUND"
 code_name StateGet = codes "ERR_STATE_GET"
 code_name StateBulkGet = codes "ERR_STATE_BULK_GET"

@@ -12,8 +12,6 @@ pub enum Code {
     MethodNotAllowed,
     /// The request's path or body is not of the route's form.
     MalformedRequest,
-    /// The route is not served yet.
-    NotYet,
     /// There is no state component of the name.
     StateStoreNotFound,
     /// A read of a key was refused.
@@ -60,7 +58,6 @@ impl Code {
             Code::NotFound => "ERR_NOT_FOUND",
             Code::MethodNotAllowed => "ERR_METHOD_NOT_ALLOWED",
             Code::MalformedRequest => "ERR_MALFORMED_REQUEST",
-            Code::NotYet => "ERR_NOT_YET",
             Code::StateStoreNotFound => "ERR_STATE_STORE_NOT_FOUND",
             Code::StateGet => "ERR_STATE_GET",
             Code::StateBulkGet => "ERR_STATE_BULK_GET",

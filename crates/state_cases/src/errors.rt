@@ -7,12 +7,11 @@ use case_text::first_word;
 use side_base::Text;
 use std::alloc::Global;
 
-const CODES: [Code; 22] = [
+const CODES: [Code; 21] = [
     Code::BadRequest,
     Code::NotFound,
     Code::MethodNotAllowed,
     Code::MalformedRequest,
-    Code::NotYet,
     Code::StateStoreNotFound,
     Code::StateGet,
     Code::StateBulkGet,
