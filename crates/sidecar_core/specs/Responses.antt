@@ -22,7 +22,7 @@ abbrev pub bad_escape : ℕ → Response
 bad_escape at = error_response 400 code.MalformedRequest (codes "escape at " ++ decimal at)
 
 abbrev pub not_yet : Response
-not_yet = error_response 400 code.NotYet (codes "not yet")
+not_yet = error_response 404 code.NotFound (codes "not yet")
 
 abbrev pub no_binding : List ℕ → Response
 no_binding name = not_bound (codes "unknown binding " ++ name)

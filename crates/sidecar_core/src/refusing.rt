@@ -39,7 +39,7 @@ pub(crate) fn bad_escape(alloc: Global, at: usize) -> Result<Response, NoMemory>
 pub(crate) fn not_yet(alloc: Global) -> Result<Response, NoMemory>
     ensures { IfOk result (λ response. response ≡ not_yet) }
 {
-    error_response(alloc, 400, Code::NotYet, "not yet")
+    error_response(alloc, 404, Code::NotFound, "not yet")
 }
 
 /// There is no state component of the name.
