@@ -37,6 +37,11 @@ module _ {K : Type 0} {keeper : Ghosts K} where
   DoesUncalled kinds times stream objects pass pass' clock clock' rng rng' holds result = (link : LinkAt)
       → Does kinds (cells_of objects) (beside link (clocked times clock) (stream rng) pass) (beside link (clocked times clock') (stream rng') pass') (λ events. holds events result)
 
+  -- the same without random words, whatever ones follow
+  abbrev pub DoesUndrawn : {L C X : Type 0} → Kinds (Store K keeper) → Links L → Times C → Objects K keeper → Pass K keeper → Pass K keeper → L → L → C → C → (List Doing → X → Type 0) → X → Type 0
+  DoesUndrawn kinds links times objects pass pass' link link' clock clock' holds result = (words : Stream)
+      → Does kinds (cells_of objects) (standing links times pass link clock words) (standing links times pass' link' clock' words) (λ events. holds events result)
+
   -- the same by the pass alone, whatever a clock and a link show, and whatever random words follow
   abbrev pub DoesAlone : {X : Type 0} → Kinds (Store K keeper) → Objects K keeper → Pass K keeper → Pass K keeper → (List Doing → X → Type 0) → X → Type 0
   DoesAlone kinds objects pass pass' holds result = (clock : Clocked) (link : LinkAt) (words : Stream)
