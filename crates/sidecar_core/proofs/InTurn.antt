@@ -1,6 +1,6 @@
 -- A call of an actor in its turn, as what was done over all objects, and the status of its response.
-use Rattle.std.proofs.Common.{◌≡◌, ◌∙◌, ◌≢◌, ℕ, List, [], ◌∷◌, ◌++◌, map, Option, Some, None, Result, Ok, Err, inl, inr, refl, sym, ap, subst, arith, flat_map}
-use Rattle.std.specs.Prelude.{IfOk}
+use Rattle.std.proofs.Common.{◌≡◌, ◌∙◌, ◌≢◌, ℕ, Bool, true, false, List, [], ◌∷◌, ◌++◌, map, Option, Some, None, Result, Ok, Err, inl, inr, refl, sym, ap, subst, arith, flat_map}
+use Rattle.std.specs.Prelude.{IfOk, IsTrue}
 use Rattle.std.proofs.lemmas.Grind.{flat_map-append}
 use Rattle.http.specs.StatusCode.{IsStatusCode}
 use Rattle.rand_core.specs.Stream.{Stream, next_u64}
@@ -35,6 +35,14 @@ use Rattle.sidecar_objects.proofs.Single.{one_grew}
 use Rattle.sidecar_core.specs.Actors.{does_own}
 use Rattle.sidecar_core.proofs.Over.{IsSilent, asked_by, broke_nowhere, did_laid, entered_by, joined_by, noted_by, stored_by}
 use Rattle.sidecar_core.proofs.Statuses.{fine_given}
+
+-- ---- what a test of a name says
+
+pub is_named : (test named : Bool) → test ≡ named → test ≡ true → IsTrue named
+is_named test named same is = subst IsTrue (sym is ∙ same) tt
+
+pub is_unnamed : (test named : Bool) → test ≡ named → test ≡ false → ¬ IsTrue named
+is_unnamed test named same is = subst (λ b. ¬ IsTrue b) (sym is ∙ same) (λ no. no)
 
 -- ---- what a call does of its own
 
