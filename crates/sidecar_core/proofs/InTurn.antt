@@ -41,7 +41,7 @@ pub is_named : (test named : Bool) → test ≡ named → test ≡ true → IsTr
 is_named test named same is = sym same ∙ is
 
 pub is_unnamed : (test named : Bool) → test ≡ named → test ≡ false → ¬ IsTrue named
-is_unnamed test named same is yes = true≢false (sym yes ∙ sym same ∙ is)
+is_unnamed test named same is holds = true≢false (sym holds ∙ sym same ∙ is)
 
 -- ---- what a call does of its own
 
