@@ -59,12 +59,11 @@ names_store asked store (inr (inr (inr (inl is)))) = ap store_in is
 names_store asked store (inr (inr (inr (inr is)))) = ap store_in is
 
 module _ (config : Config) (request : Request) (events : List Doing) (reply : Result Response ApiErr) where
-  -- one of the routes of actors
-  pub actors_answered : (asked : Route) → ((actor : List ℕ) × (id : List ℕ) × (asked ≡ route.ActorCall actor id)) ⊎ (((actor : List ℕ) × (id : List ℕ) × (key : List ℕ) × (asked ≡ route.ActorGet actor id key)) ⊎ ((actor : List ℕ) × (id : List ℕ) × (asked ≡ route.ActorChange actor id)))
+  -- one of the routes of the state of actors
+  pub actors_answered : (asked : Route) → ((actor : List ℕ) × (id : List ℕ) × (key : List ℕ) × (asked ≡ route.ActorGet actor id key)) ⊎ ((actor : List ℕ) × (id : List ℕ) × (asked ≡ route.ActorChange actor id))
       → Gives not_yet events reply → Answered config request (Ok asked) events reply
-  actors_answered asked (inl of) gives = subst (λ a. Answered config request (Ok a) events reply) (sym of.2) gives
-  actors_answered asked (inr (inl of)) gives = subst (λ a. Answered config request (Ok a) events reply) (sym of.3) gives
-  actors_answered asked (inr (inr of)) gives = subst (λ a. Answered config request (Ok a) events reply) (sym of.2) gives
+  actors_answered asked (inl of) gives = subst (λ a. Answered config request (Ok a) events reply) (sym of.3) gives
+  actors_answered asked (inr of) gives = subst (λ a. Answered config request (Ok a) events reply) (sym of.2) gives
 
   -- one of those that are answered at once
   pub done_answered : (asked : Route) → (asked ≡ route.Health) ⊎ (asked ≡ route.Shutdown) → IsDone events reply → Answered config request (Ok asked) events reply
