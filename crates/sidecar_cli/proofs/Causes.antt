@@ -45,7 +45,7 @@ use Rattle.sidecar_objects.specs.declared.objects.Pass.{Pass}
 use Rattle.sidecar_objects.specs.Composed.{lone_stays, sound_stays}
 use Rattle.sidecar_objects.specs.Kind.{CellsAt, Kinds, SeatsAt, breakers, cells_in, ledgers, seats_in, stores}
 use Rattle.sidecar_objects.specs.Passes.{IsLone, IsSoundPass}
-use Rattle.sidecar_objects.specs.Shown.{Shows, ShowsAt, book_shows, spent_of}
+use Rattle.sidecar_objects.specs.Shown.{Shows, ShowsAt, book_shows, spent_of, turns_show}
 use Rattle.sidecar_objects.specs.Did.{Standing}
 use Rattle.turn_pass.specs.Pass.{count_shown}
 use Rattle.sidecar_objects.specs.Pass.{cells_of, seats_of}
@@ -161,9 +161,11 @@ one_of (Some n) other count e = inl e
 pub spent_shown : {O : Type 0} (seats : SeatsAt O) (count : ℕ) → spent_of seats ≡ Some count → Shows seats count
 spent_shown seats count e = ⊎_elim (λ is. let at = shown_at seats.stores count is in record { kind = stores; place = at.0; shown = at.1 })
     (λ later. ⊎_elim (λ is. let at = shown_at seats.ledgers count is in record { kind = ledgers; place = at.0; shown = at.1 })
-    (λ last. ⊎_elim (λ is. let at = shown_at seats.breakers count is in record { kind = breakers; place = at.0; shown = at.1 }) (λ is. book_shows seats count is)
-    (one_of (count_shown seats.breakers) seats.notes.count count last)) (one_of (count_shown seats.ledgers) (option_or (count_shown seats.breakers) seats.notes.count) count later))
-    (one_of (count_shown seats.stores) (option_or (count_shown seats.ledgers) (option_or (count_shown seats.breakers) seats.notes.count)) count e)
+    (λ next. ⊎_elim (λ is. let at = shown_at seats.breakers count is in record { kind = breakers; place = at.0; shown = at.1 })
+    (λ last. ⊎_elim (λ is. book_shows seats count is) (λ is. turns_show seats count is)
+    (one_of seats.notes.count seats.turns.count count last)) (one_of (count_shown seats.breakers) (option_or seats.notes.count seats.turns.count) count next))
+    (one_of (count_shown seats.ledgers) (option_or (count_shown seats.breakers) (option_or seats.notes.count seats.turns.count)) count later))
+    (one_of (count_shown seats.stores) (option_or (count_shown seats.ledgers) (option_or (count_shown seats.breakers) (option_or seats.notes.count seats.turns.count))) count e)
 
 -- what is spent behind a pass is shown by it, or as the ledgers are counted by it
 pub met_of : {O : Type 0} (kinds : Kinds O) (cells : CellsAt O) (clock : Clocked) (link : LinkAt) (words : Stream) (count : ℕ) (cs : List Loaded) (seats : SeatsAt O) (texts : List (List ℕ)) (counted : Option ℕ) (seats' : SeatsAt O)

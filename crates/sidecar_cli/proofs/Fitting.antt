@@ -93,7 +93,7 @@ module _ {D : Type 0} {disking : Keeps D} {keeping : Ghosts (AnyKeeper D disking
 
   -- the pass that was started has neither seen nor done anything
   pub root_started : {config config' : Config} {keepers : List (AnyKeeper D disking)} {objects : Objects (AnyKeeper D disking) keeping} {pass : Pass (AnyKeeper D disking) keeping} → IsStarted config keepers config' objects pass → seats_of pass ≡ root_pass 0 (cells_of objects)
-  root_started {objects = objects} {pass = pass} started = λ i. record { stores = started.roots.each group.stores i; ledgers = started.roots.each group.ledgers i; breakers = started.roots.each group.breakers i; notes = head_same pass.notes (root_of objects.notes) (started.roots.each group.book) i }
+  root_started {objects = objects} {pass = pass} started = λ i. record { stores = started.roots.each group.stores i; ledgers = started.roots.each group.ledgers i; breakers = started.roots.each group.breakers i; notes = head_same pass.notes (root_of objects.notes) (started.roots.each group.book) i; turns = head_same pass.turns (root_of objects.turns) (started.roots.each group.turns) i }
 
   -- what was started over the configuration that was given
   pub started_of : {config config' : Config} {keepers : List (AnyKeeper D disking)} {objects : Objects (AnyKeeper D disking) keeping} {pass : Pass (AnyKeeper D disking) keeping}

@@ -5,6 +5,7 @@ mod Brought
 mod Closed
 mod Doings
 mod Gathered
+mod InTurn
 mod Linked
 mod Moved
 mod Over
@@ -12,3 +13,4 @@ mod Requested
 mod Rooted
 mod Routed
 mod Statuses
+mod Targets

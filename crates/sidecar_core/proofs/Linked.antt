@@ -23,13 +23,13 @@ use Rattle.link_call.specs.LinkAt.{LinkAt, Asks, asks_none}
 use Rattle.sidecar_objects.specs.declared.doing.Doing.{Doing}
 use Rattle.sidecar_objects.specs.declared.doing.Doing.TheVariants.{Asked, Stepped}
 use Rattle.sidecar_objects.specs.declared.doing.SlotStep.TheVariants as slot
-use Rattle.sidecar_objects.specs.Kind.{Kind, Kinds, CellsAt, SeatsAt, StepOf, stores, ledgers, breakers, book, cells_in, seats_in}
+use Rattle.sidecar_objects.specs.Kind.{Kind, Kinds, CellsAt, SeatsAt, StepOf, stores, ledgers, breakers, book, turns, cells_in, seats_in}
 use Rattle.sidecar_objects.specs.Doing.{laid, steps_at, asked_in}
 use Rattle.sidecar_objects.specs.Did.{Did, Standing}
 use Rattle.sidecar_objects.proofs.ByKind.{by_kind}
 use Rattle.sidecar_objects.proofs.Laid.{all_here, none_elsewhere, none_of_each}
 use Rattle.sidecar_core.specs.Called.{asked_under, entered}
-use Rattle.sidecar_core.proofs.Over.{IsSilent, asked_by, broke_elsewhere, broke_here, broke_nowhere, did_laid, entered_by, noted_by, stored_by}
+use Rattle.sidecar_core.proofs.Over.{IsSilent, asked_by, broke_elsewhere, broke_here, broke_nowhere, did_laid, entered_by, joined_by, noted_by, stored_by}
 
 abbrev ask : LinkCall → Doing
 ask call = Asked call
@@ -64,7 +64,8 @@ module _ {O : Type 0} (kinds : Kinds O) (cells : CellsAt O) (seats : SeatsAt O) 
         (still stores _ (λ k. stored_by ask asks_alone j events k ∙ none_of_each _ (λ s. refl) (flat_map own_of events)))
         (still ledgers _ (λ k. entered_by ask asks_alone j events k ∙ none_of_each _ (λ s. refl) (flat_map own_of events)))
         grew
-        (still book _ (λ k. noted_by ask asks_alone j events k ∙ none_of_each _ (λ s. refl) (flat_map own_of events))))
+        (still book _ (λ k. noted_by ask asks_alone j events k ∙ none_of_each _ (λ s. refl) (flat_map own_of events)))
+        (still turns _ (λ k. joined_by ask asks_alone j events k ∙ none_of_each _ (λ s. refl) (flat_map own_of events))))
         (subst (λ l. Asks link l link') (sym (asked_by ask asks_alone j events ∙ each_call (flat_map own_of events))) e.owned)
 
   -- without a breaker
@@ -95,5 +96,6 @@ module _ {O : Type 0} (kinds : Kinds O) (cells : CellsAt O) (seats : SeatsAt O) 
       (subst (λ l. Grew (kinds ledgers) cell.first seat l seat') (sym (entered_by (enter place) (enters_alone place) 0 events place ∙ all_here place (flat_map own_of events))) e.owned)
       (λ k far. entered_by (enter place) (enters_alone place) 0 events k ∙ none_elsewhere place k far (flat_map own_of events)))
       (still breakers _ (λ k. broke_nowhere (enter place) (enters_alone place) 0 events k e.guards))
-      (still book _ (λ k. noted_by (enter place) (enters_alone place) 0 events k ∙ none_of_each _ (λ s. refl) (flat_map own_of events))))
+      (still book _ (λ k. noted_by (enter place) (enters_alone place) 0 events k ∙ none_of_each _ (λ s. refl) (flat_map own_of events)))
+      (still turns _ (λ k. joined_by (enter place) (enters_alone place) 0 events k ∙ none_of_each _ (λ s. refl) (flat_map own_of events))))
       (subst (λ l. Asks link l link) (sym (asked_by (enter place) (enters_alone place) 0 events ∙ none_of_each _ (λ s. refl) (flat_map own_of events))) (asks_none link))

@@ -10,7 +10,7 @@ use Rattle.policy_run.specs.Event.{Event, own_of, step_of}
 use Rattle.policy_run.specs.Effects.{Effects}
 use Rattle.link_call.specs.LinkAt.{Asks}
 use Rattle.sidecar_objects.specs.declared.doing.Doing.{Doing}
-use Rattle.sidecar_objects.specs.Kind.{Kind, Kinds, CellsAt, stores, ledgers, breakers, book, cells_in, seats_in}
+use Rattle.sidecar_objects.specs.Kind.{Kind, Kinds, CellsAt, stores, ledgers, breakers, book, turns, cells_in, seats_in}
 use Rattle.sidecar_objects.specs.Doing.{laid, steps_at, asked_in, word_in, moment_in, pause_in, tick_in}
 use Rattle.sidecar_objects.specs.Did.{Did, Standing}
 use Rattle.sidecar_objects.proofs.Laid.{all_here, none_elsewhere, laid_own, laid_steps, laid_words, laid_moments, laid_pauses, laid_ticks}
@@ -36,6 +36,9 @@ module _ {E : Type 0} (does : E → Doing) (silent : IsSilent does) (j : ℕ) (e
 
   pub noted_by : (k : ℕ) → flat_map (steps_at book k) done ≡ flat_map (λ e. steps_at book k (does e)) (flat_map own_of events)
   noted_by k = laid_own does j (steps_at book k) (λ w. refl) (λ m. refl) (λ ms. refl) (λ s. refl) events
+
+  pub joined_by : (k : ℕ) → flat_map (steps_at turns k) done ≡ flat_map (λ e. steps_at turns k (does e)) (flat_map own_of events)
+  joined_by k = laid_own does j (steps_at turns k) (λ w. refl) (λ m. refl) (λ ms. refl) (λ s. refl) events
 
   pub asked_by : flat_map asked_in done ≡ flat_map (λ e. asked_in (does e)) (flat_map own_of events)
   asked_by = laid_own does j asked_in (λ w. refl) (λ m. refl) (λ ms. refl) (λ s. refl) events

@@ -32,6 +32,7 @@ use Rattle.sidecar_objects.specs.declared.doing.Doing.TheVariants.{Stepped}
 use Rattle.sidecar_objects.specs.declared.doing.SlotStep.TheVariants.{Book}
 use Rattle.link_call.specs.Came.{IsOr, Lacks, Gives}
 use Rattle.sidecar_core.specs.Ran.{StoreRan}
+use Rattle.sidecar_core.specs.Actors.{AtActor}
 use Rattle.sidecar_core.specs.Called.{AtApp, AtBinding, AtBroker}
 use Rattle.sidecar_core.specs.Responses.{no_route, not_allowed, bad_escape, not_yet, no_store}
 use Rattle.sidecar_core.specs.Sites.{sites_of, place_named, IsSite, notes_of, sub_notes_of}
@@ -127,7 +128,7 @@ pub data SetsNote (name value : List ℕ) (events : List Doing) (reply : Result 
 abbrev pub IsDone : List Doing → Result Response ApiErr → Type 0
 IsDone events reply = (events ≡ []) × (reply ≡ Ok done)
 
--- What a route's request is answered. Requests for actors are not served yet
+-- What a route's request is answered. Requests for the state of actors are not served yet
 abbrev pub Answered : Config → Request → Result Route RouteErr → List Doing → Result Response ApiErr → Type 0
 Answered config request (Ok (route.Save store)) events reply = AtStore config request (route.Save store) store events reply
 Answered config request (Ok (route.Get store key)) events reply = AtStore config request (route.Get store key) store events reply
@@ -137,7 +138,7 @@ Answered config request (Ok (route.Transact store)) events reply = AtStore confi
 Answered config request (Ok (route.Invoke app rest)) events reply = AtApp config request app rest events reply
 Answered config request (Ok (route.Publish pubsub topic)) events reply = AtBroker config request pubsub topic events reply
 Answered config request (Ok (route.Binding name)) events reply = AtBinding config request name events reply
-Answered config request (Ok (route.ActorCall actor id)) events reply = Gives not_yet events reply
+Answered config request (Ok (route.ActorCall actor id)) events reply = AtActor config request actor id events reply
 Answered config request (Ok (route.ActorGet actor id key)) events reply = Gives not_yet events reply
 Answered config request (Ok (route.ActorChange actor id)) events reply = Gives not_yet events reply
 Answered config request (Ok route.Health) events reply = IsDone events reply

@@ -5,6 +5,7 @@ pub mod Sites
 pub mod Plans
 pub mod Responses
 pub mod Named
+pub mod Actors
 pub mod Called
 pub mod Exchange
 pub mod Shown

@@ -21,6 +21,10 @@ not_allowed allow = record {
 abbrev pub bad_escape : ℕ → Response
 bad_escape at = error_response 400 code.MalformedRequest (codes "escape at " ++ decimal at)
 
+-- the kind or the id of an actor is none
+abbrev pub bad_actor : Response
+bad_actor = error_response 400 code.MalformedRequest (codes "actor")
+
 abbrev pub not_yet : Response
 not_yet = error_response 404 code.NotFound (codes "not yet")
 

@@ -15,7 +15,7 @@ use Rattle.sidecar_core.specs.Site.{Site}
 use Rattle.sidecar_core.specs.Sites.{IsSite}
 use Rattle.sidecar_core.specs.Named.{IsNamed, ledger_of}
 use Rattle.sidecar_objects.specs.Kind.{SeatsAt}
-use Rattle.sidecar_objects.specs.Shown.{Shows, ShowsAt, book_shows}
+use Rattle.sidecar_objects.specs.Shown.{Shows, ShowsAt, book_shows, turns_show}
 use Rattle.sidecar_objects.specs.Kind as kind
 use Rattle.sidecar_core.specs.Ran.{IsShown}
 
@@ -39,7 +39,8 @@ pub record LedgerShows {O : Type 0} (config : Config) (seats : SeatsAt O) (name 
   pub shown : ShowsAt (ledger_of config place) count seats.ledgers
 
 -- The seat of a cell that requests of this route call shows the count: for the state API the cell of the store of the name, or of its breaker; for metadata that of
--- the book; for a call that of the breaker of the app, or of what is sent to the component; for a message that of its component's ledger. The other routes call no cell
+-- the book; for a call that of the breaker of the app, or of what is sent to the component; for a message that of its component's ledger; for a call of an actor that
+-- of the turns. The other routes call no cell
 abbrev pub RouteShows : {O : Type 0} → Config → SeatsAt O → Route → ℕ → Type 0
 RouteShows config seats (route.Save store) count = StoreShows config seats store count
 RouteShows config seats (route.Get store key) count = StoreShows config seats store count
@@ -49,7 +50,7 @@ RouteShows config seats (route.Transact store) count = StoreShows config seats s
 RouteShows config seats (route.Invoke app rest) count = BreakerShows seats (bound_by config.policies (aim.app app)) count
 RouteShows config seats (route.Publish pubsub topic) count = LedgerShows config seats pubsub count
 RouteShows config seats (route.Binding name) count = BreakerShows seats (bound_by config.policies (aim.outbound name)) count
-RouteShows config seats (route.ActorCall actor id) count = ⊥
+RouteShows config seats (route.ActorCall actor id) count = seats.turns.count ≡ Some count
 RouteShows config seats (route.ActorGet actor id key) count = ⊥
 RouteShows config seats (route.ActorChange actor id) count = ⊥
 RouteShows config seats route.Health count = ⊥
@@ -82,7 +83,7 @@ module _ {O : Type 0} (config : Config) (seats : SeatsAt O) (count : ℕ) where
   of_route (route.Invoke app rest) shows = of_breaker (bound_by config.policies (aim.app app)) shows
   of_route (route.Publish pubsub topic) shows = of_ledger pubsub shows
   of_route (route.Binding name) shows = of_breaker (bound_by config.policies (aim.outbound name)) shows
-  of_route (route.ActorCall actor id) shows = absurd shows
+  of_route (route.ActorCall actor id) shows = turns_show seats count shows
   of_route (route.ActorGet actor id key) shows = absurd shows
   of_route (route.ActorChange actor id) shows = absurd shows
   of_route route.Health shows = absurd shows

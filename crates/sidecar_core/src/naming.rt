@@ -1,7 +1,8 @@
-//! Components as requests find them, by their names.
+//! Components as requests find them, by their names; and the names of actors.
 ghost use Rattle.std.specs.Prelude.{◌≡◌, ◌≤◌, ◌∷◌, [], ℕ, Some, None, length};
 ghost use Rattle.resource_spec.specs.Component.{Loaded};
 ghost use Rattle.resource_spec.specs.declared.component.ComponentKind.TheVariants as kinds;
+ghost use Rattle.sidecar_core.specs.Actors.{has_bar, is_actor_name};
 ghost use Rattle.sidecar_core.specs.Named.{IsNamed, IsNone, ledger_of};
 ghost use Rattle.sidecar_turns.specs.Brokers.{brokers_of};
 
@@ -61,4 +62,17 @@ fn brokers_in(component: &Component) -> usize
     ensures within { result ≤ 1 }
 {
     if is_broker(component.kind()) { 1 } else { 0 }
+}
+
+/// Whether this may be the kind and the id of an actor: neither holds a bar.
+pub(crate) fn names_an_actor(kind: &Text, id: &Text) -> bool
+    ensures { result ≡ is_actor_name kind.now id.now }
+{
+    !has_bar(kind.bytes()) && !has_bar(id.bytes())
+}
+
+fn has_bar(bytes: &[u8]) -> bool
+    ensures { result ≡ has_bar bytes.now }
+{
+    bytes.iter().any(|byte| *byte == b'|')
 }

@@ -1,5 +1,5 @@
 ghost use Rattle.std.specs.Prelude.{◌≡◌, IfOk};
-ghost use Rattle.sidecar_core.specs.Responses.{no_route, not_allowed, bad_escape, not_yet, no_store};
+ghost use Rattle.sidecar_core.specs.Responses.{no_route, not_allowed, bad_escape, bad_actor, not_yet, no_store};
 
 use api_error::{Code, error_response};
 use api_routes::Methods;
@@ -33,6 +33,13 @@ pub(crate) fn bad_escape(alloc: Global, at: usize) -> Result<Response, NoMemory>
 {
     let message = format!(in alloc; "escape at {at}")?;
     error_response(alloc, 400, Code::MalformedRequest, message.as_str())
+}
+
+/// The kind or the id of an actor holds a bar.
+pub(crate) fn bad_actor(alloc: Global) -> Result<Response, NoMemory>
+    ensures { IfOk result (λ response. response ≡ bad_actor) }
+{
+    error_response(alloc, 400, Code::MalformedRequest, "actor")
 }
 
 /// The route is not served yet.

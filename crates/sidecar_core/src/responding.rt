@@ -1,5 +1,6 @@
-ghost use Rattle.std.specs.Prelude.{◌≡◌, ℕ, [], Ok, Err, IfOk};
+ghost use Rattle.std.specs.Prelude.{◌≡◌, ◌≤◌, ℕ, List, [], Ok, Err, IfOk, length};
 ghost use Rattle.http.specs.StatusCode.{IsStatusCode};
+ghost use Rattle.api_routes.specs.declared.route.Route.TheVariants as ways;
 ghost use Rattle.side_base.specs.declared.message.Request.{Request as RequestRecord};
 ghost use Rattle.turn_cell.specs.declared.error.ApiErr.TheVariants as error;
 ghost use Rattle.sidecar_objects.specs.Passes.{IsPassOf};
@@ -9,6 +10,7 @@ ghost use Rattle.sidecar_core.specs.Exchange.{Answered, Replied};
 ghost use Rattle.sidecar_core.specs.Shown.{RouteShows, ShownFor};
 
 use crate::Shared;
+use crate::actor_request::at_actor;
 use crate::app_request::at_app;
 use crate::binding_request::at_binding;
 use crate::note_request::{list, put};
@@ -65,6 +67,7 @@ fn answer<K: Keeper, L: Link, C: Clock, R: Rng, W: Wait>(
     rng: &mut R,
 ) -> Result<Response, ApiErr>
     requires pass { IsPassOf (cells_of shared.now.objects) (seats_of pass.old) }
+    requires target { (actor id : List ℕ) → route.now ≡ ways.ActorCall actor id → 13 ≤ length request.now.target }
     ensures does { DoesBy ⟦<Store<K> as ObjectKinds>⟧.kinds L.Link C.Clock R.stream shared.now.objects pass.old pass.new link.old link.new clock.old clock.new rng.old rng.new (Answered shared.now.config request.now (Ok route.now)) result }
     ensures shows { (count : ℕ) → result ≡ Err (error.Exhausted count) → RouteShows shared.now.config (seats_of pass.new) route.now count }
     ensures status { IfOk result (λ response. IsStatusCode response.status) }
@@ -87,9 +90,10 @@ fn answer<K: Keeper, L: Link, C: Clock, R: Rng, W: Wait>(
         Route::Metadata => list(rt, shared, pass),
         Route::SetMetadata { name } => put(rt, shared, pass, name, request.body.bytes()),
         Route::Health | Route::Shutdown => Ok(health(shared.alloc)),
-        Route::ActorCall { .. } | Route::ActorGet { .. } | Route::ActorChange { .. } => {
-            given(not_yet(shared.alloc))
+        Route::ActorCall { kind, id } => {
+            at_actor(rt, shared, pass, request, kind, id, link, clock)
         }
+        Route::ActorGet { .. } | Route::ActorChange { .. } => given(not_yet(shared.alloc)),
     }
 }
 

@@ -18,7 +18,8 @@ use sidecar_objects::Objects;
 use sidecar_turns::Brokers;
 use std::alloc::Global;
 
-/// What all passes share: the configuration, and a cell for each store, each ledger, each breaker and for the book of metadata.
+/// What all passes share: the configuration, and a cell for each store, each ledger, each breaker, for the book of metadata and for the turns of
+/// actors.
 #[derive(Drop)]
 pub struct Shared<K: Keeper> {
     pub config: Config,

@@ -18,6 +18,7 @@ ghost use Rattle.sidecar_objects.specs.Pass.{cells_of, seats_of};
 ghost use Rattle.sidecar_core.specs.Started.{IsStarted, IsRoomFor};
 
 use crate::{Config, Room, Shared, StoreSite};
+use actor_turns::Turns;
 use api_routes::Routers;
 use breaker_core::Breaker;
 use keeper_core::Keeper;
@@ -35,7 +36,8 @@ use turn_cell::Object;
 
 impl<K: Keeper> Shared<K> {
     /// Starts all objects of a configuration, with one keeper for each state component, in their order: a ledger for each pub/sub component, with
-    /// the plans of all subscriptions, a breaker for each target that names one, and an empty book of metadata. The pass is that of the root seats, and is alone. The room is for `close`.
+    /// the plans of all subscriptions, a breaker for each target that names one, an empty book of metadata, and
+    /// turns without a ticket. The pass is that of the root seats, and is alone. The room is for `close`.
     ///
     /// Without memory the keepers are dropped.
     pub fn start(
@@ -119,7 +121,14 @@ fn objects_for<K: Keeper>(
     let ledgers = ledgers_for(alloc, config)?;
     let breakers = breakers_for(alloc, breakers(&config.policies))?;
     let stores = stores_for(alloc, keepers)?;
-    let (objects, pass) = Objects::start(alloc, stores, ledgers, breakers, Notes::new(alloc))?;
+    let (objects, pass) = Objects::start(
+        alloc,
+        stores,
+        ledgers,
+        breakers,
+        Notes::new(alloc),
+        Turns::new(alloc),
+    )?;
     Ok((objects, pass))
 }
 

@@ -15,10 +15,10 @@ use Rattle.sidecar_objects.specs.Did.{Did, Does, Standing}
 
 module _ {K : Type 0} {keeper : Ghosts K} where
   abbrev pub cells_of : Objects K keeper → CellsAt (Store K keeper)
-  cells_of objects = record { stores = objects.stores.items; ledgers = objects.ledgers.items; breakers = objects.breakers.items; notes = objects.notes }
+  cells_of objects = record { stores = objects.stores.items; ledgers = objects.ledgers.items; breakers = objects.breakers.items; notes = objects.notes; turns = objects.turns }
 
   abbrev pub seats_of : Pass K keeper → SeatsAt (Store K keeper)
-  seats_of pass = record { stores = pass.stores.items; ledgers = pass.ledgers.items; breakers = pass.breakers.items; notes = pass.notes }
+  seats_of pass = record { stores = pass.stores.items; ledgers = pass.ledgers.items; breakers = pass.breakers.items; notes = pass.notes; turns = pass.turns }
 
   abbrev pub standing : {L C : Type 0} → Links L → Times C → Pass K keeper → L → C → Stream → Standing (Store K keeper)
   standing links times pass link clock words = record { seats = seats_of pass; clock = clocked times clock; link = link_at links link; words = words }
@@ -36,6 +36,11 @@ module _ {K : Type 0} {keeper : Ghosts K} where
   abbrev pub DoesUncalled : {C R X : Type 0} → Kinds (Store K keeper) → Times C → (R → Stream) → Objects K keeper → Pass K keeper → Pass K keeper → C → C → R → R → (List Doing → X → Type 0) → X → Type 0
   DoesUncalled kinds times stream objects pass pass' clock clock' rng rng' holds result = (link : LinkAt)
       → Does kinds (cells_of objects) (beside link (clocked times clock) (stream rng) pass) (beside link (clocked times clock') (stream rng') pass') (λ events. holds events result)
+
+  -- the same without random words, whatever ones follow
+  abbrev pub DoesUndrawn : {L C X : Type 0} → Kinds (Store K keeper) → Links L → Times C → Objects K keeper → Pass K keeper → Pass K keeper → L → L → C → C → (List Doing → X → Type 0) → X → Type 0
+  DoesUndrawn kinds links times objects pass pass' link link' clock clock' holds result = (words : Stream)
+      → Does kinds (cells_of objects) (standing links times pass link clock words) (standing links times pass' link' clock' words) (λ events. holds events result)
 
   -- the same by the pass alone, whatever a clock and a link show, and whatever random words follow
   abbrev pub DoesAlone : {X : Type 0} → Kinds (Store K keeper) → Objects K keeper → Pass K keeper → Pass K keeper → (List Doing → X → Type 0) → X → Type 0

@@ -6,6 +6,7 @@ use lib.ListN.{get_elem?}
 use Rattle.turn_cell.specs.Sitting.{Sitting}
 use Rattle.turn_pass.specs.Pass.{count_shown}
 use Rattle.sidecar_objects.specs.Kind.{Kind, SeatsAt, book, seats_in}
+use Rattle.sidecar_objects.specs.Kind as kinds
 
 -- the seat at this place shows this count of an exhausted cell
 abbrev pub ShowsAt : {O C R : Type 0} → ℕ → ℕ → List (Sitting O C R) → Type 0
@@ -21,6 +22,10 @@ pub record Shows {O : Type 0} (seats : SeatsAt O) (count : ℕ) : Type 0 where
 pub book_shows : {O : Type 0} (seats : SeatsAt O) (count : ℕ) → seats.notes.count ≡ Some count → Shows seats count
 book_shows seats count is = record { kind = book; place = 0; shown = (seats.notes, refl, is) }
 
--- the first count that a seat of the pass shows, of the stores, the ledgers, the breakers, then of the book
+-- that of the turns does
+pub turns_show : {O : Type 0} (seats : SeatsAt O) (count : ℕ) → seats.turns.count ≡ Some count → Shows seats count
+turns_show seats count is = record { kind = kinds.turns; place = 0; shown = (seats.turns, refl, is) }
+
+-- the first count that a seat of the pass shows, of the stores, the ledgers, the breakers, then of the book and of the turns
 abbrev pub spent_of : {O : Type 0} → SeatsAt O → Option ℕ
-spent_of seats = option_or (count_shown seats.stores) (option_or (count_shown seats.ledgers) (option_or (count_shown seats.breakers) seats.notes.count))
+spent_of seats = option_or (count_shown seats.stores) (option_or (count_shown seats.ledgers) (option_or (count_shown seats.breakers) (option_or seats.notes.count seats.turns.count)))

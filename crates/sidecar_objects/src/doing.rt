@@ -1,3 +1,4 @@
+use actor_turns::{TurnsCmd, TurnsReply};
 use breaker_core::{BreakerCmd, BreakerReply};
 use ledger_core::{LedgerCmd, LedgerReply};
 use meta_api::{NotesCmd, NotesReply};
@@ -15,6 +16,8 @@ pub enum SlotStep {
     Breaker(usize, Entry<BreakerCmd, BreakerReply>),
     /// Of the book of metadata.
     Book(Entry<NotesCmd, NotesReply>),
+    /// Of the turns of actors.
+    Turns(Entry<TurnsCmd, TurnsReply>),
 }
 
 /// What is done for a request, as one event. It stands in contracts alone: no program makes one.

@@ -2,6 +2,7 @@ ghost use Rattle.std.specs.Prelude.{◌≡◌};
 ghost use Rattle.sidecar_objects.specs.Shown.{spent_of};
 ghost use Rattle.sidecar_objects.specs.Pass.{seats_of};
 
+use actor_turns::Turns;
 use breaker_core::Breaker;
 use keeper_core::Keeper;
 use ledger_core::Ledger;
@@ -10,14 +11,15 @@ use state_core::Store;
 use turn_cell::{Seat, TurnCell};
 use turn_pass::count_shown;
 
-/// The shared objects, each in a cell of its own: the stores and the ledgers in the order of their components, the breakers in the order of the policies, and the
-/// book of metadata.
+/// The shared objects, each in a cell of its own: the stores and the ledgers in the order of their components, the breakers in the order of the policies, the
+/// book of metadata, and the turns of actors.
 #[derive(Drop)]
 pub struct Objects<K: Keeper> {
     pub stores: Vec<TurnCell<Store<K>>>,
     pub ledgers: Vec<TurnCell<Ledger>>,
     pub breakers: Vec<TurnCell<Breaker>>,
     pub notes: TurnCell<Notes>,
+    pub turns: TurnCell<Turns>,
 }
 
 /// A pass: a seat of each cell, at the same places.
@@ -27,10 +29,12 @@ pub struct Pass<K: Keeper> {
     pub ledgers: Vec<Seat<Ledger>>,
     pub breakers: Vec<Seat<Breaker>>,
     pub notes: Seat<Notes>,
+    pub turns: Seat<Turns>,
 }
 
 impl<K: Keeper> Pass<K> {
-    /// The first count that a seat of the pass shows, of the stores, the ledgers, the breakers, then of the book: its cell was found exhausted.
+    /// The first count that a seat of the pass shows, of the stores, the ledgers, the breakers, then of the book and of the turns: its cell was found
+    /// exhausted.
     /// Takes no memory.
     pub fn spent(&self) -> Option<u64>
         ensures { result ≡ spent_of (seats_of self.now) }
@@ -38,6 +42,7 @@ impl<K: Keeper> Pass<K> {
         let stores = count_shown(&self.stores);
         let ledgers = count_shown(&self.ledgers);
         let breakers = count_shown(&self.breakers);
-        stores.or(ledgers.or(breakers.or(self.notes.count())))
+        let notes = self.notes.count();
+        stores.or(ledgers.or(breakers.or(notes.or(self.turns.count()))))
     }
 }

@@ -15,10 +15,10 @@ module _ {O C R : Type 0} where
 
 module _ {O : Type 0} where
   abbrev pub root_pass : ℕ → CellsAt O → SeatsAt O
-  root_pass out cells = record { stores = map (root_seat out) cells.stores; ledgers = map (root_seat out) cells.ledgers; breakers = map (root_seat out) cells.breakers; notes = root_seat out cells.notes }
+  root_pass out cells = record { stores = map (root_seat out) cells.stores; ledgers = map (root_seat out) cells.ledgers; breakers = map (root_seat out) cells.breakers; notes = root_seat out cells.notes; turns = root_seat out cells.turns }
 
   abbrev pub worker_pass : ℕ → CellsAt O → SeatsAt O
-  worker_pass number cells = record { stores = map (worker_seat number) cells.stores; ledgers = map (worker_seat number) cells.ledgers; breakers = map (worker_seat number) cells.breakers; notes = worker_seat number cells.notes }
+  worker_pass number cells = record { stores = map (worker_seat number) cells.stores; ledgers = map (worker_seat number) cells.ledgers; breakers = map (worker_seat number) cells.breakers; notes = worker_seat number cells.notes; turns = worker_seat number cells.turns }
 
 -- a pass of these cells, kind by kind: so it is a fact of a value of a type, which has at most one proof
 pub record IsOwnPass {O : Type 0} (cells : CellsAt O) (seats : SeatsAt O) : Type 0 where
@@ -26,3 +26,4 @@ pub record IsOwnPass {O : Type 0} (cells : CellsAt O) (seats : SeatsAt O) : Type
   pub ledgers : EachSeated cells.ledgers seats.ledgers
   pub breakers : EachSeated cells.breakers seats.breakers
   pub notes : IsSeatOf cells.notes seats.notes
+  pub turns : IsSeatOf cells.turns seats.turns
