@@ -8,11 +8,11 @@ use actor_api::ActorCall;
 use actor_turns::{Turns, TurnsCmd};
 use case_text::{Lines, Section, first_word};
 use case_world::{add_answer, number, text};
-use side_base::{Blob, Request};
+use side_base::{Blob, Request, Response};
 use side_memory::MemoryLink;
 use std::alloc::Global;
 use std::sync::Wait;
-use turn_cell::{Seat, TurnCell};
+use turn_cell::{ApiErr, Seat, TurnCell};
 
 // The request to this target behind `/v1.0/actors/`; `None` where memory lacks.
 fn request_to(alloc: Global, sections: &[Section<'_>], target: &str) -> Option<Request>
@@ -26,13 +26,7 @@ fn request_to(alloc: Global, sections: &[Section<'_>], target: &str) -> Option<R
 }
 
 // Others join the line of an actor; the words are its name and how many they are.
-fn join<W: Wait>(
-    rt: &W,
-    alloc: Global,
-    words: &str,
-    cell: &TurnCell<Turns>,
-    seat: &mut Seat<Turns>,
-)
+fn join<W: Wait>(rt: &W, alloc: Global, words: &str, cell: &TurnCell<Turns>, seat: &mut Seat<Turns>)
     requires { IsSeatOf cell.now seat.old }
     ensures { IsSeatOf cell.now seat.new }
 {
@@ -43,6 +37,23 @@ fn join<W: Wait>(
         };
         let _ = cell.call(rt, seat, &cmd);
     }
+}
+
+// Makes a call of an actor.
+fn invoke<W: Wait>(
+    rt: &W,
+    alloc: Global,
+    what: &ActorCall<'_>,
+    cell: &TurnCell<Turns>,
+    seat: &mut Seat<Turns>,
+    link: &mut MemoryLink,
+    clock: &mut CrowdedClock<'_, W>,
+) -> Result<Response, ApiErr>
+    requires seat { IsSeatOf cell.now seat.old }
+    requires target { 13 ≤ length what.now.request.now.target }
+    ensures { IsSeatOf cell.now seat.new }
+{
+    actor_api::invoke(rt, alloc, what, cell, seat, link, clock)
 }
 
 // Calls the method of an actor; the words are its name and the target behind `/v1.0/actors/`.
@@ -68,8 +79,7 @@ fn call<W: Wait>(
                 actor: &text(alloc, actor),
                 app_port: own_app(alloc, sections).port,
             };
-            let answer = actor_api::invoke(rt, alloc, &what, cell, seat, link, clock);
-            add_answer(lines, &answer);
+            add_answer(lines, &invoke(rt, alloc, &what, cell, seat, link, clock));
         }
         None => lines.lack(),
     }

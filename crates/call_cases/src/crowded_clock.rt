@@ -1,4 +1,3 @@
-ghost use Rattle.side_memory.specs.MemoryClock.{ClockState};
 ghost use Rattle.turn_cell.specs.Sitting.{IsSeatOf};
 
 use actor_turns::{Turns, TurnsCmd};
@@ -10,39 +9,50 @@ use side_world::Clock;
 use std::sync::Wait;
 use turn_cell::{Seat, TurnCell};
 
+// A ticket is left, if this pause is the one that the words say: the ticket and the number of the pause.
+fn leave<W: Wait>(rt: &W, words: &str, pause: u64, cell: &TurnCell<Turns>, seat: &mut Seat<Turns>)
+    requires { IsSeatOf cell.now seat.old }
+    ensures { IsSeatOf cell.now seat.new }
+{
+    let (ticket, when) = first_word(words);
+    if number(when) == pause {
+        let cmd = TurnsCmd::Leave {
+            ticket: number(ticket),
+        };
+        let _ = cell.call(rt, seat, &cmd);
+    }
+}
+
+// The tickets are left that a case says of this pause.
+fn leave_all<W: Wait>(
+    rt: &W,
+    sections: &[Section<'_>],
+    pause: u64,
+    cell: &TurnCell<Turns>,
+    seat: &mut Seat<Turns>,
+)
+    requires { IsSeatOf cell.now seat.old }
+    ensures { IsSeatOf cell.now seat.new }
+{
+    for section in sections {
+        if section.word == "leaves" {
+            leave(rt, section.name, pause, cell, seat);
+        }
+    }
+}
+
 /// A clock in whose pauses others leave their tickets, as a case says.
 #[derive(Drop)]
 pub(crate) struct CrowdedClock<'a, W> {
     pub(crate) rt: &'a W,
     pub(crate) clock: MemoryClock,
     pub(crate) cell: &'a TurnCell<Turns>,
+    /// The seat of the others.
     pub(crate) seat: Seat<Turns>,
     pub(crate) sections: &'a [Section<'a>],
     /// How many pauses were made.
     pub(crate) pauses: u64,
     ghost seated: { IsSeatOf cell seat },
-}
-
-impl<W: Wait> CrowdedClock<'_, W> {
-    // Leaves a ticket, if this pause is the one of which the words say it: the ticket and the number of the pause.
-    fn leave(&mut self, words: &str) {
-        let (ticket, pause) = first_word(words);
-        if number(pause) == self.pauses {
-            let cmd = TurnsCmd::Leave {
-                ticket: number(ticket),
-            };
-            let _ = self.cell.call(self.rt, &mut self.seat, &cmd);
-        }
-    }
-
-    // Leaves the tickets that others leave in this pause.
-    fn leave_all(&mut self) {
-        for section in self.sections {
-            if section.word == "leaves" {
-                self.leave(section.name);
-            }
-        }
-    }
 }
 
 impl<W: Wait> Clock for CrowdedClock<'_, W> {
@@ -59,6 +69,12 @@ impl<W: Wait> Clock for CrowdedClock<'_, W> {
     fn pause(&mut self, ms: u64) {
         self.clock.pause(ms);
         self.pauses = self.pauses.saturating_add(1);
-        self.leave_all();
+        leave_all(
+            self.rt,
+            self.sections,
+            self.pauses,
+            self.cell,
+            &mut self.seat,
+        );
     }
 }

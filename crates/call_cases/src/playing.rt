@@ -79,7 +79,11 @@ fn among_others<W: Wait>(
     requires seat { IsSeatOf cell.now seat.old }
     requires others { IsSeatOf cell.now others }
 {
-    let World { mut link, clock, .. } = World::new(alloc, sections);
+    let World {
+        mut link,
+        clock,
+        ..
+    } = World::new(alloc, sections);
     let mut clock = CrowdedClock {
         rt,
         clock,
@@ -88,7 +92,9 @@ fn among_others<W: Wait>(
         sections,
         pauses: 0,
     };
-    actors(rt, alloc, sections, cell, seat, &mut link, &mut clock, lines);
+    actors(
+        rt, alloc, sections, cell, seat, &mut link, &mut clock, lines,
+    );
     add_asked(lines, &link);
     add_clock(lines, &mut clock.clock);
 }
