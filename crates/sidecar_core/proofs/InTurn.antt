@@ -1,6 +1,6 @@
 -- A call of an actor in its turn, as what was done over all objects, and the status of its response.
-use Rattle.std.proofs.Common.{◌≡◌, ◌∙◌, ◌≢◌, ℕ, List, [], ◌∷◌, ◌++◌, map, Option, Some, None, Result, Ok, Err, inl, inr, refl, sym, ap, subst, arith, flat_map}
-use Rattle.std.specs.Prelude.{IfOk}
+use Rattle.std.proofs.Common.{true≢false, ◌≡◌, ◌∙◌, ◌≢◌, ℕ, Bool, true, false, List, [], ◌∷◌, ◌++◌, map, Option, Some, None, Result, Ok, Err, inl, inr, refl, sym, ap, subst, arith, flat_map}
+use Rattle.std.specs.Prelude.{IfOk, IsTrue}
 use Rattle.std.proofs.lemmas.Grind.{flat_map-append}
 use Rattle.http.specs.StatusCode.{IsStatusCode}
 use Rattle.rand_core.specs.Stream.{Stream, next_u64}
@@ -20,7 +20,6 @@ use Rattle.policy_run.specs.Event.{Event, own_of}
 use Rattle.policy_run.specs.Effects.{AreNone, Clocked, Effects}
 use Rattle.link_call.specs.LinkAt.{AreReplies, Asks, LinkAt}
 use Rattle.link_call.specs.Passed.{passed_on}
-use Rattle.actor_api.specs.declared.awaiting.Awaited.{Awaited}
 use Rattle.actor_api.specs.Stepping.{Own, TurnsSeat, Went, asked, entered, entered_in}
 use Rattle.actor_api.specs.Stepping as own
 use Rattle.actor_api.specs.Calling.{Finishes, Invokes, Joins, Replies, TakesTurn}
@@ -35,6 +34,14 @@ use Rattle.sidecar_objects.proofs.Single.{one_grew}
 use Rattle.sidecar_core.specs.Actors.{does_own}
 use Rattle.sidecar_core.proofs.Over.{IsSilent, asked_by, broke_nowhere, did_laid, entered_by, joined_by, noted_by, stored_by}
 use Rattle.sidecar_core.proofs.Statuses.{fine_given}
+
+-- ---- what a test of a name says
+
+pub is_named : (test named : Bool) → test ≡ named → test ≡ true → IsTrue named
+is_named test named same is = sym same ∙ is
+
+pub is_unnamed : (test named : Bool) → test ≡ named → test ≡ false → ¬ IsTrue named
+is_unnamed test named same is holds = true≢false (sym holds ∙ sym same ∙ is)
 
 -- ---- what a call does of its own
 
@@ -133,7 +140,7 @@ last_replies (call ∷ first) second are = last_replies first second are.1
 last_are : (events first second : List (Event Own)) → events ≡ first ++ second → AreReplies (calls_of events) → AreReplies (calls_of second)
 last_are events first second is are = last_replies (calls_of first) (calls_of second) (subst AreReplies (ap calls_of is ∙ calls_on first second) are)
 
-IsFine : Result Response ApiErr → Type 0
+abbrev IsFine : Result Response ApiErr → Type 0
 IsFine reply = IfOk reply (λ response. IsStatusCode response.status)
 
 fine_none : (reply : Result Response ApiErr) (e : ApiErr) → reply ≡ Err e → IsFine reply
@@ -145,7 +152,7 @@ fine_reply (Err miss.Failed) reply sound replies = fine_given _ reply (omega ari
 fine_reply (Err miss.Expired) reply sound replies = fine_given _ reply (omega arith, omega arith) replies
 fine_reply (Err miss.NoMemory) reply sound replies = fine_none reply _ replies
 
-fine_finish : (request : LinkRequest) (ticket : ℕ) (how : Awaited) (events : List (Event Own)) (reply : Result Response ApiErr) → Finishes request ticket how events reply → AreReplies (calls_of events) → IsFine reply
+fine_finish : (request : LinkRequest) (ticket : ℕ) (how : _) (events : List (Event Own)) (reply : Result Response ApiErr) → Finishes request ticket how events reply → AreReplies (calls_of events) → IsFine reply
 fine_finish request ticket how events reply (calling.called answer leave said leaves replies) are = fine_reply answer said are.0 replies
 fine_finish request ticket how events reply (calling.called_unleft answer count) are = tt
 fine_finish request ticket how events reply (calling.tired ahead leave said leaves gives) are = fine_given _ said (omega arith, omega arith) gives

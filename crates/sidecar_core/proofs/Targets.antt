@@ -1,11 +1,13 @@
 -- How long the target of a call of an actor is.
-use Rattle.std.proofs.Common.{◌≡◌, ◌≤◌, ◌+◌, ℕ, List, [], ◌∷◌, ◌++◌, codes, length, length-take, take, refl, sym, ap, subst, inl, inr, arith}
-use Rattle.std.specs.List.{AllByRecursion}
+use Rattle.std.proofs.Common.{◌≡◌, ◌≤◌, ◌==◌, not, ℕ, List, [], ◌∷◌, ◌++◌, codes, Result, Ok, length, length-append, length-take, refl, sym, ap, subst, inl, inr, arith}
+use Rattle.std.specs.List.{AllByRecursion, prefix_len}
 use Rattle.side_base.specs.declared.method.Method.{Method}
+use Rattle.api_routes.specs.declared.route.Route.{Route}
 use Rattle.api_routes.specs.declared.route.Route.TheVariants.{ActorCall}
+use Rattle.api_routes.specs.declared.route.RouteErr.{RouteErr}
 use Rattle.api_routes.specs.declared.table.Kind.TheVariants as kind
-use Rattle.api_routes.specs.Path.{AreValues, path_of, slash, spelled}
-use Rattle.api_routes.specs.Route.{IsAmong, Means}
+use Rattle.api_routes.specs.Path.{AreValues, path_of, spelled}
+use Rattle.api_routes.specs.Route.{Answers, IsAmong, Means}
 use Rattle.api_routes.specs.Table.{RouteRow, Part, table}
 use Rattle.api_routes.specs.Table.Part.{Literal, Segment, Tail}
 
@@ -22,18 +24,24 @@ each_long values (first ∷ rows) row each (inr among) = each_long values rows r
 begun : (parts : List Part) (values : List (List ℕ)) → AreValues (Segment ∷ parts) values → 13 ≤ length (spelled (Literal (codes "v1.0") ∷ Literal (codes "actors") ∷ Segment ∷ parts) values)
 begun parts [] are = absurd are
 begun parts (value ∷ values) are =
-    let long : length (spelled (Literal (codes "v1.0") ∷ Literal (codes "actors") ∷ Segment ∷ parts) (value ∷ values)) ≡ 13 + length (value ++ spelled parts values) = refl in
-    omega (arith, long)
+    let rest : List ℕ = value ++ spelled parts values in
+    let whole : spelled (Literal (codes "v1.0") ∷ Literal (codes "actors") ∷ Segment ∷ parts) (value ∷ values) ≡ codes "/v1.0/actors/" ++ rest = refl in
+    let front : length (codes "/v1.0/actors/") ≡ 13 = refl in
+    omega (arith, ap length whole, length-append (codes "/v1.0/actors/") rest, front)
 
 all_long : (values : List (List ℕ)) (row : RouteRow) → IsAmong row table → IsLong values row
 unfolding table
 all_long values row among = each_long values table row
     ((λ is are. absurd (cc)), ((λ is are. absurd (cc)), ((λ is are. absurd (cc)), ((λ is are. absurd (cc)), ((λ is are. absurd (cc)), ((λ is are. absurd (cc)), ((λ is are. absurd (cc)), ((λ is are. absurd (cc)), ((λ is are. absurd (cc)), ((λ is are. absurd (cc)),
-    ((λ is are. absurd (cc)), ((λ is are. absurd (cc)), ((λ is are. begun _ values are), ((λ is are. absurd (cc)), ((λ is are. absurd (cc)), tt))))))))))))))) among
+    ((λ is are. absurd (cc)), ((λ is are. absurd (cc)), ((λ is are. begun (Segment ∷ Literal (codes "method") ∷ Tail ∷ []) values are), ((λ is are. absurd (cc)), ((λ is are. absurd (cc)), tt))))))))))))))) among
 
-pub call_long : (method : Method) (target actor id : List ℕ) → Means method target (ActorCall actor id) → 13 ≤ length target
+call_long : (method : Method) (target actor id : List ℕ) → Means method target (ActorCall actor id) → 13 ≤ length target
 call_long method target actor id means =
     let fits = means.is_row.fits in
     let long = all_long means.values means.row fits.listed means.says.0 fits.spells.are_values in
     let whole : 13 ≤ length (path_of target) = subst (λ (path : List ℕ). 13 ≤ length path) (sym fits.spells.path_is) long in
-    omega (arith, whole, length-take _ target)
+    omega (arith, whole, length-take (prefix_len (λ byte. not (byte == 63)) target) target)
+
+-- what was answered of the target says so
+pub target_long : (method : Method) (target : List ℕ) (routed : Result Route RouteErr) (asked : Route) → routed ≡ Ok asked → Answers method target routed → (actor id : List ℕ) → asked ≡ ActorCall actor id → 13 ≤ length target
+target_long method target routed asked is answers actor id same = call_long method target actor id (subst (λ (r : Route). Means method target r) same (subst (Answers method target) is answers))

@@ -3,7 +3,11 @@ use Rattle.api_routes.specs.Route.{Answers}
 use Rattle.sidecar_objects.specs.Composed.{does_nothing, pass_stays, does_as}
 use Rattle.sidecar_core.proofs.Answering.{refusal_shows_nothing}
 use Rattle.sidecar_core.proofs.Statuses.{fine_refusal}
+use Rattle.sidecar_core.proofs.Targets.{target_long}
 use Rattle.sidecar_core.proofs.responding.respond.Goals as goal
+
+pub answer-requires-clause-target : goal.answer-requires-clause-target
+answer-requires-clause-target g c = target_long c.args.request.now.method c.args.request.now.target c.route.result c.in-Ok.route c.in-Ok.is c.route.ensures
 
 pub returns-in-Ok-clause-exchange : goal.returns-in-Ok-clause-exchange
 returns-in-Ok-clause-exchange g c = does_as _ _ _ _ _ _
