@@ -1,8 +1,10 @@
-//! Plays the cases of the files that its words name: calls of apps and of output bindings over a link and a clock in memory, with what is asked and what is
-//! answered. Prints each case that differs, and at the end how many there were.
+//! Plays the cases of the files that its words name: calls of apps, of output bindings and of actors over a link and a clock in memory, with what is asked and what
+//! is answered. Prints each case that differs, and at the end how many there were.
 #![tactic(auto)]
 
+mod actors;
 mod calls;
+mod crowded_clock;
 mod given;
 mod playing;
 

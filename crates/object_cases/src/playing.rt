@@ -6,6 +6,7 @@ use crate::ledger_case::play_ledger;
 use crate::retry_case::play_retry;
 use crate::store_case::play_store;
 use crate::trip_case::play_trip;
+use crate::turns_case::play_turns;
 use case_text::{Lines, Piece, Player, Section, sections};
 use std::alloc::Global;
 use std::sync::Wait;
@@ -26,6 +27,7 @@ fn judge<W: Wait>(rt: &W, alloc: Global, sections: &[Section<'_>], lines: &mut L
         "retry" => play_retry(alloc, sections, lines),
         "ledger" => play_ledger(alloc, sections, lines),
         "trip" => play_trip(alloc, sections, lines),
+        "turns" => play_turns(rt, alloc, sections, lines),
         _ => lines.add("no such case\n"),
     }
     if sections.len() < 2 {
@@ -33,7 +35,7 @@ fn judge<W: Wait>(rt: &W, alloc: Global, sections: &[Section<'_>], lines: &mut L
     }
 }
 
-/// The cases of stores, keepers, breakers, ledgers, retries and trips, whose calls may wait.
+/// The cases of stores, keepers, breakers, ledgers, turns of actors, retries and trips, whose calls may wait.
 #[derive(Drop)]
 pub(crate) struct Cases<'a, W> {
     pub(crate) rt: &'a W,

@@ -1,0 +1,5 @@
+use Rattle.turn_cell.specs.Sitting.{IsSeatOf}
+use Rattle.call_cases.proofs.crowded_clock.leave_all.Given as goal
+
+abbrev pub invariant-loop-section : goal.invariant-loop-section
+invariant-loop-section g l = IsSeatOf l.cell l.seat
