@@ -9,22 +9,22 @@ use Rattle.api_routes.specs.declared.route.Route.TheVariants as route
 use Rattle.api_routes.specs.declared.route.RouteErr.{RouteErr}
 use Rattle.api_routes.specs.declared.route.RouteErr.TheVariants as lost
 use Rattle.state_core.specs.declared.command.Cmd.{Cmd}
+use Rattle.state_api.specs.declared.what.What.{What}
 use Rattle.state_api.specs.declared.what.StateErr.{StateErr}
 use Rattle.state_api.specs.declared.what.StateErr.TheVariants as fault
 use Rattle.state_api.specs.Given.{Tells}
-use Rattle.state_api.specs.Asked.{Asks, IsState}
+use Rattle.state_api.specs.Asked.{IsActorState, IsState}
 use Rattle.meta_api.specs.declared.command.NotesReply.{NotesReply}
 use Rattle.meta_api.specs.declared.command.NotesReply.TheVariants as told
 use Rattle.meta_api.specs.Body.{IsPutReply, put_response}
 use Rattle.sidecar_core.specs.declared.config.Config.{Config}
 use Rattle.sidecar_objects.specs.declared.doing.Doing.{Doing}
-use Rattle.sidecar_core.specs.Site.{Site}
+use Rattle.retry_core.specs.declared.policy.Bound.{Bound}
 use Rattle.sidecar_objects.specs.Kind.{SeatsAt}
 use Rattle.link_call.specs.Came.{Gives, IsOr}
-use Rattle.sidecar_core.specs.Exchange.{Answered, IsDone, AtSite, AtStore, FaultGives, PutReplies, store_in}
+use Rattle.sidecar_core.specs.Exchange.{Answered, IsDone, AtActorState, AtSite, AtStore, FaultGives, PutReplies, store_in}
 use Rattle.sidecar_core.specs.Exchange as exchange
-use Rattle.sidecar_core.specs.Responses.{not_yet}
-use Rattle.sidecar_core.specs.Shown.{RouteShows, StoreShows}
+use Rattle.sidecar_core.specs.Shown.{ActorStoreShows, RouteShows, StoreShows}
 
 -- a response, or the want of memory for it, is no exhausted cell
 pub not_exhausted : {A : Type 0} (response : Response) (reply : Result Response ApiErr) (count : ℕ) → IsOr response reply → reply ≡ Err (error.Exhausted count) → A
@@ -49,6 +49,11 @@ has_store route.Metadata name is = absurd (cc)
 has_store (route.SetMetadata other) name is = absurd (cc)
 has_store route.Shutdown name is = absurd (cc)
 
+-- one of the routes of the state of actors
+pub has_actor : (asked : Route) (kind id : List ℕ) → ((key : List ℕ) × (asked ≡ route.ActorGet kind id key)) ⊎ (asked ≡ route.ActorChange kind id) → IsActorState asked
+has_actor asked kind id (inl of) = subst IsActorState (sym of.1) tt
+has_actor asked kind id (inr is) = subst IsActorState (sym is) tt
+
 -- one of the routes of the state API, with this store
 pub names_store : (asked : Route) (store : List ℕ) → (asked ≡ route.Save store) ⊎ (((key : List ℕ) × (asked ≡ route.Get store key)) ⊎ (((key : List ℕ) × (asked ≡ route.Delete store key)) ⊎ ((asked ≡ route.Bulk store) ⊎ (asked ≡ route.Transact store))))
     → store_in asked ≡ Some store
@@ -59,11 +64,11 @@ names_store asked store (inr (inr (inr (inl is)))) = ap store_in is
 names_store asked store (inr (inr (inr (inr is)))) = ap store_in is
 
 module _ (config : Config) (request : Request) (events : List Doing) (reply : Result Response ApiErr) where
-  -- one of the routes of the state of actors
-  pub actors_answered : (asked : Route) → ((actor : List ℕ) × (id : List ℕ) × (key : List ℕ) × (asked ≡ route.ActorGet actor id key)) ⊎ ((actor : List ℕ) × (id : List ℕ) × (asked ≡ route.ActorChange actor id))
-      → Gives not_yet events reply → Answered config request (Ok asked) events reply
-  actors_answered asked (inl of) gives = subst (λ a. Answered config request (Ok a) events reply) (sym of.3) gives
-  actors_answered asked (inr of) gives = subst (λ a. Answered config request (Ok a) events reply) (sym of.2) gives
+  -- what is done at the store of actors is what is done for the request
+  pub actors_answered : (asked : Route) (kind id : List ℕ) → ((key : List ℕ) × (asked ≡ route.ActorGet kind id key)) ⊎ (asked ≡ route.ActorChange kind id)
+      → AtActorState config request asked kind id events reply → Answered config request (Ok asked) events reply
+  actors_answered asked kind id (inl of) at = subst (λ a. Answered config request (Ok a) events reply) (sym of.1) (subst (λ a. AtActorState config request a kind id events reply) of.1 at)
+  actors_answered asked kind id (inr is) at = subst (λ a. Answered config request (Ok a) events reply) (sym is) (subst (λ a. AtActorState config request a kind id events reply) is at)
 
   -- one of those that are answered at once
   pub done_answered : (asked : Route) → (asked ≡ route.Health) ⊎ (asked ≡ route.Shutdown) → IsDone events reply → Answered config request (Ok asked) events reply
@@ -113,6 +118,12 @@ module _ {O : Type 0} (config : Config) (seats : SeatsAt O) (count : ℕ) where
   state_shows (route.SetMetadata other) name is shows = absurd (cc)
   state_shows route.Shutdown name is shows = absurd (cc)
 
+module _ {O : Type 0} (config : Config) (seats : SeatsAt O) (count : ℕ) where
+  -- what the store of actors shows is shown for the route
+  pub actors_show : (asked : Route) (kind id : List ℕ) → ((key : List ℕ) × (asked ≡ route.ActorGet kind id key)) ⊎ (asked ≡ route.ActorChange kind id) → ActorStoreShows config seats count → RouteShows config seats asked count
+  actors_show asked kind id (inl of) shows = subst (λ a. RouteShows config seats a count) (sym of.1) shows
+  actors_show asked kind id (inr is) shows = subst (λ a. RouteShows config seats a count) (sym is) shows
+
 -- an error of one call as that of another
 pub same_err : {A B E : Type 0} (e other : E) → ◌≡◌ {A = Result A E} (Err e) (Err other) → ◌≡◌ {A = Result B E} (Err e) (Err other)
 same_err {A} {B} {E} e other is = let same : e ≡ other = cc in ap {A = E} {B = Result B E} (λ (x : E). Err x) same
@@ -125,9 +136,9 @@ put_says (told.Listed pairs) reply is given = is
 put_says told.NoMemory reply is given = absurd is
 
 -- a request that gives no command
-pub fault_at : (place : ℕ) (site : Site) (request : Request) (asked : Route) (e : StateErr) (reply : Result Response ApiErr) → Tells {A = Cmd} (Err e) (Asks site.prefix request asked) → FaultGives e reply → AtSite place site request asked [] reply
-fault_at place site request asked (fault.Malformed what) reply asks gives = exchange.refused what asks (refl, gives)
-fault_at place site request asked fault.NoMemory reply asks gives = exchange.lacks (refl, gives)
+pub fault_at : (means : Result Cmd What → Type 0) (place : ℕ) (bound : Bound) (e : StateErr) (reply : Result Response ApiErr) → Tells {A = Cmd} (Err e) means → FaultGives e reply → AtSite means place bound [] reply
+fault_at means place bound (fault.Malformed what) reply asks gives = exchange.refused what asks (refl, gives)
+fault_at means place bound fault.NoMemory reply asks gives = exchange.lacks (refl, gives)
 
 pub fault_shows_nothing : {A : Type 0} (e : StateErr) (reply : Result Response ApiErr) (count : ℕ) → FaultGives e reply → reply ≡ Err (error.Exhausted count) → A
 fault_shows_nothing (fault.Malformed what) reply count gives is = not_exhausted _ reply count gives is

@@ -18,10 +18,11 @@ use Rattle.meta_api.specs.declared.command.NotesCmd.TheVariants as ask
 use Rattle.meta_api.specs.declared.command.NotesReply.{NotesReply}
 use Rattle.meta_api.specs.declared.command.NotesReply.TheVariants as told
 use Rattle.sidecar_core.specs.declared.config.Config.{Config}
-use Rattle.sidecar_core.specs.Site.{Site}
+use Rattle.retry_core.specs.declared.policy.Bound.{Bound}
+use Rattle.state_api.specs.declared.what.What.{What}
 use Rattle.sidecar_objects.specs.declared.doing.Doing.{Doing}
 use Rattle.link_call.specs.Came.{IsOr}
-use Rattle.sidecar_core.specs.Exchange.{Answered, AtNotes, AtSite, AtStore, ListReplies, NotesReplies, PutReplies, Replies, SetsNote}
+use Rattle.sidecar_core.specs.Exchange.{Answered, AtActorState, AtNotes, AtSite, AtStore, ListReplies, NotesReplies, PutReplies, Replies, SetsNote}
 use Rattle.sidecar_core.specs.Exchange as exchange
 
 of_two : (given response : Response) → IsStatusCode given.status → IsOr given (Ok response) → IsStatusCode response.status
@@ -54,14 +55,19 @@ fine_replies : (cmd : Cmd) (ran : Result Ran ApiErr) (response : Response) → R
 fine_replies cmd (Ok ran) response replies = of_two (response_of cmd ran) response (fine_of cmd ran) replies
 fine_replies cmd (Err e) response replies = no_response response e replies
 
-fine_site : (place : ℕ) (site : Site) (request : Request) (asked : Route) (events : List Doing) (response : Response) → AtSite place site request asked events (Ok response) → IsStatusCode response.status
-fine_site place site request asked events response (exchange.lacks none-there) = no_response response _ none-there.1
-fine_site place site request asked events response (exchange.refused what asks gives) = of_two _ response (omega arith, omega arith) gives.1
-fine_site place site request asked events response (exchange.called cmd asks by) = fine_replies cmd by.ran response by.replies
+fine_site : (means : Result Cmd What → Type 0) (place : ℕ) (bound : Bound) (events : List Doing) (response : Response) → AtSite means place bound events (Ok response) → IsStatusCode response.status
+fine_site means place bound events response (exchange.lacks none-there) = no_response response _ none-there.1
+fine_site means place bound events response (exchange.refused what asks gives) = of_two _ response (omega arith, omega arith) gives.1
+fine_site means place bound events response (exchange.called cmd asks by) = fine_replies cmd by.ran response by.replies
 
 fine_store : (config : Config) (request : Request) (asked : Route) (name : List ℕ) (events : List Doing) (response : Response) → AtStore config request asked name events (Ok response) → IsStatusCode response.status
 fine_store config request asked name events response (exchange.unknown is gives) = of_two _ response (omega arith, omega arith) gives.1
-fine_store config request asked name events response (exchange.found place site is at) = fine_site place site request asked events response at
+fine_store config request asked name events response (exchange.found place site is at) = fine_site _ place site.bound events response at
+
+fine_actor : (config : Config) (request : Request) (asked : Route) (kind id : List ℕ) (events : List Doing) (response : Response) → AtActorState config request asked kind id events (Ok response) → IsStatusCode response.status
+fine_actor config request asked kind id events response (exchange.no_actor named gives) = of_two _ response (omega arith, omega arith) gives.1
+fine_actor config request asked kind id events response (exchange.nowhere named is gives) = of_two _ response (omega arith, omega arith) gives.1
+fine_actor config request asked kind id events response (exchange.kept named place site is at) = fine_site _ place site.bound events response at
 
 fine_put : (answer : NotesReply) (response : Response) → PutReplies answer (Ok response) → IsStatusCode response.status
 fine_put told.Noted response says = of_two _ response (omega arith, omega arith) says
@@ -93,6 +99,10 @@ fine_given given (Err e) fine says = tt
 pub fine_at_store : (config : Config) (request : Request) (asked : Route) (name : List ℕ) (events : List Doing) (answer : Result Response ApiErr) → AtStore config request asked name events answer → IfOk answer (λ response. IsStatusCode response.status)
 fine_at_store config request asked name events (Ok response) at = fine_store config request asked name events response at
 fine_at_store config request asked name events (Err e) at = tt
+
+pub fine_at_actor : (config : Config) (request : Request) (asked : Route) (kind id : List ℕ) (events : List Doing) (answer : Result Response ApiErr) → AtActorState config request asked kind id events answer → IfOk answer (λ response. IsStatusCode response.status)
+fine_at_actor config request asked kind id events (Ok response) at = fine_actor config request asked kind id events response at
+fine_at_actor config request asked kind id events (Err e) at = tt
 
 pub fine_at_list : (config : Config) (events : List Doing) (answer : Result Response ApiErr) → AtNotes ask.List (ListReplies config) events answer → IfOk answer (λ response. IsStatusCode response.status)
 fine_at_list config events (Ok response) at = fine_ran (ListReplies config) at.ran response (λ said. fine_list config said response) at.says

@@ -16,7 +16,7 @@ use Rattle.state_api.specs.declared.what.What.{What}
 use Rattle.state_api.specs.declared.what.What.TheVariants.{Shape}
 use Rattle.state_api.specs.declared.what.StateErr.{StateErr}
 use Rattle.state_api.specs.declared.what.StateErr.TheVariants as fault
-use Rattle.state_api.specs.Asked.{Asks}
+use Rattle.state_api.specs.Asked.{Asks, AsksActor}
 use Rattle.state_api.specs.Response.{response_of, malformed, done}
 use Rattle.meta_api.specs.declared.command.NotesCmd.{NotesCmd}
 use Rattle.meta_api.specs.declared.command.NotesCmd.TheVariants.{Put}
@@ -32,10 +32,10 @@ use Rattle.sidecar_objects.specs.declared.doing.Doing.TheVariants.{Stepped}
 use Rattle.sidecar_objects.specs.declared.doing.SlotStep.TheVariants.{Book}
 use Rattle.link_call.specs.Came.{IsOr, Lacks, Gives}
 use Rattle.sidecar_core.specs.Ran.{StoreRan}
-use Rattle.sidecar_core.specs.Actors.{AtActor}
+use Rattle.sidecar_core.specs.Actors.{AtActor, IsActorName}
 use Rattle.sidecar_core.specs.Called.{AtApp, AtBinding, AtBroker}
-use Rattle.sidecar_core.specs.Responses.{no_route, not_allowed, bad_escape, not_yet, no_store}
-use Rattle.sidecar_core.specs.Sites.{sites_of, place_named, IsSite, notes_of, sub_notes_of}
+use Rattle.sidecar_core.specs.Responses.{no_route, not_allowed, bad_escape, bad_actor, no_actor_store, no_store}
+use Rattle.sidecar_core.specs.Sites.{sites_of, place_named, IsSite, actor_store_of, IsActorSite, notes_of, sub_notes_of}
 
 -- ---- state
 
@@ -73,16 +73,22 @@ pub record Called (place : ℕ) (bound : Bound) (cmd : Cmd) (events : List Doing
   pub steps : StoreRan place bound cmd events ran
   pub replies : Replies cmd ran reply
 
--- A request of the state API at a store: its body is judged first, and then the command is given to the store. There may be no memory before anything is done
-pub data AtSite (place : ℕ) (site : Site) (request : Request) (asked : Route) (events : List Doing) (reply : Result Response ApiErr) : Type 0 where
-  lacks : Lacks events reply → AtSite place site request asked events reply
-  refused : (what : What) → Asks site.prefix request asked (Err what) → Gives (malformed what) events reply → AtSite place site request asked events reply
-  called : (cmd : Cmd) → Asks site.prefix request asked (Ok cmd) → Called place site.bound cmd events reply → AtSite place site request asked events reply
+-- A request at a store, by what it may mean: its body is judged first, and then the command is given to the store. There may be no memory before anything is done
+pub data AtSite (means : Result Cmd What → Type 0) (place : ℕ) (bound : Bound) (events : List Doing) (reply : Result Response ApiErr) : Type 0 where
+  lacks : Lacks events reply → AtSite means place bound events reply
+  refused : (what : What) → means (Err what) → Gives (malformed what) events reply → AtSite means place bound events reply
+  called : (cmd : Cmd) → means (Ok cmd) → Called place bound cmd events reply → AtSite means place bound events reply
 
 -- a request of the state API: the store of its name is looked for first
 pub data AtStore (config : Config) (request : Request) (asked : Route) (name : List ℕ) (events : List Doing) (reply : Result Response ApiErr) : Type 0 where
   unknown : place_named name (sites_of config) ≡ None → Gives (no_store name) events reply → AtStore config request asked name events reply
-  found : (place : ℕ) (site : Site) → IsSite config name place site → AtSite place site request asked events reply → AtStore config request asked name events reply
+  found : (place : ℕ) (site : Site) → IsSite config name place site → AtSite (Asks site.prefix request asked) place site.bound events reply → AtStore config request asked name events reply
+
+-- a request of the state of an actor: its kind and its id are judged before all else, and then the store of actors is looked for
+pub data AtActorState (config : Config) (request : Request) (asked : Route) (kind id : List ℕ) (events : List Doing) (reply : Result Response ApiErr) : Type 0 where
+  no_actor : ¬ IsActorName kind id → Gives bad_actor events reply → AtActorState config request asked kind id events reply
+  nowhere : IsActorName kind id → actor_store_of config.components ≡ None → Gives no_actor_store events reply → AtActorState config request asked kind id events reply
+  kept : IsActorName kind id → (place : ℕ) (site : Site) → IsActorSite config place site → AtSite (AsksActor config.app request asked) place site.bound events reply → AtActorState config request asked kind id events reply
 
 -- ---- metadata
 
@@ -128,7 +134,7 @@ pub data SetsNote (name value : List ℕ) (events : List Doing) (reply : Result 
 abbrev pub IsDone : List Doing → Result Response ApiErr → Type 0
 IsDone events reply = (events ≡ []) × (reply ≡ Ok done)
 
--- What a route's request is answered. Requests for the state of actors are not served yet
+-- what a route's request is answered
 abbrev pub Answered : Config → Request → Result Route RouteErr → List Doing → Result Response ApiErr → Type 0
 Answered config request (Ok (route.Save store)) events reply = AtStore config request (route.Save store) store events reply
 Answered config request (Ok (route.Get store key)) events reply = AtStore config request (route.Get store key) store events reply
@@ -139,8 +145,8 @@ Answered config request (Ok (route.Invoke app rest)) events reply = AtApp config
 Answered config request (Ok (route.Publish pubsub topic)) events reply = AtBroker config request pubsub topic events reply
 Answered config request (Ok (route.Binding name)) events reply = AtBinding config request name events reply
 Answered config request (Ok (route.ActorCall actor id)) events reply = AtActor config request actor id events reply
-Answered config request (Ok (route.ActorGet actor id key)) events reply = Gives not_yet events reply
-Answered config request (Ok (route.ActorChange actor id)) events reply = Gives not_yet events reply
+Answered config request (Ok (route.ActorGet actor id key)) events reply = AtActorState config request (route.ActorGet actor id key) actor id events reply
+Answered config request (Ok (route.ActorChange actor id)) events reply = AtActorState config request (route.ActorChange actor id) actor id events reply
 Answered config request (Ok route.Health) events reply = IsDone events reply
 Answered config request (Ok route.Metadata) events reply = AtNotes ask.List (ListReplies config) events reply
 Answered config request (Ok (route.SetMetadata name)) events reply = SetsNote name request.body events reply

@@ -25,11 +25,12 @@ bad_escape at = error_response 400 code.MalformedRequest (codes "escape at " ++ 
 abbrev pub bad_actor : Response
 bad_actor = error_response 400 code.MalformedRequest (codes "actor")
 
-abbrev pub not_yet : Response
-not_yet = error_response 404 code.NotFound (codes "not yet")
-
 abbrev pub no_binding : List ℕ → Response
 no_binding name = not_bound (codes "unknown binding " ++ name)
 
 abbrev pub no_store : List ℕ → Response
 no_store name = error_response 400 code.StateStoreNotFound (codes "state store " ++ name ++ codes " is not found")
+
+-- no state component keeps the state of actors
+abbrev pub no_actor_store : Response
+no_actor_store = error_response 500 code.ActorState (codes "no actor store")

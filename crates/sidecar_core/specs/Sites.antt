@@ -1,13 +1,14 @@
 -- The stores of a configuration, and what metadata tells of its components.
-use Rattle.std.specs.Prelude.{◌≡◌, ◌<◌, ℕ, All, Bool, true, false, List, length, map, filter, bytes_eq, position, Option, Some}
+use Rattle.std.specs.Prelude.{◌≡◌, ◌<◌, ℕ, All, Bool, true, false, ◌&&◌, not, List, length, map, filter, codes, bytes_eq, position, Option, Some, None}
 use Rattle.std.specs.Option.{ForSome}
 use mathlib.Core.Option.{some}
 use lib.ListN.{get_elem?}
 use Rattle.retry_core.specs.declared.policy.Bound.{Bound}
 use Rattle.resource_spec.specs.declared.component.ComponentKind.{ComponentKind}
 use Rattle.resource_spec.specs.declared.component.ComponentKind.TheVariants as kinds
-use Rattle.resource_spec.specs.Component.{Loaded, key_prefix_of, kind_name}
+use Rattle.resource_spec.specs.Component.{Loaded, key_prefix_of, kind_name, setting_of}
 use Rattle.policy_spec.specs.Policies.{bound_by, outbound}
+use Rattle.state_api.specs.Words.{has_bars}
 use Rattle.meta_api.specs.declared.response.ComponentNote.{ComponentNote}
 use Rattle.meta_api.specs.declared.response.SubscriptionNote.{SubscriptionNote}
 use Rattle.topic_spec.specs.declared.sub.Sub.{Sub}
@@ -40,6 +41,31 @@ place_named name sites = position (λ (site : Site). bytes_eq site.name name) si
 pub record IsSite (config : Config) (name : List ℕ) (place : ℕ) (site : Site) : Type 0 where
   pub named : place_named name (sites_of config) ≡ Some place
   pub there : get_elem? (sites_of config) place ≡ some site
+
+-- ---- the store of actors
+
+abbrev pub says_true : Option (List ℕ) → Bool
+says_true None = false
+says_true (Some text) = bytes_eq text (codes "true")
+
+abbrev pub holds_bars : Option (List ℕ) → Bool
+holds_bars None = false
+holds_bars (Some text) = has_bars text
+
+-- its setting `actorStateStore` is true, and in its setting `keyPrefix` no two bars stand in a row
+abbrev pub keeps_actors : Loaded → Bool
+keeps_actors c = says_true (setting_of c (codes "actorStateStore")) && not (holds_bars (setting_of c (codes "keyPrefix")))
+
+-- the place of the first state component that keeps the state of actors, among the state components
+abbrev pub actor_store_of : List Loaded → Option ℕ
+actor_store_of components = position keeps_actors (stores_of components)
+
+-- this is the store of actors, and it stands at this place
+pub record IsActorSite (config : Config) (place : ℕ) (site : Site) : Type 0 where
+  pub keeps : actor_store_of config.components ≡ Some place
+  pub there : get_elem? (sites_of config) place ≡ some site
+
+-- ---- metadata and breakers
 
 -- what metadata tells of a component: its name, its type and its version
 abbrev pub note_of : Loaded → ComponentNote

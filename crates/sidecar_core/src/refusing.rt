@@ -1,5 +1,5 @@
 ghost use Rattle.std.specs.Prelude.{◌≡◌, IfOk};
-ghost use Rattle.sidecar_core.specs.Responses.{no_route, not_allowed, bad_escape, bad_actor, not_yet, no_store};
+ghost use Rattle.sidecar_core.specs.Responses.{no_route, not_allowed, bad_escape, bad_actor, no_actor_store, no_store};
 
 use api_error::{Code, error_response};
 use api_routes::Methods;
@@ -42,13 +42,6 @@ pub(crate) fn bad_actor(alloc: Global) -> Result<Response, NoMemory>
     error_response(alloc, 400, Code::MalformedRequest, "actor")
 }
 
-/// The route is not served yet.
-pub(crate) fn not_yet(alloc: Global) -> Result<Response, NoMemory>
-    ensures { IfOk result (λ response. response ≡ not_yet) }
-{
-    error_response(alloc, 404, Code::NotFound, "not yet")
-}
-
 /// There is no state component of the name.
 pub(crate) fn no_store(alloc: Global, name: &Text) -> Result<Response, NoMemory>
     ensures { IfOk result (λ response. response ≡ no_store name.now) }
@@ -57,4 +50,11 @@ pub(crate) fn no_store(alloc: Global, name: &Text) -> Result<Response, NoMemory>
     message.push(name.as_str())?;
     message.push(" is not found")?;
     error_response(alloc, 400, Code::StateStoreNotFound, message.as_str())
+}
+
+/// No state component keeps the state of actors.
+pub(crate) fn no_actor_store(alloc: Global) -> Result<Response, NoMemory>
+    ensures { IfOk result (λ response. response ≡ no_actor_store) }
+{
+    error_response(alloc, 500, Code::ActorState, "no actor store")
 }

@@ -11,11 +11,12 @@ ghost use Rattle.sidecar_core.specs.Shown.{RouteShows, ShownFor};
 
 use crate::Shared;
 use crate::actor_request::at_actor;
+use crate::actor_state_request::at_actor_state;
 use crate::app_request::at_app;
 use crate::binding_request::at_binding;
 use crate::note_request::{list, put};
 use crate::publish_request::at_broker;
-use crate::refusing::{bad_escape, no_route, not_allowed, not_yet};
+use crate::refusing::{bad_escape, no_route, not_allowed};
 use crate::state_request::at_store;
 use api_routes::{Route, RouteErr};
 use keeper_core::Keeper;
@@ -93,7 +94,9 @@ fn answer<K: Keeper, L: Link, C: Clock, R: Rng, W: Wait>(
         Route::ActorCall { kind, id } => {
             at_actor(rt, shared, pass, request, kind, id, link, clock)
         }
-        Route::ActorGet { .. } | Route::ActorChange { .. } => given(not_yet(shared.alloc)),
+        Route::ActorGet { kind, id, .. } | Route::ActorChange { kind, id } => {
+            at_actor_state(rt, shared, pass, request, route, kind, id, clock, rng)
+        }
     }
 }
 

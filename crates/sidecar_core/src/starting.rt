@@ -153,7 +153,7 @@ pub fn count_of_stores(components: &Components) -> usize
 }
 
 /// 1 for a store, and 0 for another component.
-fn count_of(component: &Component) -> usize
+pub(crate) fn count_of(component: &Component) -> usize
     ensures exact { result ≡ length (stores_of (component.now ∷ [])) }
     ensures within { result ≤ 1 }
 {
@@ -210,7 +210,7 @@ fn copied(text: Option<&Text>) -> Result<Option<Text>, NoMemory>
 }
 
 /// Whether it is a store.
-fn is_store(kind: ComponentKind) -> bool
+pub(crate) fn is_store(kind: ComponentKind) -> bool
     ensures { result ≡ is_store kind }
 {
     match kind {

@@ -2,7 +2,7 @@
 ghost use Rattle.std.specs.Prelude.{◌≡◌, ◌<◌, ℕ, length, Some, Err};
 ghost use Rattle.turn_cell.specs.declared.error.ApiErr.TheVariants as error;
 ghost use Rattle.state_core.specs.Taken.{IsTaken};
-ghost use Rattle.state_api.specs.Asked.{IsState};
+ghost use Rattle.state_api.specs.Asked.{Asks, IsState};
 ghost use Rattle.state_api.specs.Response.{IsCut};
 ghost use Rattle.retry_core.specs.Bound.{IsWithinLimit};
 ghost use Rattle.sidecar_objects.specs.Passes.{IsPassOf};
@@ -78,7 +78,7 @@ fn at_site<K: Keeper, C: Clock, R: Rng, W: Wait>(
     requires place { place < length shared.now.objects.stores.items }
     requires breaker { HasBreakerOf (length shared.now.objects.breakers.items) site.now.bound }
     requires state { IsState route.now }
-    ensures does { DoesUncalled ⟦<Store<K> as ObjectKinds>⟧.kinds C.Clock R.stream shared.now.objects pass.old pass.new clock.old clock.new rng.old rng.new (AtSite place site.now request.now route.now) result }
+    ensures does { DoesUncalled ⟦<Store<K> as ObjectKinds>⟧.kinds C.Clock R.stream shared.now.objects pass.old pass.new clock.old clock.new rng.old rng.new (AtSite (Asks site.now.prefix request.now route.now) place site.now.bound) result }
     ensures shows { (count : ℕ) → result ≡ Err (error.Exhausted count) → IsShown place site.now.bound pass.new.stores.items pass.new.breakers.items count }
 {
     match command(shared.alloc, route, request, site.prefix()) {
@@ -88,7 +88,7 @@ fn at_site<K: Keeper, C: Clock, R: Rng, W: Wait>(
 }
 
 /// Gives a command to the store of this place, under what is bound to it, and answers what it came to.
-fn call<K: Keeper, C: Clock, R: Rng, W: Wait>(
+pub(crate) fn call<K: Keeper, C: Clock, R: Rng, W: Wait>(
     rt: &W,
     shared: &Shared<K>,
     pass: &mut Pass<K>,
@@ -115,7 +115,7 @@ fn call<K: Keeper, C: Clock, R: Rng, W: Wait>(
 }
 
 /// Answers a request that gives no command.
-fn given_fault(alloc: Global, error: StateErr) -> Result<Response, ApiErr>
+pub(crate) fn given_fault(alloc: Global, error: StateErr) -> Result<Response, ApiErr>
     ensures { FaultGives error result }
 {
     match error {

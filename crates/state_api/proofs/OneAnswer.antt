@@ -15,7 +15,7 @@ use Rattle.json_text.specs.Faults.{IsBad, dead, short, lone, IsDeep, IsFirstBad,
 use Rattle.state_api.specs.declared.what.What.{What}
 use Rattle.state_api.specs.declared.what.What.TheVariants.{Json}
 use Rattle.state_api.specs.Values.{Value}
-use Rattle.state_api.specs.Asked.{Asks, BodyAsks, bad, deep, text, save_in, bulk_in, transact_in}
+use Rattle.state_api.specs.Asked.{Asks, AsksActor, BodyAsks, bad, deep, text, actor_front, changes_in, save_in, bulk_in, transact_in}
 use Rattle.state_api.proofs.Members.{false_true}
 
 -- ---- what is wrong with a text stands within it
@@ -99,3 +99,20 @@ module _ (tree : (bytes : List ℕ) (values others : Forest) → IsText bytes va
   one_answer prefix request route.Metadata one other h g = absurd h
   one_answer prefix request (route.SetMetadata name) one other h g = absurd h
   one_answer prefix request route.Shutdown one other h g = absurd h
+
+  pub one_actors_answer : (app : List ℕ) (request : Request) (route : Route) (one other : Result Cmd What) → AsksActor app request route one → AsksActor app request route other → one ≡ other
+  one_actors_answer app request (route.Save store) one other h g = absurd h
+  one_actors_answer app request (route.Get store key) one other h g = absurd h
+  one_actors_answer app request (route.Delete store key) one other h g = absurd h
+  one_actors_answer app request (route.Bulk store) one other h g = absurd h
+  one_actors_answer app request (route.Transact store) one other h g = absurd h
+  one_actors_answer app request (route.Invoke id rest) one other h g = absurd h
+  one_actors_answer app request (route.Publish pubsub topic) one other h g = absurd h
+  one_actors_answer app request (route.Binding name) one other h g = absurd h
+  one_actors_answer app request (route.ActorCall kind id) one other h g = absurd h
+  one_actors_answer app request (route.ActorGet kind id key) one other h g = h ∙ sym g
+  one_actors_answer app request (route.ActorChange kind id) one other h g = one_body (changes_in (actor_front app kind id)) request.body one other h g
+  one_actors_answer app request route.Health one other h g = absurd h
+  one_actors_answer app request route.Metadata one other h g = absurd h
+  one_actors_answer app request (route.SetMetadata name) one other h g = absurd h
+  one_actors_answer app request route.Shutdown one other h g = absurd h

@@ -1,5 +1,5 @@
 -- The command that a state request asks for, or why it is malformed.
-use Rattle.std.specs.Prelude.{◌≡◌, ℕ, ◌+◌, ◌==◌, Bool, true, false, nat_le, List, [], ◌∷◌, length, map, codes, bytes_eq, Option, Some, None, Result, Ok, Err, if◌then◌else◌}
+use Rattle.std.specs.Prelude.{◌≡◌, ℕ, ◌+◌, ◌==◌, Bool, true, false, nat_le, List, [], ◌∷◌, ◌++◌, length, map, codes, bytes_eq, Option, Some, None, Result, Ok, Err, if◌then◌else◌}
 use Rattle.std.specs.Str.{is_utf8}
 use Rattle.std.specs.Str.Lossy.{utf8_lossy}
 use Rattle.form_urlencoded.specs.Form.{raw_pairs, decode}
@@ -17,6 +17,7 @@ use Rattle.state_core.specs.declared.command.Prefix.{Prefix}
 use Rattle.state_core.specs.declared.command.Item.{Item}
 use Rattle.state_core.specs.declared.command.Op.{Op}
 use Rattle.state_core.specs.declared.command.Op.TheVariants.{Upsert, Remove}
+use Rattle.state_core.specs.declared.command.Mode.TheVariants.{LastWrite}
 use Rattle.state_core.specs.declared.command.Cmd.{Cmd}
 use Rattle.state_core.specs.declared.command.Cmd.TheVariants.{Get, Save, Delete, Bulk, Transact}
 use Rattle.state_api.specs.declared.what.What.{What}
@@ -89,6 +90,25 @@ pub data BodyAsks {A : Type 0} (means : List ℕ → Value → Result A What) (b
   text : (spot : Spot) (children later : Forest) → IsText body (grows spot children later) → IsClean body (length body + 1)
       → answer ≡ means body (record { spot = spot; children = children }) → BodyAsks means body answer
 
+-- ---- the state of an actor
+
+-- an actor's keys stand behind the id of its app, its kind and its own id
+abbrev pub actor_front : List ℕ → List ℕ → List ℕ → Prefix
+actor_front app kind id = record { text = Some (app ++ codes "||" ++ kind ++ codes "||" ++ id) }
+
+-- the operation whatever stands under its key: its ETag is let go, and its mode
+abbrev pub unconditional : Op → Op
+unconditional (Upsert item) = Upsert (record { key = item.key; value = item.value; etag = None; mode = LastWrite; ttl = item.ttl })
+unconditional (Remove key etag mode) = Remove key None LastWrite
+
+abbrev pub change_of : Prefix → RawOp → Result Op What
+change_of prefix raw = followed (op_of prefix raw) (λ op. Ok (unconditional op))
+
+-- the body is a list of a transaction's operations
+abbrev pub changes_in : Prefix → List ℕ → Value → Result Cmd What
+changes_in prefix bytes value =
+    followed (list_in (op_in bytes) value) (λ raws. followed (few (change_of prefix) raws) (λ ops. Ok (Transact ops 0)))
+
 -- ---- a get, and a delete
 
 abbrev pub get_of : Prefix → List ℕ → Result Cmd What
@@ -160,6 +180,42 @@ Asks prefix request route.Health answer = ⊥
 Asks prefix request route.Metadata answer = ⊥
 Asks prefix request (route.SetMetadata name) answer = ⊥
 Asks prefix request route.Shutdown answer = ⊥
+
+-- a route of the state of actors
+abbrev pub IsActorState : Route → Type 0
+IsActorState (route.Save store) = ⊥
+IsActorState (route.Get store key) = ⊥
+IsActorState (route.Delete store key) = ⊥
+IsActorState (route.Bulk store) = ⊥
+IsActorState (route.Transact store) = ⊥
+IsActorState (route.Invoke app rest) = ⊥
+IsActorState (route.Publish pubsub topic) = ⊥
+IsActorState (route.Binding name) = ⊥
+IsActorState (route.ActorCall kind id) = ⊥
+IsActorState (route.ActorGet kind id key) = Unit {0}
+IsActorState (route.ActorChange kind id) = Unit {0}
+IsActorState route.Health = ⊥
+IsActorState route.Metadata = ⊥
+IsActorState (route.SetMetadata name) = ⊥
+IsActorState route.Shutdown = ⊥
+
+-- the answer is what a request of the route means, of an actor of this app
+abbrev pub AsksActor : List ℕ → Request → Route → Result Cmd What → Type 0
+AsksActor app request (route.Save store) answer = ⊥
+AsksActor app request (route.Get store key) answer = ⊥
+AsksActor app request (route.Delete store key) answer = ⊥
+AsksActor app request (route.Bulk store) answer = ⊥
+AsksActor app request (route.Transact store) answer = ⊥
+AsksActor app request (route.Invoke other rest) answer = ⊥
+AsksActor app request (route.Publish pubsub topic) answer = ⊥
+AsksActor app request (route.Binding name) answer = ⊥
+AsksActor app request (route.ActorCall kind id) answer = ⊥
+AsksActor app request (route.ActorGet kind id key) answer = answer ≡ get_of (actor_front app kind id) key
+AsksActor app request (route.ActorChange kind id) answer = BodyAsks (changes_in (actor_front app kind id)) request.body answer
+AsksActor app request route.Health answer = ⊥
+AsksActor app request route.Metadata answer = ⊥
+AsksActor app request (route.SetMetadata name) answer = ⊥
+AsksActor app request route.Shutdown answer = ⊥
 
 -- why a body is no JSON text
 abbrev pub fault_of : JsonErr → StateErr

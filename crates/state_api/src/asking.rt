@@ -107,7 +107,7 @@ fn item_of(alloc: Global, prefix: &Prefix, raw: RawItem) -> Result<Item, StateEr
 }
 
 /// The operation that is to be made.
-fn op_of(alloc: Global, prefix: &Prefix, raw: RawOp) -> Result<Op, StateErr>
+pub(crate) fn op_of(alloc: Global, prefix: &Prefix, raw: RawOp) -> Result<Op, StateErr>
     ensures gives { Gives result (op_of prefix.now raw) }
     ensures ttl { IfOk result HasTtl }
 {

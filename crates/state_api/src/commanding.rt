@@ -91,7 +91,7 @@ fn transact(alloc: Global, body: &[u8], prefix: &Prefix) -> Result<Cmd, StateErr
 }
 
 /// What is told of a body that is no JSON text.
-fn fault_of(error: JsonErr) -> StateErr
+pub(crate) fn fault_of(error: JsonErr) -> StateErr
     ensures { result ≡ fault_of error }
 {
     match error {
@@ -152,7 +152,7 @@ fn transact_of(alloc: Global, doc: &Doc<'_>, n: Node, prefix: &Prefix) -> Result
 }
 
 /// The command of a get.
-fn get(alloc: Global, key: &Text, prefix: &Prefix) -> Result<Cmd, StateErr>
+pub(crate) fn get(alloc: Global, key: &Text, prefix: &Prefix) -> Result<Cmd, StateErr>
     ensures gives { Gives result (get_of prefix.now key.now) }
     ensures taken { IfOk result IsTaken }
     ensures cut { IfOk result IsCut }
@@ -228,7 +228,7 @@ fn mode_in_query(alloc: Global, query: &[u8]) -> Result<Mode, StateErr>
 }
 
 /// The beginning of 1970.
-fn first_moment() -> Moment
+pub(crate) fn first_moment() -> Moment
     ensures { result ≡ 0 }
 {
     match Moment::at(0) {

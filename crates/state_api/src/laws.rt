@@ -13,7 +13,7 @@ ghost use Rattle.state_api.specs.declared.running.Ran.{Ran};
 ghost use Rattle.state_api.specs.Moment.{IsSame};
 ghost use Rattle.state_api.specs.Ran.{IsAnswer};
 ghost use Rattle.state_api.specs.Response.{IsCut, response_of};
-ghost use Rattle.state_api.specs.Asked.{Asks};
+ghost use Rattle.state_api.specs.Asked.{Asks, AsksActor};
 ghost use Rattle.state_api.specs.Laws.{AreKeyed, AsksSave, AsksTransaction, HasItems, IsFaultySave, IsNestedOp, IsOfWords, RefusesSave, SavesFineItems};
 
 use json_text::laws::a_text_has_one_tree;
@@ -22,6 +22,13 @@ use json_text::laws::a_text_has_one_tree;
 /// request means, and each fault exactly where it is the first, unless memory runs out.
 pub fn a_request_means_one_answer()
     ensures { (prefix : Prefix) (request : Request) (route : Route) (one other : Result Cmd What) → Asks prefix request route one → Asks prefix request route other → one ≡ other }
+{
+    a_text_has_one_tree();
+}
+
+/// So does a request of the state of actors, of an app's.
+pub fn an_actors_request_means_one_answer()
+    ensures { (app : List ℕ) (request : Request) (route : Route) (one other : Result Cmd What) → AsksActor app request route one → AsksActor app request route other → one ≡ other }
 {
     a_text_has_one_tree();
 }

@@ -22,7 +22,7 @@ const MOST_DIGITS: usize = 10;
 const LONGEST_TTL: u64 = 4_294_967_295;
 
 /// What stands between the prefix and the key.
-const SEPARATOR: &str = "||";
+pub(crate) const SEPARATOR: &str = "||";
 
 const BAR: u8 = b'|';
 
@@ -68,8 +68,8 @@ fn is_key(key: &[u8]) -> bool
     1 <= key.len() && key.len() <= LONGEST_KEY && !has_bars(key)
 }
 
-/// Whether two bars stand in a row.
-fn has_bars(key: &[u8]) -> bool
+/// Whether two bars stand in a row. Takes no memory.
+pub fn has_bars(key: &[u8]) -> bool
     ensures { result ≡ has_bars key.now }
 {
     let mut rest = key;

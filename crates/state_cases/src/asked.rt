@@ -1,13 +1,13 @@
 // The request of a case, and the command that it asks for.
 ghost use Rattle.std.specs.Prelude.{IfSome, IfOk};
-ghost use Rattle.state_api.specs.Asked.{IsState};
+ghost use Rattle.state_api.specs.Asked.{IsActorState, IsState};
 ghost use Rattle.state_api.specs.Response.{IsCut};
 
 use crate::given::{text, text_in};
 use api_routes::Route;
 use case_text::{Section, first_word, joined_text, name_in, text_of};
 use side_base::{Blob, Field, Fields, Method, Request, Text};
-use state_api::{StateErr, command};
+use state_api::{StateErr, actor_command, command};
 use state_core::{Cmd, Prefix};
 use std::alloc::Global;
 
@@ -73,6 +73,63 @@ fn prefix_of(alloc: Global, sections: &[Section<'_>]) -> Prefix {
     }
 }
 
+// The route of the state of an actor: its kind and its id, and the key of a get.
+fn actor_route_of(
+    alloc: Global,
+    sections: &[Section<'_>],
+    word: &str,
+    words: &str,
+) -> Option<Route>
+    ensures { IfSome result IsActorState }
+{
+    let (kind, rest) = first_word(words);
+    let (id, key) = first_word(rest);
+    let kind = text(alloc, kind);
+    let id = text(alloc, id);
+    match word {
+        "actor-get" => Some(Route::ActorGet {
+            kind,
+            id,
+            key: key_of(alloc, sections, key),
+        }),
+        "actor-change" => Some(Route::ActorChange { kind, id }),
+        _ => None,
+    }
+}
+
+// The command that a request of the state of an actor asks for.
+fn asked_of_actor(
+    alloc: Global,
+    sections: &[Section<'_>],
+    word: &str,
+    words: &str,
+) -> Option<Result<Cmd, StateErr>>
+    ensures { IfSome result (λ asked. IfOk asked IsCut) }
+{
+    let route = actor_route_of(alloc, sections, word, words)?;
+    let app = text(alloc, name_in(sections, "app").unwrap_or("a"));
+    Some(actor_command(
+        alloc,
+        &route,
+        &request_of(alloc, sections),
+        &app,
+    ))
+}
+
+// The command that a request of the state API asks for.
+fn asked_of_store(
+    alloc: Global,
+    sections: &[Section<'_>],
+    word: &str,
+    words: &str,
+) -> Option<Result<Cmd, StateErr>>
+    ensures { IfSome result (λ asked. IfOk asked IsCut) }
+{
+    let route = route_of(word, text(alloc, "s"), key_of(alloc, sections, words))?;
+    let request = request_of(alloc, sections);
+    Some(command(alloc, &route, &request, &prefix_of(alloc, sections)))
+}
+
 /// The command that the request of a case asks for; `None` where it names no route.
 pub(crate) fn asked(
     alloc: Global,
@@ -81,8 +138,9 @@ pub(crate) fn asked(
 ) -> Option<Result<Cmd, StateErr>>
     ensures { IfSome result (λ asked. IfOk asked IsCut) }
 {
-    let (word, key) = first_word(words);
-    let route = route_of(word, text(alloc, "s"), key_of(alloc, sections, key))?;
-    let request = request_of(alloc, sections);
-    Some(command(alloc, &route, &request, &prefix_of(alloc, sections)))
+    let (word, rest) = first_word(words);
+    match asked_of_store(alloc, sections, word, rest) {
+        Some(asked) => Some(asked),
+        None => asked_of_actor(alloc, sections, word, rest),
+    }
 }

@@ -3,8 +3,8 @@ use Rattle.policy_run.specs.Effects.{clocked}
 use Rattle.link_call.specs.LinkAt.{link_at}
 use Rattle.sidecar_objects.specs.Composed.{does_nothing, does_as}
 use Rattle.sidecar_core.specs.Exchange.{SetsNote}
-use Rattle.sidecar_core.proofs.Answering.{actors_answered, done_answered, names_store, not_exhausted, state_answered}
-use Rattle.sidecar_core.proofs.Statuses.{fine_at_list, fine_at_set, fine_at_store, fine_given}
+use Rattle.sidecar_core.proofs.Answering.{actors_answered, actors_show, done_answered, has_actor, names_store, not_exhausted, state_answered}
+use Rattle.sidecar_core.proofs.Statuses.{fine_at_actor, fine_at_list, fine_at_set, fine_at_store, fine_given}
 use Rattle.sidecar_core.proofs.responding.answer.Goals as goal
 
 pub returns-in-Publish-clause-does : goal.returns-in-Publish-clause-does
@@ -32,14 +32,18 @@ at_actor-requires-clause-target g c = c.requires.target c.in-ActorCall.kind c.in
 pub returns-in-ActorCall-clause-does : goal.returns-in-ActorCall-clause-does
 returns-in-ActorCall-clause-does g c = does_as _ _ _ _ _ _ (λ events at. rw c.in-ActorCall.is at) (c.at_actor.ensures.does (g.R.Rng.stream c.args.rng.now))
 
+pub at_actor_state-requires-clause-state : goal.at_actor_state-requires-clause-state
+at_actor_state-requires-clause-state g c = has_actor c.args.route.now c.in-ActorGet.kind c.in-ActorGet.id c.in-ActorGet.is
+
 pub returns-in-ActorGet-clause-does : goal.returns-in-ActorGet-clause-does
-returns-in-ActorGet-clause-does g c = does_nothing _ _ _ _ (actors_answered c.args.shared.now.config c.args.request.now _ c.given.result c.args.route.now c.in-ActorGet.is (refl, c.given.ensures _ c.not_yet.ensures))
+returns-in-ActorGet-clause-does g c = does_as _ _ _ _ _ _
+    (λ events at. actors_answered c.args.shared.now.config c.args.request.now events c.at_actor_state.result c.args.route.now c.in-ActorGet.kind c.in-ActorGet.id c.in-ActorGet.is at) (c.at_actor_state.ensures.does (link_at g.L.Link c.args.link.now))
 
 pub returns-in-ActorGet-clause-shows : goal.returns-in-ActorGet-clause-shows
-returns-in-ActorGet-clause-shows g c = λ count is. not_exhausted _ c.given.result count (c.given.ensures _ c.not_yet.ensures) is
+returns-in-ActorGet-clause-shows g c = λ count is. actors_show _ _ count c.args.route.now c.in-ActorGet.kind c.in-ActorGet.id c.in-ActorGet.is (c.at_actor_state.ensures.shows count is)
 
 pub returns-in-ActorGet-clause-status : goal.returns-in-ActorGet-clause-status
-returns-in-ActorGet-clause-status g c = fine_given _ c.given.result (omega arith, omega arith) (c.given.ensures _ c.not_yet.ensures)
+returns-in-ActorGet-clause-status g c = let d = c.at_actor_state.ensures.does (link_at g.L.Link c.args.link.now) in fine_at_actor c.args.shared.now.config c.args.request.now c.args.route.now c.in-ActorGet.kind c.in-ActorGet.id d.events c.at_actor_state.result d.held
 
 pub returns-in-Health-clause-does : goal.returns-in-Health-clause-does
 returns-in-Health-clause-does g c = does_nothing _ _ _ _ (done_answered c.args.shared.now.config c.args.request.now _ _ c.args.route.now c.in-Health.is (refl, λ i. Ok (c.health.ensures i)))

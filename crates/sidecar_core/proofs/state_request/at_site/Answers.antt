@@ -19,7 +19,7 @@ returns-in-Ok-clause-shows g c = λ count is. subst (λ b. IsShown c.args.place 
 
 pub returns-in-Err-clause-does : goal.returns-in-Err-clause-does
 returns-in-Err-clause-does g c = λ link. does_nothing _ _ _ _
-    (fault_at c.args.place c.args.site.now c.args.request.now c.args.route.now c.in-Err.error c.given_fault.result
+    (fault_at (Asks c.args.site.now.prefix c.args.request.now c.args.route.now) c.args.place c.args.site.now.bound c.in-Err.error c.given_fault.result
     (subst (λ p. Tells {A = Cmd} (Err c.in-Err.error) (Asks p c.args.request.now c.args.route.now)) c.prefix.ensures (subst (λ r. Tells {A = Cmd} r (Asks c.prefix.result.now c.args.request.now c.args.route.now)) c.in-Err.is c.command.ensures.asks))
     c.given_fault.ensures)
 
