@@ -4,8 +4,11 @@ use Rattle.std.specs.List.{AllPairs, filter, remove}
 use Rattle.side_base.specs.declared.message.LinkRequest.{LinkRequest}
 use Rattle.side_base.specs.declared.message.Response.{Response}
 use Rattle.side_world.specs.declared.link.LinkErr.{LinkErr}
+use Rattle.side_world.specs.declared.link.LinkErr.TheVariants.{Failed, NoMemory as Lacks}
 use Rattle.http_client.specs.declared.reply.Reply.{Reply}
 use Rattle.http_client.specs.declared.asking.AskErr.{AskErr}
+use Rattle.http_client.specs.declared.asking.AskErr.TheVariants.{Unsent, Unanswered}
+use Rattle.http_client.specs.declared.incoming.ReplyErr.TheVariants.{Bad, SourceFailed, NoMemory}
 use Rattle.net_edge.specs.CallTimes.{KeepsWhere}
 use Rattle.net_edge.specs.declared.call_connection.CallConnection.{CallConnection}
 
@@ -62,16 +65,22 @@ KeepsOwn request answer before after =
     → (IsOk answer → (it : CallConnection) → IsTo request it → test it ≡ true)
     → All (λ it. test it ≡ true) after
 
--- what a call over a connection answers where the reply is this
-abbrev pub Answers : Result Reply AskErr → Result Response LinkErr → Type 0
-Answers (Ok reply) answer = answer ≡ Ok reply.response
-Answers (Err why) (Ok response) = ⊥
-Answers (Err why) (Err error) = ⊤
+-- why a call over this connection has no answer: what its last write failed by where that failed, or its last read; a reply that is none, or want of memory
+abbrev pub unanswered : CallConnection → AskErr → LinkErr
+unanswered connection Unsent = connection.sink.cause
+unanswered connection (Unanswered Bad) = Failed
+unanswered connection (Unanswered SourceFailed) = connection.source.cause
+unanswered connection (Unanswered NoMemory) = Lacks
+
+-- what a call over this connection answers where the reply is this
+abbrev pub Answers : CallConnection → Result Reply AskErr → Result Response LinkErr → Type 0
+Answers connection (Ok reply) answer = answer ≡ Ok reply.response
+Answers connection (Err why) answer = answer ≡ Err (unanswered connection why)
 
 -- what comes of a call over a connection: its answer, and the connection where its reply says that it may be used again
 pub record IsOutcome (request : LinkRequest) (answer : Result Response LinkErr) (left : Option CallConnection) : Type 0 where
   pub reply : Result Reply AskErr
   pub connection : CallConnection
   pub target : IsTo request connection
-  pub answers : Answers reply answer
+  pub answers : Answers connection reply answer
   pub keeps : KeepsWhere reply connection left

@@ -1,6 +1,7 @@
 //! The two directions of a connection to another program, and the time that a call has for them.
 ghost use Rattle.std.specs.Prelude.{◌≡◌, ◌≢◌, ◌≤◌, None, false, length, IfOk};
-ghost use Rattle.side_world.specs.declared.link.LinkErr.TheVariants.{Expired};
+ghost use Rattle.std.specs.IoErrors.{error_kind};
+ghost use Rattle.side_world.specs.declared.link.LinkErr.TheVariants.{Expired, NoMemory};
 ghost use Rattle.side_world.specs.Faults.{Rose};
 
 use crate::call_time::Caller;
@@ -230,9 +231,11 @@ fn write_once(stream: &TcpStream, piece: &[u8]) -> io::Result<usize>
     stream.write(piece)
 }
 
-/// What an error of the host means for a call. None is an expiry, which only the end of the call's time is.
+/// What an error of the host means for a call: want of memory where it is that, and else a failure. None is an expiry, which only the end of the
+/// call's time is.
 pub(crate) fn cause_of(error: &io::Error) -> LinkErr
-    ensures { result ≢ Expired }
+    ensures no_expiry { result ≢ Expired }
+    ensures lacks { result ≡ NoMemory → error_kind error.now ≡ ErrorKind.OutOfMemory }
 {
     match error.kind() {
         ErrorKind::OutOfMemory => LinkErr::NoMemory,

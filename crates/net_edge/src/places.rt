@@ -328,8 +328,9 @@ impl Places {
     pub(crate) fn sweep_piece(&self, number: u64, ages: Ages, now: u64) {
         let piece = (number % self.pieces()) as usize;
         let first = piece.saturating_mul(SWEPT_AT_ONCE);
-        for place in self.places.iter().skip(first).take(SWEPT_AT_ONCE) {
-            self.close_old(place, ages, now);
+        let end = first.saturating_add(SWEPT_AT_ONCE).min(self.places.len());
+        for place in first..end {
+            self.close_old(&self.places[place], ages, now);
         }
     }
 }

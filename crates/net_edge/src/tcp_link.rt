@@ -163,7 +163,7 @@ fn answer_of(
 ) -> (Result<Response, LinkErr>, Option<CallConnection>)
     requires { IfOk reply (λ it. IsReply it.response) }
     ensures reply { IfOk result.0 IsReply }
-    ensures answers { Answers reply result.0 }
+    ensures answers { Answers connection reply result.0 }
     ensures kept { KeepsWhere reply connection result.1 }
 {
     match reply {

@@ -227,7 +227,7 @@ module _ {O : Type 0} (kinds : Kinds O) (cells : CellsAt O) (asked : Route) (nam
       ended_so place site named cmd asks called.steps.attempts called.steps.whole called.steps.outcome called.steps.made.words called.steps.made.before called.steps.made.last called.steps.made.whole called.steps.made.ends
       (subst (λ result. at.Replies cmd result served.reply) called.steps.ran called.replies)
 
-  at_site : (place : ℕ) (site : Site) → IsSite served.config name place site → AtSite place site served.request asked served.events served.reply → IsStateAnswered asked name served
+  at_site : (place : ℕ) (site : Site) → IsSite served.config name place site → AtSite (Asks site.prefix served.request asked) place site.bound served.events served.reply → IsStateAnswered asked name served
   at_site place site named (at.lacks none) = lacks none.1
   at_site place site named (at.refused what asks gives) = said_or (malformed what) (wrong what (record { place = place; site = site; named = named; asks = asks }) gives.0) gives.1
   at_site place site named (at.called cmd asks called) = called_so place site named cmd asks called

@@ -8,6 +8,7 @@ mod Fitting
 mod Journals
 mod Lines
 mod Noted
+mod Promises
 mod ServeCauses
 mod Serves
 mod Shown

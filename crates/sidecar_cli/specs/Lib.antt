@@ -9,6 +9,7 @@ pub mod Journals
 pub mod Lines
 pub mod Note
 pub mod Play
+pub mod Promises
 pub mod Run
 pub mod Serve
 pub mod ServeCauses

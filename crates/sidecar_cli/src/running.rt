@@ -1,4 +1,5 @@
 ghost use Rattle.std.specs.Prelude.{◌<◌};
+ghost use Rattle.sidecar_cli.specs.Promises.{EndsWellWhereItMay, HasItsCause, RefusesWords};
 ghost use Rattle.sidecar_cli.specs.Run.{IsCommand, IsMain, IsRun};
 ghost use Rattle.sidecar_cli.specs.World.{OverWorld, words_by};
 
@@ -7,6 +8,7 @@ use crate::drilling::run_drill;
 use crate::playing::play;
 use crate::serving::serve_port;
 use crate::{Status, World};
+use http_frames::laws::streams_are_unique;
 use keeper_journal::AnyKeeper;
 use rand_core::{Rng, SeedableRng};
 use rand_pcg::Pcg64;
@@ -23,6 +25,9 @@ use std::thread::Threads;
 ///
 /// With `--stdio` the requests of one connection are answered, over stores that are started for it and whose disks are given back; with
 /// `--check` the resources are read and counted; with `--drill` generated requests are answered and their statuses counted; without any of them the connections of a port are served, by workers side by side. Words that mean nothing are refused.
+///
+/// `run` says all that was done, by definitions; what follows of it is said by name: words are refused only where they mean nothing, each status has its cause, and where
+/// nothing is refused or fails and no cell is exhausted a run ends with 0, or for want of memory.
 pub fn sidecar_main<
     S: Source,
     N: Sink,
@@ -33,8 +38,12 @@ pub fn sidecar_main<
     O: Outside,
     W: Threads + Wait + Sync,
 >(rt: &W, alloc: Global, words: &[Text], world: &mut World<S, N, E, F, L, C, O>) -> Status
-    ensures { OverWorld S.Source N.Sink E.Sink F.Files L.Link C.Clock O.Outside (IsMain ⟦<Store<AnyKeeper<O::Disk>> as ObjectKinds>⟧.kinds (words_by ⟦<Pcg64 as Rng>⟧ ⟦<Pcg64 as SeedableRng>⟧) words.now) world.old world.new result }
+    ensures run { OverWorld S.Source N.Sink E.Sink F.Files L.Link C.Clock O.Outside (IsMain ⟦<Store<AnyKeeper<O::Disk>> as ObjectKinds>⟧.kinds (words_by ⟦<Pcg64 as Rng>⟧ ⟦<Pcg64 as SeedableRng>⟧) words.now) world.old world.new result }
+    ensures usage { OverWorld S.Source N.Sink E.Sink F.Files L.Link C.Clock O.Outside (RefusesWords words.now) world.old world.new result }
+    ensures status_has_its_cause { OverWorld S.Source N.Sink E.Sink F.Files L.Link C.Clock O.Outside (HasItsCause ⟦<Store<AnyKeeper<O::Disk>> as ObjectKinds>⟧.kinds words.now) world.old world.new result }
+    ensures ends_well_where_all_is_well { OverWorld S.Source N.Sink E.Sink F.Files L.Link C.Clock O.Outside (EndsWellWhereItMay ⟦<Store<AnyKeeper<O::Disk>> as ObjectKinds>⟧.kinds words.now) world.old world.new result }
 {
+    streams_are_unique();
     let status = run(rt, alloc, words, world);
     status.tell(&mut world.note);
     status

@@ -2,6 +2,7 @@ mod Answering
 mod Beginning
 mod Booked
 mod Brought
+mod Chosen
 mod Closed
 mod Doings
 mod Gathered

@@ -8,7 +8,7 @@ use side_base::Text;
 use state_api::has_bars;
 
 /// The place, among the state components, of the first that keeps the state of actors: its setting `actorStateStore` is `true`, and in its setting `keyPrefix`
-/// no two bars stand in a row, so that no key of a request is one of an actor. Takes no memory.
+/// no two bars stand in a row. Takes no memory.
 pub fn actor_store(components: &Components) -> Option<usize>
     ensures { result ≡ actor_store_of components.now }
 {
