@@ -1,5 +1,8 @@
 -- The passes of all objects that workers begin with.
 use Rattle.std.specs.Prelude.{◌+◌, ℕ, true, false, [], map, Some, None}
+use Rattle.std.specs.Coded.{Coded-set}
+use Rattle.actor_turns.specs.contracts.turns.Turns as actors
+use Rattle.actor_turns.specs.declared.turns.Turns.{Turns}
 use Rattle.turn_cell.specs.Sitting.{Begun, IsSeatOf, Sitting}
 use Rattle.turn_cell.specs.Passes.{EachSeated}
 use Rattle.sidecar_objects.specs.Kind.{CellsAt, SeatsAt}
@@ -27,3 +30,7 @@ pub record IsOwnPass {O : Type 0} (cells : CellsAt O) (seats : SeatsAt O) : Type
   pub breakers : EachSeated cells.breakers seats.breakers
   pub notes : IsSeatOf cells.notes seats.notes
   pub turns : IsSeatOf cells.turns seats.turns
+
+-- the turns of actors are data, so that an equation of them has at most one proof
+pub turns_set : IsSet Turns
+turns_set = Coded-set actors.the_row.coded
