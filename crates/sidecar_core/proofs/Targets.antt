@@ -31,9 +31,37 @@ begun parts (value ∷ values) are =
 
 all_long : (values : List (List ℕ)) (row : RouteRow) → IsAmong row table → IsLong values row
 unfolding table
-all_long values row among = each_long values table row
-    ((λ is are. absurd (cc)), ((λ is are. absurd (cc)), ((λ is are. absurd (cc)), ((λ is are. absurd (cc)), ((λ is are. absurd (cc)), ((λ is are. absurd (cc)), ((λ is are. absurd (cc)), ((λ is are. absurd (cc)), ((λ is are. absurd (cc)), ((λ is are. absurd (cc)),
-    ((λ is are. absurd (cc)), ((λ is are. absurd (cc)), ((λ is are. begun (Segment ∷ Literal (codes "method") ∷ Tail ∷ []) values are), ((λ is are. absurd (cc)), ((λ is are. absurd (cc)), tt))))))))))))))) among
+all_long values row among = each_long values table row (
+  (λ is are. absurd (cc)),
+  (
+    (λ is are. absurd (cc)),
+    (
+      (λ is are. absurd (cc)),
+      (
+        (λ is are. absurd (cc)),
+        (
+          (λ is are. absurd (cc)),
+          (
+            (λ is are. absurd (cc)),
+            (
+              (λ is are. absurd (cc)),
+              (
+                (λ is are. absurd (cc)),
+                (
+                  (λ is are. absurd (cc)),
+                  (
+                    (λ is are. absurd (cc)),
+                    ((λ is are. absurd (cc)), ((λ is are. absurd (cc)), ((λ is are. begun (Segment ∷ Literal (codes "method") ∷ Tail ∷ []) values are), ((λ is are. absurd (cc)), ((λ is are. absurd (cc)), tt))))),
+                  ),
+                ),
+              ),
+            ),
+          ),
+        ),
+      ),
+    ),
+  ),
+) among
 
 call_long : (method : Method) (target actor id : List ℕ) → Means method target (ActorCall actor id) → 13 ≤ length target
 call_long method target actor id means =
