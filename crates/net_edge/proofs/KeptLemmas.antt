@@ -135,7 +135,7 @@ outcome_own request answer it outcome = by outcome.reply outcome.answers outcome
   same true is = cc
   same false is = absurd (cc)
 
-  by : (reply : Result Reply AskErr) → Answers reply answer → KeepsWhere reply outcome.connection (Some it) → IsOk answer × IsTo request it
+  by : (reply : Result Reply AskErr) → Answers outcome.connection reply answer → KeepsWhere reply outcome.connection (Some it) → IsOk answer × IsTo request it
   by (Ok reply) answers keeps = (subst IsOk (sym answers) refl, subst (IsTo request) (same reply.persists keeps) outcome.target)
   by (Err why) answers keeps = absurd (cc)
 

@@ -1,6 +1,6 @@
 //! The two directions of a connection to another program, and the time that a call has for them.
 ghost use Rattle.std.specs.Prelude.{◌≡◌, ◌≢◌, ◌≤◌, None, false, length, IfOk};
-ghost use Rattle.std.specs.IoErrors.{error_kind};
+ghost use Rattle.std.specs.IoError.{error_kind};
 ghost use Rattle.side_world.specs.declared.link.LinkErr.TheVariants.{Expired, NoMemory};
 ghost use Rattle.side_world.specs.Faults.{Rose};
 

@@ -4,6 +4,7 @@ mod LastTries
 mod Calling
 mod Binding
 mod Publishing
+mod Accounted
 mod Storing
 mod Passing
 mod Noting

@@ -10,10 +10,13 @@ ghost use Rattle.ledger_core.specs.Message.{Step};
 ghost use Rattle.sidecar_objects.specs.Kind.{CellsAt, ledgers};
 ghost use Rattle.session_laws.specs.Served.{IsServed, Served};
 ghost use Rattle.session_laws.specs.Histories.{IsStepIn};
+ghost use Rattle.sidecar_turns.specs.Accounts.{OfEachLedger};
+ghost use Rattle.session_laws.specs.Accounts.{AccountsForAll, IsTakenIntoAccount};
 ghost use Rattle.session_laws.specs.Messages.{HasNoRoom, IsAnsweredWhereAllIsWell, IsMessageAnswered};
 
 use keeper_core::Keeper;
 use sidecar_objects::ObjectKinds;
+use sidecar_turns::laws::{counts_are_all_deliveries, each_delivery_has_one_status};
 use state_core::Store;
 
 /// A request to publish has the answer of one of these causes: there is no pub/sub component of the name; its scopes don't let the app publish to the topic; the body
@@ -33,3 +36,16 @@ pub fn a_full_ledger_has_no_room<K: Keeper>()
     ensures { (first : Ledger) (seen : List Step) (step : Step) (event : List ℕ) (aims : List Aim) (now rows bytes : ℕ) → (there : IsStepIn (⟦<Store<K> as ObjectKinds>⟧.kinds ledgers) first seen step)
         → step.cmd ≡ Accept event aims now → step.reply ≡ Full rows bytes → HasNoRoom there.before step rows bytes }
 {}
+
+/// By the one history that a pass has seen of a ledger each message that the ledger took is accounted for, whatever other passes did between: to each subscription that it is
+/// for there is one delivery, and it is exactly one of owed and waiting, owed and out at a worker, done, dropped, and dead-lettered. So is each message that was made of a
+/// delivery that was dead-lettered. Where the ledger was counted, the four counts are those of its deliveries, and add up to all of them.
+///
+/// What a request published is accounted for so behind the request.
+pub fn each_message_is_accounted_for<K: Keeper>()
+    ensures ledgers { OfEachLedger ⟦<Store<K> as ObjectKinds>⟧.kinds AccountsForAll }
+    ensures published { (cells : CellsAt _) (pubsub topic : List ℕ) (served : Served _) → IsServed ⟦<Store<K> as ObjectKinds>⟧.kinds cells (Publish pubsub topic) served → IsTakenIntoAccount ⟦<Store<K> as ObjectKinds>⟧.kinds cells pubsub topic served }
+{
+    each_delivery_has_one_status::<K>();
+    counts_are_all_deliveries::<K>();
+}

@@ -74,12 +74,7 @@ fn prefix_of(alloc: Global, sections: &[Section<'_>]) -> Prefix {
 }
 
 // The route of the state of an actor: its kind and its id, and the key of a get.
-fn actor_route_of(
-    alloc: Global,
-    sections: &[Section<'_>],
-    word: &str,
-    words: &str,
-) -> Option<Route>
+fn actor_route_of(alloc: Global, sections: &[Section<'_>], word: &str, words: &str) -> Option<Route>
     ensures { IfSome result IsActorState }
 {
     let (kind, rest) = first_word(words);
@@ -108,12 +103,7 @@ fn asked_of_actor(
 {
     let route = actor_route_of(alloc, sections, word, words)?;
     let app = text(alloc, name_in(sections, "app").unwrap_or("a"));
-    Some(actor_command(
-        alloc,
-        &route,
-        &request_of(alloc, sections),
-        &app,
-    ))
+    Some(actor_command(alloc, &route, &request_of(alloc, sections), &app))
 }
 
 // The command that a request of the state API asks for.
