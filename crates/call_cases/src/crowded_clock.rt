@@ -52,7 +52,7 @@ pub(crate) struct CrowdedClock<'a, W> {
     pub(crate) sections: &'a [Section<'a>],
     /// How many pauses were made.
     pub(crate) pauses: u64,
-    ghost seated: { IsSeatOf cell seat },
+    ghost seated: { IsSeatOf cell.now seat },
 }
 
 impl<W: Wait> Clock for CrowdedClock<'_, W> {
