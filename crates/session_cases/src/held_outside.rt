@@ -1,7 +1,5 @@
 // An outside of which two workers may have to meet.
 
-ghost use Rattle.std.specs.Prelude.{None};
-
 use crate::held_disk::HeldDisk;
 use crate::held_link::HeldLink;
 use crate::meeting::{Meeting, Meets};
@@ -30,6 +28,10 @@ impl<'a> Outside for HeldOutside<'a> {
 
     type Clock = MemoryClock;
 
+    ghost use Rattle.std.specs.Prelude.{◌≤◌, None};
+    ghost use Rattle.side_world.specs.Faults.{RoseWith};
+    ghost use Rattle.side_memory.specs.MemoryOutside.{faults_of};
+
     ghost disks = { λ _. None };
 
     ghost calls = { λ _. None };
@@ -38,7 +40,7 @@ impl<'a> Outside for HeldOutside<'a> {
 
     ghost numbers = { λ _. None };
 
-    ghost faults = { λ o. ⟦<MemoryOutside as Outside>⟧.faults o.outside };
+    ghost faults = { λ o. faults_of o.outside };
 
     fn take_disk(&mut self, path: &[u8]) -> Result<HeldDisk<'a>, Failed> {
         let disk = self.outside.take_disk(path)?;
@@ -75,7 +77,10 @@ impl<'a> Outside for HeldOutside<'a> {
         })
     }
 
-    fn give_worker(&mut self, number: u32, parts: HeldParts<'a>) {
+    fn give_worker(&mut self, number: u32, parts: HeldParts<'a>)
+        ensures faults { RoseWith parts.acceptor.faults (faults_of self.old.outside) (faults_of self.new.outside) }
+        ensures no_fewer { faults_of self.old.outside ≤ faults_of self.new.outside }
+    {
         let WorkerParts {
             acceptor,
             link,
