@@ -1,7 +1,7 @@
 // What the sections of a case say. What finds no memory is left out: then the case differs, and is played again.
 
 use case_text::{Section, name_in, number_in};
-use side_base::{Moment, Places, Text};
+use side_base::{Places, Text};
 use side_memory::{Sizes, Steps};
 use std::alloc::Global;
 
@@ -39,14 +39,6 @@ pub(crate) fn steps(alloc: Global, sections: &[Section<'_>]) -> Steps {
         }
     }
     steps
-}
-
-/// The beginning of 1970.
-pub(crate) fn first_moment() -> Moment {
-    match Moment::at(0) {
-        Some(moment) => moment,
-        None => unreachable!(),
-    }
 }
 
 fn add_word(alloc: Global, words: &mut Vec<Text>, word: &str) {

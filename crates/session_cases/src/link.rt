@@ -50,8 +50,8 @@ fn answer(
     }
 }
 
-/// What a link answers, in order.
-pub(crate) fn answers_of(alloc: Global, sections: &[Section<'_>]) -> LinkAnswers {
+// What the link answers, in order.
+fn answers_of(alloc: Global, sections: &[Section<'_>]) -> LinkAnswers {
     let mut answers = LinkAnswers::new(alloc);
     for i in 0..sections.len() {
         if let Some(answer) = answer(alloc, &sections[i], &sections[i + 1..]) {

@@ -3,16 +3,10 @@
 #![tactic(auto)]
 
 mod given;
-mod held_disk;
-mod held_link;
-mod held_outside;
 mod link;
-mod meeting;
 mod playing;
-mod workers;
 mod world;
 
-use crate::meeting::Meeting;
 use crate::playing::played;
 use case_text::{CASE, Tally, pieces};
 use side_base::NoMemory;
@@ -25,12 +19,11 @@ use std::{env, fs, io};
 fn play_all<W: Threads + Wait + Sync>(
     rt: &W,
     alloc: Global,
-    meeting: &Meeting,
     text: &[u8],
     tally: &mut Tally,
 ) -> Result<(), NoMemory> {
     for case in pieces(alloc, text, CASE)? {
-        let (wrong, again) = played(rt, alloc, meeting, &case);
+        let (wrong, again) = played(rt, alloc, &case);
         tally.count(case.head, &wrong, again);
     }
     Ok(())
@@ -38,10 +31,9 @@ fn play_all<W: Threads + Wait + Sync>(
 
 fn main(rt: HostRuntime) -> io::Result<()> {
     let mut tally = Tally::new(rt.alloc());
-    let meeting = Meeting::new(rt);
     for name in env::args(&rt)?.skip(1) {
         let text = fs::read(&rt, name.as_str())?;
-        play_all(&rt, rt.alloc(), &meeting, text.as_slice(), &mut tally)?;
+        play_all(&rt, rt.alloc(), text.as_slice(), &mut tally)?;
     }
     tally.print(&rt)
 }

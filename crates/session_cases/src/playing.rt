@@ -2,8 +2,6 @@
 
 use crate::given::{sizes, words};
 use crate::link::asked;
-use crate::meeting::{Meeting, Meets};
-use crate::workers::compare_workers;
 use crate::world::{Made, world};
 use case_text::{Lines, Piece, Section, add_broken, joined_text, name_in, sections, text_of};
 use itoa::Buffer;
@@ -15,8 +13,8 @@ use std::sync::Wait;
 use std::thread::Threads;
 
 // Compares what a disk holds afterwards.
-fn compare_disk(alloc: Global, lines: &mut Lines, section: &Section<'_>, world: &Made<'_>) {
-    match world.outside.outside.disk(section.name.as_bytes()) {
+fn compare_disk(alloc: Global, lines: &mut Lines, section: &Section<'_>, world: &Made) {
+    match world.outside.disk(section.name.as_bytes()) {
         Some(disk) => lines.compare("kept", text_of(alloc, section).bytes(), disk.bytes()),
         None => lines.add_line("no disk ", section.name),
     }
@@ -44,14 +42,6 @@ fn is_known(word: &str) -> bool {
         | "expires"
         | "lacks"
         | "asked"
-        | "meet"
-        | "worker"
-        | "visit"
-        | "idle"
-        | "closed"
-        | "accept-fails"
-        | "got"
-        | "called"
         | "output"
         | "note"
         | "status" => true,
@@ -60,7 +50,7 @@ fn is_known(word: &str) -> bool {
 }
 
 // Compares what each section wants that no other of its word is joined to.
-fn compare_each(alloc: Global, lines: &mut Lines, sections: &[Section<'_>], world: &Made<'_>) {
+fn compare_each(alloc: Global, lines: &mut Lines, sections: &[Section<'_>], world: &Made) {
     for section in sections {
         if section.word == "kept" {
             compare_disk(alloc, lines, section, world);
@@ -71,7 +61,7 @@ fn compare_each(alloc: Global, lines: &mut Lines, sections: &[Section<'_>], worl
 }
 
 // Compares what the link was asked.
-fn compare_asked(alloc: Global, lines: &mut Lines, sections: &[Section<'_>], world: &Made<'_>) {
+fn compare_asked(alloc: Global, lines: &mut Lines, sections: &[Section<'_>], world: &Made) {
     let wanted = joined_text(alloc, sections, "asked");
     let got = asked(alloc, &world.link);
     lines.compare("asked", wanted.bytes(), got.as_str().as_bytes());
@@ -82,7 +72,7 @@ fn compare_all(
     alloc: Global,
     lines: &mut Lines,
     sections: &[Section<'_>],
-    world: &Made<'_>,
+    world: &Made,
     status: u8,
 ) {
     let output = joined_text(alloc, sections, "output");
@@ -97,10 +87,6 @@ fn compare_all(
         wanted.as_bytes(),
         buffer.format(status).as_bytes(),
     );
-    compare_workers(alloc, lines, sections, &world.outside.outside);
-    if world.outside.meets != Meets::Nobody && !world.outside.meeting.is_met() {
-        lines.add_line("not met", "");
-    }
     compare_each(alloc, lines, sections, world);
 }
 
@@ -108,13 +94,11 @@ fn compare_all(
 fn judge<W: Threads + Wait + Sync>(
     rt: &W,
     alloc: Global,
-    meeting: &Meeting,
     sections: &[Section<'_>],
     reads: Sizes,
     lines: &mut Lines,
 ) {
-    meeting.begin();
-    let mut world = world(alloc, meeting, sections, reads);
+    let mut world = world(alloc, sections, reads);
     let words = words(alloc, sections);
     let status = sidecar_main(rt, alloc, words.as_slice(), &mut world);
     compare_all(alloc, lines, sections, &world, status.code());
@@ -124,7 +108,6 @@ fn judge<W: Threads + Wait + Sync>(
 fn judge_bytes<W: Threads + Wait + Sync>(
     rt: &W,
     alloc: Global,
-    meeting: &Meeting,
     sections: &[Section<'_>],
     lines: &mut Lines,
 ) {
@@ -134,14 +117,13 @@ fn judge_bytes<W: Threads + Wait + Sync>(
             lines.lack();
         }
     }
-    judge(rt, alloc, meeting, sections, reads, lines);
+    judge(rt, alloc, sections, reads, lines);
 }
 
 // Adds what is wrong where the input comes in two pieces, cut behind each of its bytes in turn.
 fn judge_cuts<W: Threads + Wait + Sync>(
     rt: &W,
     alloc: Global,
-    meeting: &Meeting,
     sections: &[Section<'_>],
     lines: &mut Lines,
 ) {
@@ -150,7 +132,7 @@ fn judge_cuts<W: Threads + Wait + Sync>(
         if reads.push(place).is_err() {
             lines.lack();
         }
-        judge(rt, alloc, meeting, sections, reads, lines);
+        judge(rt, alloc, sections, reads, lines);
     }
 }
 
@@ -158,15 +140,14 @@ fn judge_cuts<W: Threads + Wait + Sync>(
 fn judge_case<W: Threads + Wait + Sync>(
     rt: &W,
     alloc: Global,
-    meeting: &Meeting,
     sections: &[Section<'_>],
     lines: &mut Lines,
 ) {
     if name_in(sections, "cuts").is_some() {
-        judge_cuts(rt, alloc, meeting, sections, lines);
-        judge_bytes(rt, alloc, meeting, sections, lines);
+        judge_cuts(rt, alloc, sections, lines);
+        judge_bytes(rt, alloc, sections, lines);
     } else {
-        judge(rt, alloc, meeting, sections, sizes(alloc, sections), lines);
+        judge(rt, alloc, sections, sizes(alloc, sections), lines);
     }
 }
 
@@ -174,24 +155,18 @@ fn judge_case<W: Threads + Wait + Sync>(
 fn wrong<W: Threads + Wait + Sync>(
     rt: &W,
     alloc: Global,
-    meeting: &Meeting,
     case: &Piece<'_>,
 ) -> Result<Text, NoMemory> {
     let mut lines = Lines::new(alloc);
     let sections = sections(alloc, case)?;
     add_broken(alloc, &sections, &mut lines);
-    judge_case(rt, alloc, meeting, &sections, &mut lines);
+    judge_case(rt, alloc, &sections, &mut lines);
     lines.done()
 }
 
 // The same, with want of memory as a difference.
-fn wrong_at_last<W: Threads + Wait + Sync>(
-    rt: &W,
-    alloc: Global,
-    meeting: &Meeting,
-    case: &Piece<'_>,
-) -> Text {
-    match wrong(rt, alloc, meeting, case) {
+fn wrong_at_last<W: Threads + Wait + Sync>(rt: &W, alloc: Global, case: &Piece<'_>) -> Text {
+    match wrong(rt, alloc, case) {
         Ok(wrong) => wrong,
         Err(_) => Text::from_static(alloc, "no memory\n"),
     }
@@ -201,11 +176,10 @@ fn wrong_at_last<W: Threads + Wait + Sync>(
 pub(crate) fn played<W: Threads + Wait + Sync>(
     rt: &W,
     alloc: Global,
-    meeting: &Meeting,
     case: &Piece<'_>,
 ) -> (Text, bool) {
-    match wrong(rt, alloc, meeting, case) {
+    match wrong(rt, alloc, case) {
         Ok(wrong) if wrong.is_empty() => (wrong, false),
-        _ => (wrong_at_last(rt, alloc, meeting, case), true),
+        _ => (wrong_at_last(rt, alloc, case), true),
     }
 }

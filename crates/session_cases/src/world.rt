@@ -1,12 +1,9 @@
 // The world of a case, in memory.
 
-use crate::given::{first_moment, places, steps};
-use crate::held_outside::HeldOutside;
+use crate::given::{places, steps};
 use crate::link::link_of;
-use crate::meeting::{Meeting, Meets};
-use crate::workers::{add_workers, before_next};
-use case_text::{Section, joined_text, name_in, text_of};
-use side_base::{Places, Text};
+use case_text::{Section, joined_text, text_of};
+use side_base::{Moment, Places, Text};
 use side_memory::{
     MemoryClock, MemoryFiles, MemoryLink, MemoryOutside, MemorySink, MemorySource, Numbers, Sizes,
 };
@@ -14,14 +11,14 @@ use sidecar_cli::World;
 use std::alloc::Global;
 
 /// A world in memory.
-pub(crate) type Made<'a> = World<
+pub(crate) type Made = World<
     MemorySource,
     MemorySink,
     MemorySink,
     MemoryFiles,
     MemoryLink,
     MemoryClock,
-    HeldOutside<'a>,
+    MemoryOutside,
 >;
 
 fn add_file(alloc: Global, files: &mut MemoryFiles, section: &Section<'_>) {
@@ -47,7 +44,7 @@ fn add_disk(alloc: Global, outside: &mut MemoryOutside, section: &Section<'_>, f
     let _ = outside.add_disk(section.name.as_bytes(), bytes.bytes(), failing);
 }
 
-// An outside with the disks and the workers of a case.
+// An outside with the disks of a case.
 fn outside(alloc: Global, sections: &[Section<'_>]) -> MemoryOutside {
     let failing = places(alloc, sections, "outside-fails");
     let mut outside = MemoryOutside::new(alloc, Numbers::new(alloc), failing);
@@ -57,17 +54,7 @@ fn outside(alloc: Global, sections: &[Section<'_>]) -> MemoryOutside {
             add_disk(alloc, &mut outside, section, failing);
         }
     }
-    add_workers(alloc, &mut outside, sections);
     outside
-}
-
-// What meets in a case.
-fn meets(sections: &[Section<'_>]) -> Meets {
-    match name_in(sections, "meet") {
-        Some("links") => Meets::Links,
-        Some("disks") => Meets::Disks,
-        _ => Meets::Nobody,
-    }
 }
 
 fn source(alloc: Global, sections: &[Section<'_>], reads: Sizes) -> MemorySource {
@@ -80,26 +67,23 @@ fn sink(alloc: Global, sections: &[Section<'_>], word: &str) -> MemorySink {
     MemorySink::new(alloc, Sizes::new(alloc), places(alloc, sections, word))
 }
 
-/// The world of a case, whose reads bring so many bytes at most. The link and the clock of the program are those of the sections before the first worker's.
-pub(crate) fn world<'a>(
-    alloc: Global,
-    meeting: &'a Meeting,
-    sections: &[Section<'_>],
-    reads: Sizes,
-) -> Made<'a> {
-    let own = &sections[..before_next(sections)];
+// The beginning of 1970.
+fn first_moment() -> Moment {
+    match Moment::at(0) {
+        Some(moment) => moment,
+        None => unreachable!(),
+    }
+}
+
+/// The world of a case, whose reads bring so many bytes at most.
+pub(crate) fn world(alloc: Global, sections: &[Section<'_>], reads: Sizes) -> Made {
     World {
         source: source(alloc, sections, reads),
         sink: sink(alloc, sections, "sink-fails"),
         note: sink(alloc, sections, "note-fails"),
         files: files(alloc, sections),
-        link: link_of(alloc, own),
-        clock: MemoryClock::new(alloc, first_moment(), steps(alloc, own)),
-        outside: HeldOutside {
-            outside: outside(alloc, sections),
-            meeting,
-            meets: meets(sections),
-            disks: 0,
-        },
+        link: link_of(alloc, sections),
+        clock: MemoryClock::new(alloc, first_moment(), steps(alloc, sections)),
+        outside: outside(alloc, sections),
     }
 }
