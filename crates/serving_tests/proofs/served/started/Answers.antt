@@ -11,5 +11,6 @@ returns-in-Ok g c =
         ledgers = roots.each kind.ledgers i;
         breakers = roots.each kind.breakers i;
         notes = ap (λ l. get_or l 0 c.in-Ok.pass.notes) (roots.each kind.book) i;
+        turns = ap (λ l. get_or l 0 c.in-Ok.pass.turns) (roots.each kind.turns) i;
       };
     }
