@@ -78,7 +78,7 @@ impl<'a> Outside for HeldOutside<'a> {
     }
 
     fn give_worker(&mut self, number: u32, parts: HeldParts<'a>)
-        ensures faults { RoseWith parts.acceptor.faults (faults_of self.old.outside) (faults_of self.new.outside) }
+        ensures faults { RoseWith parts.entry.acceptor.faults (faults_of self.old.outside) (faults_of self.new.outside) }
         ensures no_fewer { faults_of self.old.outside ≤ faults_of self.new.outside }
     {
         let WorkerParts {
