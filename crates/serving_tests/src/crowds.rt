@@ -37,7 +37,7 @@ fn is_served<G: Gate + Sync, R: Host + Threads + Send + Sync>(
 }
 
 /// Asks for a shutdown, and answers whether it is granted.
-pub(crate) fn shut_down<R: Net<Listener = TcpListener, Stream = TcpStream> + Clock>(
+fn shut_down<R: Net<Listener = TcpListener, Stream = TcpStream> + Clock>(
     rt: &R,
     alloc: Global,
     port: u16,

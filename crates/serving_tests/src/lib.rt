@@ -1,5 +1,4 @@
-//! Tests of workers that serve: two that must find each other in the midst of their work, four that deliver, over an outside in memory, and three and four over loopback; and of whole
-//! requests over a store whose commit fails.
+//! Tests of workers that serve: two that must find each other in the midst of their work, over an outside in memory, and four over loopback.
 #![tactic(auto)]
 
 #[cfg(test)]
@@ -7,15 +6,9 @@ mod clients;
 #[cfg(test)]
 mod crowds;
 #[cfg(test)]
-mod delivering;
-#[cfg(test)]
-mod failing_commit;
-#[cfg(test)]
 mod held_disk;
 #[cfg(test)]
 mod holding;
-#[cfg(test)]
-mod hung_app;
 #[cfg(test)]
 mod meeting;
 #[cfg(test)]

@@ -1,7 +1,6 @@
 //! Serving over given keepers, or over one store in memory.
 ghost use Rattle.std.specs.Prelude.{◌≡◌, IfSome};
 ghost use Rattle.sidecar_objects.specs.Pass.{cells_of, seats_of};
-ghost use Rattle.sidecar_objects.specs.Passes.{IsPassOf};
 ghost use Rattle.sidecar_serving.specs.Passes.{root_pass};
 
 use app_peers::PeerList;
@@ -17,11 +16,11 @@ use sidecar_serving::{End, serve};
 use std::alloc::Global;
 use std::sync::Wait;
 use std::thread::Threads;
-use topic_spec::{Subs, subscriptions};
+use topic_spec::Subs;
 use yaml_subset::read_docs;
 
 /// One store in memory.
-pub(crate) const ONE_STORE: &[u8] =
+const RESOURCES: &[u8] =
     b"apiVersion: dapr.io/v1alpha1\nkind: Component\nmetadata:\n  name: statestore\nspec:\n  type: state.in-memory\n  version: v1\n";
 
 /// How many bytes the rows of the store may have.
@@ -30,38 +29,33 @@ const LIMIT: u64 = 402_653_184;
 /// Fewer generators than this are served by.
 const MOST_WORKERS: usize = 65_535;
 
-/// The configuration that a resource file says, of an app at this port; without one it has no subscriptions.
-pub(crate) fn config(alloc: Global, resources: &[u8], app_port: Option<u16>) -> Option<Config> {
+/// The configuration that a resource file says.
+fn config(alloc: Global, resources: &[u8]) -> Option<Config> {
     let app = Text::from_static(alloc, "a");
     let docs = read_docs(alloc, resources).ok()?;
-    let subs = match app_port {
-        Some(_) => subscriptions(alloc, &docs, &app).ok()?,
-        None => Subs::new(alloc),
-    };
     Some(Config {
         components: components(alloc, &docs, &app).ok()?,
-        subs,
+        subs: Subs::new(alloc),
         policies: policies(alloc, &docs, &app).ok()?,
-        app_port,
+        app_port: None,
         peers: PeerList::new(alloc),
         app,
     })
 }
 
-/// A keeper without rows, of which these commits fail.
-pub(crate) fn one_keeper(alloc: Global, failing: Places) -> Result<Vec<MemoryKeeper>, NoMemory> {
+/// A keeper without rows.
+fn one_keeper(alloc: Global) -> Result<Vec<MemoryKeeper>, NoMemory> {
     let mut keepers = Vec::new(alloc);
-    keepers.push(MemoryKeeper::new(alloc, LIMIT, failing, [7; 16]))?;
+    keepers.push(MemoryKeeper::new(alloc, LIMIT, Places::new(alloc), [7; 16]))?;
     Ok(keepers)
 }
 
 /// The objects of a sidecar of this configuration, and the pass over them.
-pub(crate) fn started<K: Keeper>(
+fn started<K: Keeper>(
     alloc: Global,
     config: Config,
     keepers: Vec<K>,
 ) -> Option<(Shared<K>, Pass<K>)>
-    ensures pass { IfSome result (λ made. IsPassOf (cells_of made.0.objects) (seats_of made.1)) }
     ensures root { IfSome result (λ made. seats_of made.1 ≡ root_pass 0 (cells_of made.0.objects)) }
 {
     if count_of_stores(&config.components) != keepers.len() {
@@ -91,8 +85,8 @@ pub(crate) fn served<O: Outside, G: Gate + Sync, W: Threads + Wait + Sync>(
     gate: &G,
     outside: &mut O,
 ) -> Option<End> {
-    let keepers = one_keeper(alloc, Places::new(alloc)).ok()?;
-    served_over(rt, alloc, ONE_STORE, keepers, port, workers, gate, outside)
+    let keepers = one_keeper(alloc).ok()?;
+    served_over(rt, alloc, RESOURCES, keepers, port, workers, gate, outside)
 }
 
 /// The same over the stores of a resource file, whose keepers these are.
@@ -106,38 +100,7 @@ pub(crate) fn served_over<K: Keeper + Send, O: Outside, G: Gate + Sync, W: Threa
     gate: &G,
     outside: &mut O,
 ) -> Option<End> {
-    let config = config(alloc, resources, None)?;
-    served_as(rt, alloc, config, keepers, port, workers, gate, outside)
-}
-
-/// The same of a resource file without stores, beside an app at this port.
-pub(crate) fn served_beside<O: Outside, G: Gate + Sync, W: Threads + Wait + Sync>(
-    rt: &W,
-    alloc: Global,
-    resources: &[u8],
-    app_port: u16,
-    port: u16,
-    workers: u32,
-    gate: &G,
-    outside: &mut O,
-) -> Option<End> {
-    let config = config(alloc, resources, Some(app_port))?;
-    let keepers: Vec<MemoryKeeper> = Vec::new(alloc);
-    served_as(rt, alloc, config, keepers, port, workers, gate, outside)
-}
-
-/// The same of a configuration.
-fn served_as<K: Keeper + Send, O: Outside, G: Gate + Sync, W: Threads + Wait + Sync>(
-    rt: &W,
-    alloc: Global,
-    config: Config,
-    keepers: Vec<K>,
-    port: u16,
-    workers: u32,
-    gate: &G,
-    outside: &mut O,
-) -> Option<End> {
-    let (shared, mut pass) = started(alloc, config, keepers)?;
+    let (shared, mut pass) = started(alloc, config(alloc, resources)?, keepers)?;
     let generators = generators(alloc, workers).ok()?;
     if generators.len() >= MOST_WORKERS {
         return None;
