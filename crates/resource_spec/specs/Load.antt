@@ -30,13 +30,14 @@ abbrev pub in_doc : {T : Type 0} → ℕ → Result T FieldErr → Result T Spec
 in_doc doc (Ok x) = Ok x
 in_doc doc (Err e) = Err (err_in doc e)
 
--- the kind of component that has this type; cron components are not known yet
+-- the kind of component that has this type
 abbrev pub type_named : List ℕ → Option ComponentKind
 type_named name =
     if bytes_eq name (kind_name kinds.StateMemory) then Some kinds.StateMemory
     else if bytes_eq name (kind_name kinds.StateJournal) then Some kinds.StateJournal
     else if bytes_eq name (kind_name kinds.PubsubMemory) then Some kinds.PubsubMemory
     else if bytes_eq name (kind_name kinds.BindingHttp) then Some kinds.BindingHttp
+    else if bytes_eq name (kind_name kinds.BindingCron) then Some kinds.BindingCron
     else None
 
 -- keys may not be kept by namespaces

@@ -21,7 +21,7 @@ pub enum ComponentKind {
     PubsubMemory,
     /// `bindings.http`: an output binding; its setting `url` is an address.
     BindingHttp,
-    /// `bindings.cron`: an input binding, which ticks; its setting `schedule` says how often. No document has this type yet.
+    /// `bindings.cron`: an input binding, which ticks; its setting `schedule` says how often.
     BindingCron,
 }
 

@@ -1,5 +1,5 @@
 // One component of a document.
-ghost use Rattle.std.specs.Prelude.{◌≡◌, ◌≢◌, ◌↔◌, ℕ, List, [], ◌∷◌, Ok, Err, Some, codes, option_map, bytes_eq, if◌then◌else◌, IfOk, IfSome, unwrap_or};
+ghost use Rattle.std.specs.Prelude.{◌≡◌, ◌↔◌, ℕ, List, [], ◌∷◌, Ok, Err, Some, codes, option_map, bytes_eq, if◌then◌else◌, IfOk, IfSome, unwrap_or};
 ghost use Rattle.yaml_subset.specs.Docs.{IsPart, row_of, IsFirst};
 ghost use Rattle.yaml_subset.specs.Trees.{Trees};
 ghost use Rattle.resource_spec.specs.Component.{Loaded, HasNeeds, kind_name};
@@ -35,13 +35,14 @@ pub(crate) fn in_document(doc: usize, error: FieldErr) -> SpecErr
 // The kind of component that has this type.
 fn kind_of_type(name: &str) -> Option<ComponentKind>
     ensures kind { result ≡ type_named name.now }
-    ensures exact { (kind : ComponentKind) → kind ≢ ComponentKind.BindingCron → (result ≡ Some kind) ↔ (name.now ≡ kind_name kind) }
+    ensures exact { (kind : ComponentKind) → (result ≡ Some kind) ↔ (name.now ≡ kind_name kind) }
 {
     match name {
         "state.in-memory" => Some(ComponentKind::StateMemory),
         "state.journal" => Some(ComponentKind::StateJournal),
         "pubsub.in-memory" => Some(ComponentKind::PubsubMemory),
         "bindings.http" => Some(ComponentKind::BindingHttp),
+        "bindings.cron" => Some(ComponentKind::BindingCron),
         _ => None,
     }
 }
