@@ -9,8 +9,8 @@ use Rattle.policy_run.specs.Event as event
 use Rattle.sidecar_objects.specs.declared.doing.Doing.{Doing}
 use Rattle.sidecar_objects.specs.declared.doing.Doing.TheVariants.{Stepped, Asked, Drew, Timed, Waited}
 use Rattle.sidecar_objects.specs.declared.doing.SlotStep.{SlotStep}
-use Rattle.sidecar_objects.specs.declared.doing.SlotStep.TheVariants.{Store, Ledger, Breaker, Book, Turns}
-use Rattle.sidecar_objects.specs.Kind.{Kind, StepOf, stores, ledgers, breakers, book, turns}
+use Rattle.sidecar_objects.specs.declared.doing.SlotStep.TheVariants.{Store, Ledger, Breaker, Book, Turns, Ticks}
+use Rattle.sidecar_objects.specs.Kind.{Kind, StepOf, stores, ledgers, breakers, book, turns, ticks}
 
 -- one thing, where it is at the place k
 abbrev pub one_at : {X : Type 0} → ℕ → ℕ → X → List X
@@ -25,6 +25,7 @@ step_at ledgers k (Ledger i step) = one_at k i step
 step_at breakers k (Breaker i step) = one_at k i step
 step_at book k (Book step) = one_at k 0 step
 step_at turns k (Turns step) = one_at k 0 step
+step_at ticks k (Ticks step) = one_at k 0 step
 step_at _ k _ = []
 
 -- the steps of the object of this kind at the place k

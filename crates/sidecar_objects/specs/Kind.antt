@@ -14,17 +14,21 @@ use Rattle.breaker_core.specs.declared.command.BreakerReply.{BreakerReply}
 use Rattle.actor_turns.specs.declared.turns.Turns.{Turns}
 use Rattle.actor_turns.specs.declared.command.TurnsCmd.{TurnsCmd}
 use Rattle.actor_turns.specs.declared.command.TurnsReply.{TurnsReply}
+use Rattle.cron_ticks.specs.declared.ticks.Ticks.{Ticks}
+use Rattle.cron_ticks.specs.declared.command.TicksCmd.{TicksCmd}
+use Rattle.cron_ticks.specs.declared.command.TicksReply.{TicksReply}
 use Rattle.meta_api.specs.declared.notes.Notes.{Notes}
 use Rattle.meta_api.specs.declared.command.NotesCmd.{NotesCmd}
 use Rattle.meta_api.specs.declared.command.NotesReply.{NotesReply}
 
--- the stores, the ledgers, the breakers; the book of metadata, and the turns of actors, each the only one of its kind
+-- the stores, the ledgers, the breakers; the book of metadata, the turns of actors, and the ticks of input bindings, each the only one of its kind
 pub data Kind : Type 0 where
   stores : Kind
   ledgers : Kind
   breakers : Kind
   book : Kind
   turns : Kind
+  ticks : Kind
 
 -- an object of this kind, where stores are of the type O
 abbrev pub object_of : Type 0 → Kind → Type 0
@@ -33,6 +37,7 @@ object_of O ledgers = Ledger
 object_of O breakers = Breaker
 object_of O book = Notes
 object_of O turns = Turns
+object_of O ticks = Ticks
 
 -- what it is asked, and what it answers
 abbrev pub cmd_of : Kind → Type 0
@@ -41,6 +46,7 @@ cmd_of ledgers = LedgerCmd
 cmd_of breakers = BreakerCmd
 cmd_of book = NotesCmd
 cmd_of turns = TurnsCmd
+cmd_of ticks = TicksCmd
 
 abbrev pub reply_of : Kind → Type 0
 reply_of stores = Reply
@@ -48,6 +54,7 @@ reply_of ledgers = LedgerReply
 reply_of breakers = BreakerReply
 reply_of book = NotesReply
 reply_of turns = TurnsReply
+reply_of ticks = TicksReply
 
 -- an entry of its history
 abbrev pub StepOf : Kind → Type 0
@@ -57,12 +64,13 @@ StepOf kind = Entry (cmd_of kind) (reply_of kind)
 abbrev pub Kinds : Type 0 → Type 1
 Kinds O = (kind : Kind) → Ghosts (object_of O kind) (cmd_of kind) (reply_of kind)
 
-abbrev pub kinds_of : {O : Type 0} → Ghosts O Cmd Reply → Ghosts Ledger LedgerCmd LedgerReply → Ghosts Breaker BreakerCmd BreakerReply → Ghosts Notes NotesCmd NotesReply → Ghosts Turns TurnsCmd TurnsReply → (kind : Kind) → Ghosts (object_of O kind) (cmd_of kind) (reply_of kind)
-kinds_of store ledger breaker notes actors stores = store
-kinds_of store ledger breaker notes actors ledgers = ledger
-kinds_of store ledger breaker notes actors breakers = breaker
-kinds_of store ledger breaker notes actors book = notes
-kinds_of store ledger breaker notes actors turns = actors
+abbrev pub kinds_of : {O : Type 0} → Ghosts O Cmd Reply → Ghosts Ledger LedgerCmd LedgerReply → Ghosts Breaker BreakerCmd BreakerReply → Ghosts Notes NotesCmd NotesReply → Ghosts Turns TurnsCmd TurnsReply → Ghosts Ticks TicksCmd TicksReply → (kind : Kind) → Ghosts (object_of O kind) (cmd_of kind) (reply_of kind)
+kinds_of store ledger breaker notes actors crons stores = store
+kinds_of store ledger breaker notes actors crons ledgers = ledger
+kinds_of store ledger breaker notes actors crons breakers = breaker
+kinds_of store ledger breaker notes actors crons book = notes
+kinds_of store ledger breaker notes actors crons turns = actors
+kinds_of store ledger breaker notes actors crons ticks = crons
 
 -- the cells of all objects
 pub record CellsAt (O : Type 0) : Type 0 where
@@ -71,6 +79,7 @@ pub record CellsAt (O : Type 0) : Type 0 where
   pub breakers : List (Begun Breaker)
   pub notes : Begun Notes
   pub turns : Begun Turns
+  pub ticks : Begun Ticks
 
 -- the seats of a pass, at the places of their cells
 pub record SeatsAt (O : Type 0) : Type 0 where
@@ -79,6 +88,7 @@ pub record SeatsAt (O : Type 0) : Type 0 where
   pub breakers : List (Sitting Breaker BreakerCmd BreakerReply)
   pub notes : Sitting Notes NotesCmd NotesReply
   pub turns : Sitting Turns TurnsCmd TurnsReply
+  pub ticks : Sitting Ticks TicksCmd TicksReply
 
 -- the cells of a kind, and the seats of a pass of that kind
 abbrev pub cells_in : {O : Type 0} → CellsAt O → (kind : Kind) → List (Begun (object_of O kind))
@@ -87,6 +97,7 @@ cells_in cells ledgers = cells.ledgers
 cells_in cells breakers = cells.breakers
 cells_in cells book = cells.notes ∷ []
 cells_in cells turns = cells.turns ∷ []
+cells_in cells ticks = cells.ticks ∷ []
 
 abbrev pub seats_in : {O : Type 0} → SeatsAt O → (kind : Kind) → List (Sitting (object_of O kind) (cmd_of kind) (reply_of kind))
 seats_in seats stores = seats.stores
@@ -94,3 +105,4 @@ seats_in seats ledgers = seats.ledgers
 seats_in seats breakers = seats.breakers
 seats_in seats book = seats.notes ∷ []
 seats_in seats turns = seats.turns ∷ []
+seats_in seats ticks = seats.ticks ∷ []

@@ -15,10 +15,10 @@ use Rattle.sidecar_objects.specs.Did.{Did, Does, Standing}
 
 module _ {K : Type 0} {keeper : Ghosts K} where
   abbrev pub cells_of : Objects K keeper → CellsAt (Store K keeper)
-  cells_of objects = record { stores = objects.stores.items; ledgers = objects.ledgers.items; breakers = objects.breakers.items; notes = objects.notes; turns = objects.turns }
+  cells_of objects = record { stores = objects.stores.items; ledgers = objects.ledgers.items; breakers = objects.breakers.items; notes = objects.notes; turns = objects.turns; ticks = objects.ticks }
 
   abbrev pub seats_of : Pass K keeper → SeatsAt (Store K keeper)
-  seats_of pass = record { stores = pass.stores.items; ledgers = pass.ledgers.items; breakers = pass.breakers.items; notes = pass.notes; turns = pass.turns }
+  seats_of pass = record { stores = pass.stores.items; ledgers = pass.ledgers.items; breakers = pass.breakers.items; notes = pass.notes; turns = pass.turns; ticks = pass.ticks }
 
   abbrev pub standing : {L C : Type 0} → Links L → Times C → Pass K keeper → L → C → Stream → Standing (Store K keeper)
   standing links times pass link clock words = record { seats = seats_of pass; clock = clocked times clock; link = link_at links link; words = words }

@@ -26,6 +26,10 @@ book_shows seats count is = record { kind = book; place = 0; shown = (seats.note
 pub turns_show : {O : Type 0} (seats : SeatsAt O) (count : ℕ) → seats.turns.count ≡ Some count → Shows seats count
 turns_show seats count is = record { kind = kinds.turns; place = 0; shown = (seats.turns, refl, is) }
 
--- the first count that a seat of the pass shows, of the stores, the ledgers, the breakers, then of the book and of the turns
+-- that of the ticks does
+pub ticks_show : {O : Type 0} (seats : SeatsAt O) (count : ℕ) → seats.ticks.count ≡ Some count → Shows seats count
+ticks_show seats count is = record { kind = kinds.ticks; place = 0; shown = (seats.ticks, refl, is) }
+
+-- the first count that a seat of the pass shows, of the stores, the ledgers, the breakers, then of the book, of the turns and of the ticks
 abbrev pub spent_of : {O : Type 0} → SeatsAt O → Option ℕ
-spent_of seats = option_or (count_shown seats.stores) (option_or (count_shown seats.ledgers) (option_or (count_shown seats.breakers) (option_or seats.notes.count seats.turns.count)))
+spent_of seats = option_or (count_shown seats.stores) (option_or (count_shown seats.ledgers) (option_or (count_shown seats.breakers) (option_or seats.notes.count (option_or seats.turns.count seats.ticks.count))))

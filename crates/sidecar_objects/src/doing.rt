@@ -1,5 +1,6 @@
 use actor_turns::{TurnsCmd, TurnsReply};
 use breaker_core::{BreakerCmd, BreakerReply};
+use cron_ticks::{TicksCmd, TicksReply};
 use ledger_core::{LedgerCmd, LedgerReply};
 use meta_api::{NotesCmd, NotesReply};
 use side_world::LinkCall;
@@ -18,6 +19,8 @@ pub enum SlotStep {
     Book(Entry<NotesCmd, NotesReply>),
     /// Of the turns of actors.
     Turns(Entry<TurnsCmd, TurnsReply>),
+    /// Of the ticks of input bindings.
+    Ticks(Entry<TicksCmd, TicksReply>),
 }
 
 /// What is done for a request, as one event. It stands in contracts alone: no program makes one.

@@ -1,5 +1,6 @@
 use actor_turns::Turns;
 use breaker_core::Breaker;
+use cron_ticks::Ticks;
 use keeper_core::Keeper;
 use ledger_core::Ledger;
 use meta_api::Notes;
@@ -16,5 +17,5 @@ pub trait ObjectKinds {
 impl<K: Keeper> ObjectKinds for Store<K> {
     ghost use Rattle.sidecar_objects.specs.Kind.{kinds_of};
 
-    ghost kinds = { kinds_of ⟦<Store<K> as Object>⟧ ⟦<Ledger as Object>⟧ ⟦<Breaker as Object>⟧ ⟦<Notes as Object>⟧ ⟦<Turns as Object>⟧ };
+    ghost kinds = { kinds_of ⟦<Store<K> as Object>⟧ ⟦<Ledger as Object>⟧ ⟦<Breaker as Object>⟧ ⟦<Notes as Object>⟧ ⟦<Turns as Object>⟧ ⟦<Ticks as Object>⟧ };
 }

@@ -9,6 +9,7 @@ use crate::kinds::ObjectKinds;
 use crate::{Objects, Pass};
 use actor_turns::Turns;
 use breaker_core::Breaker;
+use cron_ticks::Ticks;
 use keeper_core::Keeper;
 use ledger_core::Ledger;
 use meta_api::Notes;
@@ -29,17 +30,20 @@ impl<K: Keeper> Objects<K> {
         breakers: Vec<Breaker>,
         notes: Notes,
         turns: Turns,
+        ticks: Ticks,
     ) -> Result<(Objects<K>, Pass<K>), NoMemory>
         requires stores { All (λ first. ⟦<Store<K> as Object>⟧.used first ≡ 0) stores.items }
         requires ledgers { All (λ first. ⟦<Ledger as Object>⟧.used first ≡ 0) ledgers.items }
         requires breakers { All (λ first. ⟦<Breaker as Object>⟧.used first ≡ 0) breakers.items }
         requires notes { ⟦<Notes as Object>⟧.used notes ≡ 0 }
         requires turns { ⟦<Turns as Object>⟧.used turns ≡ 0 }
+        requires ticks { ⟦<Ticks as Object>⟧.used ticks ≡ 0 }
         ensures stores { IfOk result (λ made. map (λ cell. cell.first) made.0.stores.items ≡ stores.items) }
         ensures ledgers { IfOk result (λ made. map (λ cell. cell.first) made.0.ledgers.items ≡ ledgers.items) }
         ensures breakers { IfOk result (λ made. map (λ cell. cell.first) made.0.breakers.items ≡ breakers.items) }
         ensures notes { IfOk result (λ made. made.0.notes.first ≡ notes) }
         ensures turns { IfOk result (λ made. made.0.turns.first ≡ turns) }
+        ensures ticks { IfOk result (λ made. made.0.ticks.first ≡ ticks) }
         ensures roots { IfOk result (λ made. AreRoots (cells_of made.0) (seats_of made.1)) }
         ensures sound { IfOk result (λ made. IsSoundPass ⟦<Store<K> as ObjectKinds>⟧.kinds (cells_of made.0) (seats_of made.1)) }
     {
@@ -48,12 +52,14 @@ impl<K: Keeper> Objects<K> {
         let (breaker_cells, breaker_seats) = start_each(alloc, breakers)?;
         let (notes_cell, notes_seat) = TurnCell::start(alloc, notes)?;
         let (turns_cell, turns_seat) = TurnCell::start(alloc, turns)?;
+        let (ticks_cell, ticks_seat) = TurnCell::start(alloc, ticks)?;
         let objects = Objects {
             stores: store_cells,
             ledgers: ledger_cells,
             breakers: breaker_cells,
             notes: notes_cell,
             turns: turns_cell,
+            ticks: ticks_cell,
         };
         let pass = Pass {
             stores: store_seats,
@@ -61,6 +67,7 @@ impl<K: Keeper> Objects<K> {
             breakers: breaker_seats,
             notes: notes_seat,
             turns: turns_seat,
+            ticks: ticks_seat,
         };
         Ok((objects, pass))
     }
@@ -81,12 +88,14 @@ impl<K: Keeper> Objects<K> {
         split_each(&self.breakers, &mut pass.breakers, &mut breakers);
         let notes = self.notes.split(&mut pass.notes);
         let turns = self.turns.split(&mut pass.turns);
+        let ticks = self.ticks.split(&mut pass.ticks);
         Ok(Pass {
             stores,
             ledgers,
             breakers,
             notes,
             turns,
+            ticks,
         })
     }
 
@@ -102,12 +111,14 @@ impl<K: Keeper> Objects<K> {
             breakers,
             notes,
             turns,
+            ticks,
         } = other;
         meet_each(&self.stores, &mut pass.stores, stores);
         meet_each(&self.ledgers, &mut pass.ledgers, ledgers);
         meet_each(&self.breakers, &mut pass.breakers, breakers);
         self.notes.meet(&mut pass.notes, notes);
         self.turns.meet(&mut pass.turns, turns);
+        self.ticks.meet(&mut pass.ticks, ticks);
     }
 
     /// Ends all cells by a pass that is alone, and gives the stores back in order: they are put into the empty list `stores`, whose room was taken before. Takes

@@ -1,7 +1,7 @@
 use Rattle.std.proofs.Common.{refl, arith}
 use Rattle.turn_cell.specs.Passes.{EachSplitOff}
 use Rattle.turn_pass.specs.Pass.{EachMayMeet}
-use Rattle.sidecar_objects.specs.Kind.{stores, ledgers, breakers, book, turns}
+use Rattle.sidecar_objects.specs.Kind.{stores, ledgers, breakers, book, turns, ticks}
 use Rattle.sidecar_objects.proofs.ByKind.{by_kind}
 use Rattle.sidecar_objects.proofs.Single.{the_seat, one_met}
 use Rattle.sidecar_objects.proofs.Rewritten.{lent, met_lent}
@@ -43,6 +43,15 @@ meet-requires-2-clause-root g c = (the_seat c.args.self.now.turns c.args.pass.no
 pub meet-requires-2-clause-other : goal.meet-requires-2-clause-other
 meet-requires-2-clause-other g c = the_seat c.args.self.now.turns c.args.other.turns _ (c.requires.other.each turns)
 
+pub meet-requires-3-clause-seat : goal.meet-requires-3-clause-seat
+meet-requires-3-clause-seat g c = (the_seat c.args.self.now.ticks c.args.pass.now.ticks _ (c.requires.roots.each ticks)).0
+
+pub meet-requires-3-clause-root : goal.meet-requires-3-clause-root
+meet-requires-3-clause-root g c = (the_seat c.args.self.now.ticks c.args.pass.now.ticks _ (c.requires.roots.each ticks)).1
+
+pub meet-requires-3-clause-other : goal.meet-requires-3-clause-other
+meet-requires-3-clause-other g c = the_seat c.args.self.now.ticks c.args.other.ticks _ (c.requires.other.each ticks)
+
 pub returns : goal.returns
 returns g c = let cells = c.args.self.now in let pass = c.args.pass.now in let other = c.args.other in record {
   each = by_kind _
@@ -50,5 +59,6 @@ returns g c = let cells = c.args.self.now in let pass = c.args.pass.now in let o
       (met_lent _ pass.ledgers.len cells.ledgers.items c.deref-2.result.now pass.ledgers.items c.deref_mut-2.result.now other.ledgers.items c.meet_each-2.new.roots (omega (arith, pass.ledgers.ok)) c.deref-2.ensures.value c.deref_mut-2.ensures.value c.meet_each-2.ensures)
       (met_lent _ pass.breakers.len cells.breakers.items c.deref-3.result.now pass.breakers.items c.deref_mut-3.result.now other.breakers.items c.meet_each-3.new.roots (omega (arith, pass.breakers.ok)) c.deref-3.ensures.value c.deref_mut-3.ensures.value c.meet_each-3.ensures)
       (one_met cells.notes pass.notes _ _ other.notes c.meet.ensures)
-      (one_met cells.turns pass.turns _ _ other.turns c.meet-2.ensures);
+      (one_met cells.turns pass.turns _ _ other.turns c.meet-2.ensures)
+      (one_met cells.ticks pass.ticks _ _ other.ticks c.meet-3.ensures);
 }

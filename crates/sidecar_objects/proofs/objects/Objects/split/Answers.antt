@@ -1,6 +1,6 @@
 use Rattle.std.proofs.Common.{◌∷◌, [], arith}
 use Rattle.turn_pass.specs.Pass.{MayEachSplit}
-use Rattle.sidecar_objects.specs.Kind.{stores, ledgers, breakers, book, turns}
+use Rattle.sidecar_objects.specs.Kind.{stores, ledgers, breakers, book, turns, ticks}
 use Rattle.sidecar_objects.proofs.ByKind.{by_kind}
 use Rattle.sidecar_objects.proofs.Single.{the_seat}
 use Rattle.sidecar_objects.proofs.Rewritten.{lent, split_lent}
@@ -33,6 +33,15 @@ split-turns-requires-clause-root g c = (the_seat c.args.self.now.turns c.args.pa
 pub split-turns-requires-clause-room : goal.split-turns-requires-clause-room
 split-turns-requires-clause-room g c = (the_seat c.args.self.now.turns c.args.pass.now.turns _ (c.requires.roots.each turns)).2
 
+pub split-ticks-requires-clause-seat : goal.split-ticks-requires-clause-seat
+split-ticks-requires-clause-seat g c = (the_seat c.args.self.now.ticks c.args.pass.now.ticks _ (c.requires.roots.each ticks)).0
+
+pub split-ticks-requires-clause-root : goal.split-ticks-requires-clause-root
+split-ticks-requires-clause-root g c = (the_seat c.args.self.now.ticks c.args.pass.now.ticks _ (c.requires.roots.each ticks)).1
+
+pub split-ticks-requires-clause-room : goal.split-ticks-requires-clause-room
+split-ticks-requires-clause-room g c = (the_seat c.args.self.now.ticks c.args.pass.now.ticks _ (c.requires.roots.each ticks)).2
+
 pub returns-clause-split : goal.returns-clause-split
 returns-clause-split g c = let pass = c.args.pass.now in record {
   each = by_kind _
@@ -40,5 +49,6 @@ returns-clause-split g c = let pass = c.args.pass.now in record {
       (split_lent pass.ledgers.len pass.ledgers.items c.deref_mut-2.result.now c.split_each-2.new.roots c.split_each-2.new.pass.items (omega (arith, pass.ledgers.ok)) c.deref_mut-2.ensures.value c.split_each-2.ensures)
       (split_lent pass.breakers.len pass.breakers.items c.deref_mut-3.result.now c.split_each-3.new.roots c.split_each-3.new.pass.items (omega (arith, pass.breakers.ok)) c.deref_mut-3.ensures.value c.split_each-3.ensures)
       (λ i. c.split-notes.ensures.parent i ∷ [], λ i. c.split-notes.ensures.child i ∷ [])
-      (λ i. c.split-turns.ensures.parent i ∷ [], λ i. c.split-turns.ensures.child i ∷ []);
+      (λ i. c.split-turns.ensures.parent i ∷ [], λ i. c.split-turns.ensures.child i ∷ [])
+      (λ i. c.split-ticks.ensures.parent i ∷ [], λ i. c.split-ticks.ensures.child i ∷ []);
 }
