@@ -72,7 +72,10 @@ fn started(
     if count_of_stores(&config.components) != keepers.len() {
         return Err(unfit());
     }
-    Ok(Shared::start(alloc, config, keepers)?)
+    let Some(start) = Moment::at(0) else {
+        return Err(unfit());
+    };
+    Ok(Shared::start(alloc, config, keepers, start)?)
 }
 
 /// A keeper without rows.

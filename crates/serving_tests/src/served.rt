@@ -9,7 +9,7 @@ use policy_spec::policies;
 use rand_core::SeedableRng;
 use rand_pcg::Pcg64;
 use resource_spec::components;
-use side_base::{NoMemory, Places, Text};
+use side_base::{Moment, NoMemory, Places, Text};
 use side_world::{Gate, Outside};
 use sidecar_core::{Config, Pass, Shared, count_of_stores};
 use sidecar_serving::{End, serve};
@@ -61,7 +61,8 @@ fn started<K: Keeper>(
     if count_of_stores(&config.components) != keepers.len() {
         return None;
     }
-    match Shared::start(alloc, config, keepers) {
+    let start = Moment::at(0)?;
+    match Shared::start(alloc, config, keepers, start) {
         Ok((shared, pass, _room)) => Some((shared, pass)),
         Err(_) => None,
     }

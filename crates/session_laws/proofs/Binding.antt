@@ -21,7 +21,8 @@ use Rattle.bind_api.specs.Malformed.{malformed}
 use Rattle.bind_api.specs.Binding as binding
 use Rattle.bind_api.specs.Binding.{BindingReplies, Binds, IsAddress, not_bound, taken_with, told}
 use Rattle.sidecar_objects.specs.Kind.{CellsAt, Kinds}
-use Rattle.sidecar_core.specs.Called.{AtBinding, Tried, asked_under}
+use Rattle.sidecar_turns.specs.Ticking.{asked_under}
+use Rattle.sidecar_core.specs.Called.{AtBinding, Tried}
 use Rattle.sidecar_core.specs.Called as at
 use Rattle.sidecar_core.specs.Responses.{no_binding}
 use Rattle.sidecar_core.specs.Shown.{some_seat}

@@ -19,7 +19,8 @@ use Rattle.invoke_api.specs.Places.{IsPlace, here, request_at, there}
 use Rattle.invoke_api.specs.Invoking as invoking
 use Rattle.invoke_api.specs.Invoking.{InvokeReplies, Invokes}
 use Rattle.sidecar_objects.specs.Kind.{CellsAt, Kinds}
-use Rattle.sidecar_core.specs.Called.{AtApp, Tried, apps_in, asked_under}
+use Rattle.sidecar_turns.specs.Ticking.{asked_under}
+use Rattle.sidecar_core.specs.Called.{AtApp, Tried, apps_in}
 use Rattle.session_laws.specs.Served.{HasNoMemory, IsServed, Served}
 use Rattle.session_laws.specs.Calls.{IsAnsweredWhereAllIsWell, IsCallAnswered, bound_to, expired, failed, lacks, no_port, refused, replied, unknown}
 use Rattle.session_laws.specs.Calls.{exhausted as spent}

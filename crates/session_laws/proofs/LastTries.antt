@@ -31,7 +31,8 @@ use Rattle.sidecar_objects.specs.Doing.{asked_in, laid, steps_at}
 use Rattle.sidecar_objects.specs.Did.{Did}
 use Rattle.sidecar_objects.specs.Kind.{CellsAt, Kinds, breakers}
 use Rattle.sidecar_objects.proofs.Laid.{all_here, laid_own, laid_steps}
-use Rattle.sidecar_core.specs.Called.{Tried, asked_under}
+use Rattle.sidecar_turns.specs.Ticking.{asked_under}
+use Rattle.sidecar_core.specs.Called.{Tried}
 use Rattle.session_laws.specs.Served.{Served}
 use Rattle.session_laws.specs.Asking.{HasExpiry, HasFault, HasReply, IsLastCall, IsTurnedAway}
 

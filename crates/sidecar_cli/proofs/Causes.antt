@@ -45,7 +45,7 @@ use Rattle.sidecar_objects.specs.declared.objects.Pass.{Pass}
 use Rattle.sidecar_objects.specs.Composed.{lone_stays, sound_stays}
 use Rattle.sidecar_objects.specs.Kind.{CellsAt, Kinds, SeatsAt, breakers, cells_in, ledgers, seats_in, stores}
 use Rattle.sidecar_objects.specs.Passes.{IsLone, IsSoundPass}
-use Rattle.sidecar_objects.specs.Shown.{Shows, ShowsAt, book_shows, spent_of, turns_show}
+use Rattle.sidecar_objects.specs.Shown.{Shows, ShowsAt, book_shows, spent_of, ticks_show, turns_show}
 use Rattle.sidecar_objects.specs.Did.{Standing}
 use Rattle.turn_pass.specs.Pass.{count_shown}
 use Rattle.sidecar_objects.specs.Pass.{cells_of, seats_of}
@@ -70,7 +70,7 @@ use Rattle.sidecar_cli.specs.Run as run
 use Rattle.sidecar_cli.specs.Status.{held_over, status_after}
 use Rattle.sidecar_cli.specs.Subscribed.{AsksForList, Hears, IsListRefusedBy, IsSubscribed}
 use Rattle.sidecar_cli.specs.Subscribed as subscribed
-use Rattle.sidecar_cli.specs.World.{FilesAt, OutsideAt, WorldAt}
+use Rattle.sidecar_cli.specs.World.{FilesAt, OutsideAt, WorldAt, beside_of}
 use Rattle.sidecar_cli.specs.declared.status.Input.TheVariants.{Cut, Refused}
 use Rattle.sidecar_cli.specs.declared.status.Device.{Device}
 use Rattle.sidecar_cli.specs.declared.status.Device.TheVariants.{Source, Sink, Files, Disk, Acceptor, Outside, Link}
@@ -94,7 +94,7 @@ each_root {O} {C} {R} P holds cells seats are = subst (λ (l : List (Sitting O C
 }
 
 -- the pass of objects that have just begun is alone
-pub begins_lone : {D : Type 0} {disking : Keeps D} {keeping : Ghosts (AnyKeeper D disking)} {config config' : Config} {keepers : List (AnyKeeper D disking)} {objects : Objects (AnyKeeper D disking) keeping} {pass : Pass (AnyKeeper D disking) keeping} → IsStarted config keepers config' objects pass → IsLone (cells_of objects) (seats_of pass)
+pub begins_lone : {D : Type 0} {disking : Keeps D} {keeping : Ghosts (AnyKeeper D disking)} {config config' : Config} {keepers : List (AnyKeeper D disking)} {start : ℕ} {objects : Objects (AnyKeeper D disking) keeping} {pass : Pass (AnyKeeper D disking) keeping} → IsStarted config keepers start config' objects pass → IsLone (cells_of objects) (seats_of pass)
 begins_lone {objects = objects} {pass = pass} started = record { each = λ kind. each_root (IsRootOf 0) (λ cell. ((refl, refl), refl, refl)) (cells_in (cells_of objects) kind) (seats_in (seats_of pass) kind) (started.roots.each kind) }
 
 -- ---- an exhausted cell
@@ -162,10 +162,12 @@ pub spent_shown : {O : Type 0} (seats : SeatsAt O) (count : ℕ) → spent_of se
 spent_shown seats count e = ⊎_elim (λ is. let at = shown_at seats.stores count is in record { kind = stores; place = at.0; shown = at.1 })
     (λ later. ⊎_elim (λ is. let at = shown_at seats.ledgers count is in record { kind = ledgers; place = at.0; shown = at.1 })
     (λ next. ⊎_elim (λ is. let at = shown_at seats.breakers count is in record { kind = breakers; place = at.0; shown = at.1 })
-    (λ last. ⊎_elim (λ is. book_shows seats count is) (λ is. turns_show seats count is)
-    (one_of seats.notes.count seats.turns.count count last)) (one_of (count_shown seats.breakers) (option_or seats.notes.count seats.turns.count) count next))
-    (one_of (count_shown seats.ledgers) (option_or (count_shown seats.breakers) (option_or seats.notes.count seats.turns.count)) count later))
-    (one_of (count_shown seats.stores) (option_or (count_shown seats.ledgers) (option_or (count_shown seats.breakers) (option_or seats.notes.count seats.turns.count))) count e)
+    (λ last. ⊎_elim (λ is. book_shows seats count is)
+    (λ still. ⊎_elim (λ is. turns_show seats count is) (λ is. ticks_show seats count is)
+    (one_of seats.turns.count seats.ticks.count count still)) (one_of seats.notes.count (option_or seats.turns.count seats.ticks.count) count last))
+    (one_of (count_shown seats.breakers) (option_or seats.notes.count (option_or seats.turns.count seats.ticks.count)) count next))
+    (one_of (count_shown seats.ledgers) (option_or (count_shown seats.breakers) (option_or seats.notes.count (option_or seats.turns.count seats.ticks.count))) count later))
+    (one_of (count_shown seats.stores) (option_or (count_shown seats.ledgers) (option_or (count_shown seats.breakers) (option_or seats.notes.count (option_or seats.turns.count seats.ticks.count)))) count e)
 
 -- what is spent behind a pass is shown by it, or as the ledgers are counted by it
 pub met_of : {O : Type 0} (kinds : Kinds O) (cells : CellsAt O) (clock : Clocked) (link : LinkAt) (words : Stream) (count : ℕ) (cs : List Loaded) (seats : SeatsAt O) (texts : List (List ℕ)) (counted : Option ℕ) (seats' : SeatsAt O)
@@ -415,12 +417,12 @@ module _ {D : Type 0} {disking : Keeps D} {keeping : Ghosts (AnyKeeper D disking
           (λ port text response beside asked refused. inr (inr record { resources = resources; configured = configured_still; port = port; beside = beside; response = response; asked = asked; refused = refused }))
           (λ rose. (rose, still)) tt (subst (λ l. IsSubscribed given.app_port resources.subscriptions l world'.link (Err end)) read.link had)
 
-      why_over : (keepers : List (AnyKeeper D disking)) (between : OutsideAt) (end : Status) → IsDownOver disking given resources keepers between world'.outside now.link world'.link end → IsWhy kinds given world world' end
-      why_over keepers between end (play.unlisted had back) = why_unlisted end had
-      why_over keepers between end (play.lacks config configured same is) = subst (IsWhy kinds given world world') (sym is) tt
+      why_over : (keepers : List (AnyKeeper D disking)) (between : OutsideAt) (end : Status) → IsDownOver disking given resources keepers (record (beside_of now) { outside = between }) (beside_of world') end → IsWhy kinds given world world' end
+      why_over keepers between end (play.unlisted had unread back) = why_unlisted end had
+      why_over keepers between end (play.lacks config begins configured reads same is) = subst (IsWhy kinds given world world') (sym is) tt
 
-      why_down : (end : Status) → IsDownBeside disking given resources now.outside world'.outside now.link world'.link end → IsWhy kinds given world world' end
-      why_down end (play.unkept un same) = why_refused un.error end un.refused un.counts un.says
+      why_down : (end : Status) → IsDownBeside disking given resources (beside_of now) (beside_of world') end → IsWhy kinds given world world' end
+      why_down end (play.unkept un same unread) = why_refused un.error end un.refused un.counts un.says
       why_down end (play.kept keepers between are_kept over) = why_over keepers between end over
 
     -- a run that came as far as this has its cause
@@ -438,8 +440,8 @@ module _ {D : Type 0} {disking : Keeps D} {keeping : Ghosts (AnyKeeper D disking
       started = started;
       over = session.between;
       later = session.later;
-      lone = begins_lone up.started;
-      sound = up.sound;
+      lone = begins_lone up.up.started;
+      sound = up.up.sound;
       served = session.served;
       drained = session.drained;
       counted = session.finished.counted;

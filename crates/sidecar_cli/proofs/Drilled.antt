@@ -22,6 +22,7 @@ use Rattle.sidecar_objects.specs.Kind.{Kinds}
 use Rattle.sidecar_objects.specs.Pass.{cells_of, seats_of}
 use Rattle.sidecar_objects.specs.Passes.{IsLone}
 use Rattle.sidecar_cli.specs.Drill.{EndsBy, IsDrillSession, IsReady, IsServedByDrill, drill_clock, drill_link, drill_source}
+use Rattle.sidecar_cli.specs.Play.{IsUp}
 use Rattle.sidecar_cli.specs.World.{OutsideAt, WorldAt}
 use Rattle.sidecar_cli.specs.declared.status.Status.{Status}
 
@@ -57,6 +58,11 @@ module _ {D : Type 0} {disking : Keeps D} {keeping : Ghosts (AnyKeeper D disking
   pub lone_drilled : {sink sink' : SinkAt} → IsServedByDrill kinds config objects pass after bytes words sink sink' ended → IsLone (cells_of objects) (seats_of pass) → IsLone (cells_of objects) (seats_of after)
   lone_drilled served lone = lone_stays kinds (cells_of objects) (record { seats = seats_of pass; clock = drill_clock; link = drill_link; words = words }) _
       (record { seats = seats_of after; clock = served.clock'; link = served.link'; words = served.rest }) served.served.acted lone
+
+-- objects that were started at a moment were started at the same
+pub up_from : {D : Type 0} {disking : Keeps D} {keeping : Ghosts (AnyKeeper D disking)} {kinds : Kinds (Store (AnyKeeper D disking) keeping)} {config : Config} {start other : ℕ} {outside outside' : OutsideAt} {objects : Objects (AnyKeeper D disking) keeping} {pass : Pass (AnyKeeper D disking) keeping}
+    → start ≡ other → IsUp kinds config start outside outside' objects pass → IsUp kinds config other outside outside' objects pass
+up_from {kinds = kinds} {config = config} {outside = outside} {outside' = outside'} {objects = objects} {pass = pass} same up = subst (λ (s : ℕ). IsUp kinds config s outside outside' objects pass) same up
 
 -- a session over a configuration is one over the same
 pub session_over : {D : Type 0} {disking : Keeps D} {keeping : Ghosts (AnyKeeper D disking)} {kinds : Kinds (Store (AnyKeeper D disking) keeping)} {config other : Config} {objects : Objects (AnyKeeper D disking) keeping} {pass : Pass (AnyKeeper D disking) keeping} {bytes : List ℕ} {words : Stream} {outside outside' : OutsideAt} {result : Result Written Status}

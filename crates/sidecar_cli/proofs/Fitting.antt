@@ -1,5 +1,5 @@
 -- Keepers stay of the kinds of their components, and there is one for each store.
-use Rattle.std.specs.Prelude.{◌≡◌, Bool, List, [], ◌∷◌, length, map, Option, Result, Ok, Err, IfErr, refl}
+use Rattle.std.specs.Prelude.{◌≡◌, ℕ, Bool, List, [], ◌∷◌, length, map, Option, Result, Ok, Err, IfErr, refl}
 use Rattle.std.proofs.Common.{suc, ap, get_or, sym, subst}
 use Rattle.std.specs.List.{filter}
 use Rattle.side_world.specs.declared.disk.Disk.{Ghosts as Keeps}
@@ -87,18 +87,18 @@ head_same x y same = ap (λ l. get_or l 0 x) same
 
 module _ {D : Type 0} {disking : Keeps D} {keeping : Ghosts (AnyKeeper D disking)} where
   -- the keepers that a start was given fit the stores that it made
-  pub fit_started : {config config' : Config} {keepers : List (AnyKeeper D disking)} {objects : Objects (AnyKeeper D disking) keeping} {pass : Pass (AnyKeeper D disking) keeping}
-      → IsStarted config keepers config' objects pass → AllFit (choice.stores_of config.components) keepers → AllFit (choice.stores_of config'.components) (map (λ cell. keeper_of cell.first) objects.stores.items)
-  fit_started {config} {config'} {keepers} {objects} started fits = subst (λ (c : Config). AllFit (choice.stores_of c.components) (map (λ cell. keeper_of cell.first) objects.stores.items)) (sym started.same) (subst (λ l. AllFit (choice.stores_of config.components) l) (sym started.stores) fits)
+  pub fit_started : {config config' : Config} {keepers : List (AnyKeeper D disking)} {start : ℕ} {objects : Objects (AnyKeeper D disking) keeping} {pass : Pass (AnyKeeper D disking) keeping}
+      → IsStarted config keepers start config' objects pass → AllFit (choice.stores_of config.components) keepers → AllFit (choice.stores_of config'.components) (map (λ cell. keeper_of cell.first) objects.stores.items)
+  fit_started {config} {config'} {keepers} {start} {objects} started fits = subst (λ (c : Config). AllFit (choice.stores_of c.components) (map (λ cell. keeper_of cell.first) objects.stores.items)) (sym started.same) (subst (λ l. AllFit (choice.stores_of config.components) l) (sym started.stores) fits)
 
   -- the pass that was started has neither seen nor done anything
-  pub root_started : {config config' : Config} {keepers : List (AnyKeeper D disking)} {objects : Objects (AnyKeeper D disking) keeping} {pass : Pass (AnyKeeper D disking) keeping} → IsStarted config keepers config' objects pass → seats_of pass ≡ root_pass 0 (cells_of objects)
-  root_started {objects = objects} {pass = pass} started = λ i. record { stores = started.roots.each group.stores i; ledgers = started.roots.each group.ledgers i; breakers = started.roots.each group.breakers i; notes = head_same pass.notes (root_of objects.notes) (started.roots.each group.book) i; turns = head_same pass.turns (root_of objects.turns) (started.roots.each group.turns) i }
+  pub root_started : {config config' : Config} {keepers : List (AnyKeeper D disking)} {start : ℕ} {objects : Objects (AnyKeeper D disking) keeping} {pass : Pass (AnyKeeper D disking) keeping} → IsStarted config keepers start config' objects pass → seats_of pass ≡ root_pass 0 (cells_of objects)
+  root_started {objects = objects} {pass = pass} started = λ i. record { stores = started.roots.each group.stores i; ledgers = started.roots.each group.ledgers i; breakers = started.roots.each group.breakers i; notes = head_same pass.notes (root_of objects.notes) (started.roots.each group.book) i; turns = head_same pass.turns (root_of objects.turns) (started.roots.each group.turns) i; ticks = head_same pass.ticks (root_of objects.ticks) (started.roots.each group.ticks) i }
 
   -- what was started over the configuration that was given
-  pub started_of : {config config' : Config} {keepers : List (AnyKeeper D disking)} {objects : Objects (AnyKeeper D disking) keeping} {pass : Pass (AnyKeeper D disking) keeping}
-      → IsStarted config keepers config' objects pass → IsStarted config keepers config objects pass
-  started_of {config} {config'} {keepers} {objects} {pass} started = subst (λ c. IsStarted config keepers c objects pass) started.same started
+  pub started_of : {config config' : Config} {keepers : List (AnyKeeper D disking)} {start : ℕ} {objects : Objects (AnyKeeper D disking) keeping} {pass : Pass (AnyKeeper D disking) keeping}
+      → IsStarted config keepers start config' objects pass → IsStarted config keepers start config objects pass
+  started_of {config} {config'} {keepers} {start} {objects} {pass} started = subst (λ c. IsStarted config keepers start c objects pass) started.same started
 
   -- the keepers that are given back fit their components
   pub fit_closed : ((c : Loaded) (old new : AnyKeeper D disking) (answers : List (Option Changes)) → keeping.leads old answers new → Fits c old → Fits c new)

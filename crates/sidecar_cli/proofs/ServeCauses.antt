@@ -9,6 +9,7 @@ use Rattle.rand_core.specs.Stream.{Stream}
 use Rattle.keeper_core.specs.declared.keeper.Keeper.{Ghosts}
 use Rattle.keeper_journal.specs.declared.any_keeper.AnyKeeper.{AnyKeeper}
 use Rattle.state_core.specs.declared.store.Store.{Store}
+use Rattle.conn_serve.specs.Ends.{SinkAt}
 use Rattle.resource_files.specs.declared.resources.Resources.{Resources}
 use Rattle.sidecar_keepers.specs.declared.starting.KeepersErr.{KeepersErr}
 use Rattle.sidecar_keepers.specs.declared.starting.KeepersErr.TheVariants as lack
@@ -41,7 +42,7 @@ use Rattle.sidecar_cli.specs.Run as run
 use Rattle.sidecar_cli.specs.Serve.{IsBegunServing, IsKeptServing, IsServe, IsServing, refusal_of, status_after_serving}
 use Rattle.sidecar_cli.specs.Serve as serve
 use Rattle.sidecar_cli.specs.ServeCauses.{AllIsWellOfServing, HasFailedAcceptor, HasServing, IsAmong, IsSpentInServing, IsWellEnded, IsWhyOfServing, RoseOnce, hub_of, counting, working}
-use Rattle.sidecar_cli.specs.World.{OutsideAt, WorldAt}
+use Rattle.sidecar_cli.specs.World.{BesideAt, FilesAt, OutsideAt, WorldAt, beside_of}
 use Rattle.sidecar_cli.specs.declared.status.Device.TheVariants as device
 use Rattle.sidecar_cli.specs.declared.status.Status.{Status}
 use Rattle.sidecar_cli.specs.declared.status.Status.TheVariants as status
@@ -238,7 +239,7 @@ same_status : {one other : Status} → Some one ≡ Some other → one ≡ other
 same_status {one} is = ap (λ (o : Option Status). unwrap_or o one) is
 
 module _ {D : Type 0} {disking : Keeps D} {keeping : Ghosts (AnyKeeper D disking)} (kinds : Kinds (Store (AnyKeeper D disking) keeping)) (given : Words) (world world' : WorldAt) (left : IsUntouched world world') where
-  module _ (config : Config) (begins started : OutsideAt) (objects : Objects (AnyKeeper D disking) keeping) (pass : Pass (AnyKeeper D disking) keeping) (words : List Stream) (up : IsUp kinds config begins started objects pass) (faults : begins.faults ≡ world.outside.faults) where
+  module _ (config : Config) (start : ℕ) (begins started : OutsideAt) (objects : Objects (AnyKeeper D disking) keeping) (pass : Pass (AnyKeeper D disking) keeping) (words : List Stream) (up : IsUp kinds config start begins started objects pass) (faults : begins.faults ≡ world.outside.faults) where
     -- workers were opened and have run, and the ledgers were counted
     why_went : (after : Pass (AnyKeeper D disking) keeping) (over : OutsideAt) (end : End) (spent : Option ℕ) → serve.IsPortServed kinds config objects pass after given.port words started over end → refusal_of end ≡ None → play.IsFinished kinds config objects after world.note world'.note over world'.outside spent
         → IsServed config kinds (cells_of objects) given.port words started.calls over.calls (hub_of kinds (seats_of pass) started) (hub_of kinds (seats_of after) over) end → IsWhyOfServing kinds given world world' (status_after_serving end spent)
@@ -246,6 +247,7 @@ module _ {D : Type 0} {disking : Keeps D} {keeping : Ghosts (AnyKeeper D disking
         subst (λ (e : End). IsWhyOfServing kinds given world world' (status_after_serving e spent)) (sym ends) (why_workers kinds given world world' (spent_in workers) (failed_in workers) spent (record {
           config = config;
           keepers = up.keepers;
+          start = start;
           objects = objects;
           pass = pass;
           after = after;
@@ -291,19 +293,23 @@ module _ {D : Type 0} {disking : Keeps D} {keeping : Ghosts (AnyKeeper D disking
     why_refused lack.NoMemory end refused counts same = subst (IsWhyOfServing kinds given world world') (sym same) tt
 
     -- so has one whose app's list was not had
-    why_over : (keepers : List (AnyKeeper D disking)) (between : OutsideAt) (end : Status) → IsDownOver disking given resources keepers between world'.outside world.link world'.link end → IsWhyOfServing kinds given world world' end
-    why_over keepers between end (play.unlisted had back) = unlisted_by (IsWhyOfServing kinds given world world') given.app_port resources.subscriptions world.link world'.link end
+    why_over : (keepers : List (AnyKeeper D disking)) (between : OutsideAt) (end : Status) → IsDownOver disking given resources keepers (record { link = world.link; clock = world.clock; outside = between }) (beside_of world') end → IsWhyOfServing kinds given world world' end
+    why_over keepers between end (play.unlisted had unread back) = unlisted_by (IsWhyOfServing kinds given world world') given.app_port resources.subscriptions world.link world'.link end
         (λ port text response beside asked refused. inr (inr record { resources = resources; configured = read; port = port; beside = beside; response = response; asked = asked; refused = refused }))
         (λ rose. (rose, left)) tt had
-    why_over keepers between end (play.lacks config configured same is) = subst (IsWhyOfServing kinds given world world') (sym is) tt
+    why_over keepers between end (play.lacks config begins configured reads same is) = subst (IsWhyOfServing kinds given world world') (sym is) tt
 
-    why_down : (end : Status) → IsDownBeside disking given resources (record world.outside { numbers = numbers }) world'.outside world.link world'.link end → IsWhyOfServing kinds given world world' end
-    why_down end (play.unkept un same) = why_refused un.error end un.refused un.counts un.says
+    -- what a start begins with
+    abbrev begun : BesideAt
+    begun = record { link = world.link; clock = world.clock; outside = record world.outside { numbers = numbers } }
+
+    why_down : (end : Status) → IsDownBeside disking given resources begun (beside_of world') end → IsWhyOfServing kinds given world world' end
+    why_down end (play.unkept un same unread) = why_refused un.error end un.refused un.counts un.says
     why_down end (play.kept keepers between are_kept over) = why_over keepers between end over
 
-    why_kept : (words : List Stream) (end : Status) → IsKeptServing kinds given resources words world.link world'.link world.note world'.note (record world.outside { numbers = numbers }) world'.outside end → IsWhyOfServing kinds given world world' end
-    why_kept words end (serve.down down quiet) = why_down end down
-    why_kept words end (serve.up config objects pass between configured up serving) = why_serving config (record world.outside { numbers = numbers }) between objects pass words up refl end serving
+    why_up : (config : Config) (objects : Objects (AnyKeeper D disking) keeping) (pass : Pass (AnyKeeper D disking) keeping) (words : List Stream) (between : WorldAt) (end : Status) → play.IsUpNow kinds config begun (beside_of between) objects pass → between.note ≡ world.note
+        → IsServing kinds config objects pass given.port words between.note world'.note between.outside world'.outside end → IsWhyOfServing kinds given world world' end
+    why_up config objects pass words between end up quiet serving = why_serving config up.start begun.outside between.outside objects pass words up.up refl end (subst (λ (n : SinkAt). IsServing kinds config objects pass given.port words n world'.note between.outside world'.outside end) quiet serving)
 
   unread_serving : (end : Status) → WhyUnread given (is_some given.app_port) world.files world'.files end → IsWhyOfServing kinds given world world' end
   unread_serving (status.BadResources text) why = inl why
@@ -322,9 +328,18 @@ module _ {D : Type 0} {disking : Keeps D} {keeping : Ghosts (AnyKeeper D disking
   unread_serving (status.Spent count) why = absurd why
 
 module _ {D : Type 0} {disking : Keeps D} {keeping : Ghosts (AnyKeeper D disking)} (kinds : Kinds (Store (AnyKeeper D disking) keeping)) (given : Words) (world world' : WorldAt) where
+  -- a run that has read the resources, and nothing else
+  why_kept : (numbers : Option (List ℕ)) (files : FilesAt) (resources : Resources) (words : List Stream) (end : Status) → IsConfiguredFor given world.files files (Ok resources)
+      → IsKeptServing kinds given resources words (record world { outside = record world.outside { numbers = numbers }; files = files }) world' end → IsWhyOfServing kinds given world world' end
+  why_kept numbers files resources words end read (serve.down down rest) =
+      why_down kinds given world world' (record { source = ap (λ w. w.source) rest; sink = ap (λ w. w.sink) rest }) resources numbers (subst (λ (f : FilesAt). IsConfiguredFor given world.files f (Ok resources)) (sym (ap (λ w. w.files) rest)) read) end down
+  why_kept numbers files resources words end read (serve.up config objects pass between configured up only serving rest) =
+      why_up kinds given world world' (record { source = ap (λ w. w.source) rest ∙ ap (λ w. w.source) only; sink = ap (λ w. w.sink) rest ∙ ap (λ w. w.sink) only }) resources numbers
+      (subst (λ (f : FilesAt). IsConfiguredFor given world.files f (Ok resources)) (sym (ap (λ w. w.files) rest ∙ ap (λ w. w.files) only)) read) config objects pass words between end up (ap (λ w. w.note) only) serving
+
   why_begun : (numbers : Option (List ℕ)) (words : List Stream) (end : Status) → IsBegunServing kinds given words (record world { outside = record world.outside { numbers = numbers } }) world' end → IsWhyOfServing kinds given world world' end
   why_begun numbers words end (serve.refused e read says rest) = unread_serving kinds given world world' (record { source = ap (λ w. w.source) rest; sink = ap (λ w. w.sink) rest }) end (why_unread given (is_some given.app_port) world.files world'.files e given.resources end refl read says)
-  why_begun numbers words end (serve.read resources read kept rest) = why_kept kinds given world world' (record { source = ap (λ w. w.source) rest; sink = ap (λ w. w.sink) rest }) resources numbers read words end kept
+  why_begun numbers words end (serve.read resources now read only kept) = why_kept numbers now.files resources words end read (subst (λ (w : WorldAt). IsKeptServing kinds given resources words w world' end) only kept)
 
   why_serve : (words_of : ℕ → Stream) (end : Status) → IsServe kinds words_of given world world' end → IsWhyOfServing kinds given world world' end
   why_serve words_of end (serve.asked seeds one other between wide told only begun) = why_begun between.outside.numbers (map words_of seeds) end (subst (λ w. IsBegunServing kinds given (map words_of seeds) w world' end) only begun)

@@ -59,10 +59,10 @@ pub record IsAsWide {O : Type 0} (cells : CellsAt O) (seats : SeatsAt O) : Type 
 
 module _ {O : Type 0} (kinds : Kinds O) (cells : CellsAt O) where
   pub wide_root : (out : ℕ) → IsAsWide cells (root_pass out cells)
-  wide_root out = record { each = by_kind _ (length-map cells.stores (root_seat out)) (length-map cells.ledgers (root_seat out)) (length-map cells.breakers (root_seat out)) refl refl }
+  wide_root out = record { each = by_kind _ (length-map cells.stores (root_seat out)) (length-map cells.ledgers (root_seat out)) (length-map cells.breakers (root_seat out)) refl refl refl }
 
   wide_worker : (number : ℕ) → IsAsWide cells (worker_pass number cells)
-  wide_worker number = record { each = by_kind _ (length-map cells.stores (worker_seat number)) (length-map cells.ledgers (worker_seat number)) (length-map cells.breakers (worker_seat number)) refl refl }
+  wide_worker number = record { each = by_kind _ (length-map cells.stores (worker_seat number)) (length-map cells.ledgers (worker_seat number)) (length-map cells.breakers (worker_seat number)) refl refl refl }
 
   wide_worked : (config : Config) (number : ℕ) (words : Stream) (w : WorkerAt O) → HasWorked config kinds cells number words w → IsAsWide cells w.reached.at.seats
   wide_worked config number words w worked =

@@ -115,7 +115,7 @@ pub record IsFull {O : Type 0} (seats : SeatsAt O) (count : ℕ) : Type 0 where
   pub full : IsFullAt place count (seats_in seats kind)
 
 module _ {D : Type 0} {disking : Keeps D} {keeping : Ghosts (AnyKeeper D disking)} (kinds : Kinds (Store (AnyKeeper D disking) keeping)) where
-  -- A session was served, over objects that had just begun, what was due behind it was delivered, and the ledgers were counted behind that: the session and the deliveries ended so,
+  -- A session was served, over objects that had just begun, ticks were taken and what was due was delivered behind it, and the ledgers were counted behind that: the session, and the ticks and deliveries, ended so,
   -- and this is the first count that a seat of the pass shows behind them, or else what was read of the first exhausted cell of a ledger, if there is one. Nothing was read or
   -- written but by the session
   pub record HasSession (world world' : WorldAt) (ended : Ended) (how : Drained) (spent : Option ℕ) : Type 0 where
@@ -140,11 +140,11 @@ module _ {D : Type 0} {disking : Keeps D} {keeping : Ghosts (AnyKeeper D disking
     pub before : IsUntouched world started
     pub behind : IsUntouched later world'
 
-  -- the session, each delivery and each count behind it met no exhausted cell
+  -- the session, each tick, each delivery and each count behind it met no exhausted cell
   abbrev pub EndsWith : WorldAt → WorldAt → Ended → Type 0
   EndsWith world world' ended = (how : Drained) × HasSession world world' ended how None
 
-  -- the same, and the deliveries didn't end for want of memory
+  -- the same, and neither ticks nor deliveries ended for want of memory
   abbrev pub EndsFine : WorldAt → WorldAt → Ended → Type 0
   EndsFine world world' ended = (how : Drained) × (how ≢ Held) × HasSession world world' ended how None
 

@@ -133,10 +133,10 @@ module _ {D : Type 0} {disking : Keeps D} {keeping : Ghosts (AnyKeeper D disking
     pub closed : IsClosed kinds config objects after outside outside'
     pub ends : EndsBy (stop_of (status_after ended (spent_of (seats_of after)))) out result
 
-  -- all objects were started, and then the session was served; or they were not
+  -- all objects were started, at the moment at which its clock stands, and then the session was served; or they were not
   pub data IsDrilled (config : Config) (bytes : List ℕ) (words : Stream) (outside outside' : OutsideAt) (result : Result Written Status) : Type 0 where
     down : (status : Status) → IsDown disking config.components outside outside' status → result ≡ Err status → IsDrilled config bytes words outside outside' result
-    up : (objects : Objects (AnyKeeper D disking) keeping) (pass : Pass (AnyKeeper D disking) keeping) (between : OutsideAt) → IsUp kinds config outside between objects pass
+    up : (objects : Objects (AnyKeeper D disking) keeping) (pass : Pass (AnyKeeper D disking) keeping) (between : OutsideAt) → IsUp kinds config drill_clock.last outside between objects pass
         → IsDrillSession config objects pass bytes words between outside' result → IsDrilled config bytes words outside outside' result
 
   -- and then the line was said, where the session came to its end

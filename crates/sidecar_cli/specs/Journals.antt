@@ -32,7 +32,7 @@ module _ {D : Type 0} {disking : Keeps D} {keeping : Ghosts (AnyKeeper D disking
   -- other paths all is as it was
   abbrev pub JournalsHaveWhatWasSaved : Type 0
   JournalsHaveWhatWasSaved =
-      (config : Config) (objects : Objects (AnyKeeper D disking) keeping) (pass last : Pass (AnyKeeper D disking) keeping) (outside started over outside' : OutsideAt)
-      → IsUp kinds config outside started objects pass → over.disks ≡ started.disks → IsClosed kinds config objects last over outside'
+      (config : Config) (objects : Objects (AnyKeeper D disking) keeping) (pass last : Pass (AnyKeeper D disking) keeping) (begins : ℕ) (outside started over outside' : OutsideAt)
+      → IsUp kinds config begins outside started objects pass → over.disks ≡ started.disks → IsClosed kinds config objects last over outside'
       → AreApart (paths_of (stores_of config.components)) → TellAlways disking → (held' : Disks) → outside'.disks ≡ Some held'
       → (held : Disks) × (outside.disks ≡ Some held) × IsHeldAfter (stores_of config.components) held held' (saved_by keeping objects.stores.items last.stores.items)

@@ -1,9 +1,10 @@
--- A run on standard input: the random numbers, the resources, the keepers, the list of the app, the start, one session, and the deliveries behind it.
+-- A run on standard input: the random numbers, the resources, the keepers, the list of the app, the start, one session, and the ticks and deliveries behind it.
 use Rattle.std.specs.Prelude.{◌≡◌, ℕ, List, [], ◌∷◌, ◌++◌, ◌⊎◌, Option, map, Ok, Err, codes, decimal}
 use Rattle.std.specs.Option.{option_or}
 use Rattle.side_world.specs.declared.disk.Disk.{Ghosts as Keeps}
 use Rattle.side_world.specs.Faults.{RoseWith}
 use Rattle.side_world.specs.Told.{Tells}
+use Rattle.policy_run.specs.Effects.{Clocked, ReadsNow}
 use Rattle.link_call.specs.LinkAt.{LinkAt}
 use Rattle.rand_core.specs.Stream.{Stream}
 use Rattle.keeper_core.specs.declared.keeper.Keeper.{Ghosts}
@@ -34,7 +35,7 @@ use Rattle.sidecar_objects.specs.Did.{Did, Does, Standing}
 use Rattle.sidecar_objects.specs.declared.doing.Doing.{Doing}
 use Rattle.sidecar_objects.specs.declared.doing.Doing.TheVariants.{Timed}
 use Rattle.sidecar_objects.specs.Shown.{spent_of}
-use Rattle.sidecar_core.specs.Delivery.{DrainsIn}
+use Rattle.sidecar_core.specs.Delivery.{DrainsIn, TakesTicksIn}
 use Rattle.sidecar_core.specs.Exchange.{Exchange}
 use Rattle.sidecar_objects.specs.Pass.{cells_of, seats_of}
 use Rattle.sidecar_core.specs.Shown.{ShownFor}
@@ -44,9 +45,9 @@ use Rattle.topic_spec.specs.declared.sub.Sub.{Sub}
 use Rattle.sidecar_words.specs.declared.given.Words.{Words}
 use Rattle.sidecar_cli.specs.Configured.{IsConfiguredFor, Says, config_of}
 use Rattle.sidecar_cli.specs.Counting.{IsTold}
-use Rattle.sidecar_cli.specs.Status.{held_over, status_after}
+use Rattle.sidecar_cli.specs.Status.{held_over, status_after, together}
 use Rattle.sidecar_cli.specs.Subscribed.{IsSubscribed}
-use Rattle.sidecar_cli.specs.World.{OutsideAt, WorldAt}
+use Rattle.sidecar_cli.specs.World.{BesideAt, OutsideAt, WorldAt, beside_of}
 use Rattle.sidecar_cli.specs.declared.status.Status.{Status}
 use Rattle.sidecar_cli.specs.declared.status.Status.TheVariants as ends
 use Rattle.sidecar_cli.specs.declared.status.Device.TheVariants.{Disk, Outside}
@@ -80,12 +81,24 @@ pub record WentBack {D : Type 0} (disking : Keeps D) (components : List Loaded) 
   pub calls : outside'.calls ≡ outside.calls
   pub numbers : outside'.numbers ≡ outside.numbers
 
--- the objects were started over a keeper for each store; what holds of every seat holds of those of the pass
-pub record IsUp {D : Type 0} {disking : Keeps D} {keeping : Ghosts (AnyKeeper D disking)} (kinds : Kinds (Store (AnyKeeper D disking) keeping)) (config : Config) (outside outside' : OutsideAt) (objects : Objects (AnyKeeper D disking) keeping) (pass : Pass (AnyKeeper D disking) keeping) : Type 0 where
+-- the objects were started over a keeper for each store, with ticks from this moment on; what holds of every seat holds of those of the pass
+pub record IsUp {D : Type 0} {disking : Keeps D} {keeping : Ghosts (AnyKeeper D disking)} (kinds : Kinds (Store (AnyKeeper D disking) keeping)) (config : Config) (start : ℕ) (outside outside' : OutsideAt) (objects : Objects (AnyKeeper D disking) keeping) (pass : Pass (AnyKeeper D disking) keeping) : Type 0 where
   pub keepers : List (AnyKeeper D disking)
   pub kept : AreKept disking config.components keepers outside outside'
-  pub started : IsStarted config keepers config objects pass
+  pub started : IsStarted config keepers start config objects pass
   pub sound : IsSoundPass kinds (cells_of objects) (seats_of pass)
+
+-- the clock was read, and the objects were started over these keepers at the moment that it told
+pub record IsStartedNow {K : Type 0} {keeping : Ghosts K} (config : Config) (keepers : List K) (clock clock' : Clocked) (objects : Objects K keeping) (pass : Pass K keeping) : Type 0 where
+  pub start : ℕ
+  pub reads : ReadsNow clock start clock'
+  pub started : IsStarted config keepers start config objects pass
+
+-- the same of objects that were started over a keeper for each store
+pub record IsUpNow {D : Type 0} {disking : Keeps D} {keeping : Ghosts (AnyKeeper D disking)} (kinds : Kinds (Store (AnyKeeper D disking) keeping)) (config : Config) (beside beside' : BesideAt) (objects : Objects (AnyKeeper D disking) keeping) (pass : Pass (AnyKeeper D disking) keeping) : Type 0 where
+  pub start : ℕ
+  pub reads : ReadsNow beside.clock start beside'.clock
+  pub up : IsUp kinds config start beside.outside beside'.outside objects pass
 
 -- a keeper was refused; or there was a keeper for each store, and no memory for the objects
 pub data IsDown {D : Type 0} (disking : Keeps D) (components : List Loaded) (outside outside' : OutsideAt) (status : Status) : Type 0 where
@@ -98,23 +111,31 @@ pub record IsConfiguredBy (given : Words) (resources : Resources) (link link' : 
   pub subscribed : IsSubscribed given.app_port resources.subscriptions link link' (Ok subs)
   pub same : config ≡ config_of given resources subs
 
--- How a run ends that has a keeper for each store, and whose objects were not started: the subscriptions were not had, and the disks went back; or there was no memory for the objects
-pub data IsDownOver {D : Type 0} (disking : Keeps D) (given : Words) (resources : Resources) (keepers : List (AnyKeeper D disking)) (outside outside' : OutsideAt) (link link' : LinkAt) (status : Status) : Type 0 where
-  unlisted : IsSubscribed given.app_port resources.subscriptions link link' (Err status) → WentBack disking resources.components keepers outside outside' → IsDownOver disking given resources keepers outside outside' link link' status
-  lacks : (config : Config) → IsConfiguredBy given resources link link' config → outside' ≡ outside → status ≡ ends.NoMemory → IsDownOver disking given resources keepers outside outside' link link' status
+-- How a run ends that has a keeper for each store, and whose objects were not started: the subscriptions were not had, and the disks went back; or the clock was read behind them, and there was no
+-- memory for the objects
+pub data IsDownOver {D : Type 0} (disking : Keeps D) (given : Words) (resources : Resources) (keepers : List (AnyKeeper D disking)) (beside beside' : BesideAt) (status : Status) : Type 0 where
+  unlisted : IsSubscribed given.app_port resources.subscriptions beside.link beside'.link (Err status) → beside'.clock ≡ beside.clock → WentBack disking resources.components keepers beside.outside beside'.outside
+      → IsDownOver disking given resources keepers beside beside' status
+  lacks : (config : Config) (start : ℕ) → IsConfiguredBy given resources beside.link beside'.link config → ReadsNow beside.clock start beside'.clock → beside'.outside ≡ beside.outside → status ≡ ends.NoMemory
+      → IsDownOver disking given resources keepers beside beside' status
 
--- the same of a run that begins: or a keeper was refused, and the app was not asked
-pub data IsDownBeside {D : Type 0} (disking : Keeps D) (given : Words) (resources : Resources) (outside outside' : OutsideAt) (link link' : LinkAt) (status : Status) : Type 0 where
-  unkept : AreUnkept disking resources.components outside outside' status → link' ≡ link → IsDownBeside disking given resources outside outside' link link' status
-  kept : (keepers : List (AnyKeeper D disking)) (between : OutsideAt) → AreKept disking resources.components keepers outside between → IsDownOver disking given resources keepers between outside' link link' status
-      → IsDownBeside disking given resources outside outside' link link' status
+-- the same of a run that begins: or a keeper was refused, and neither the app nor the clock was asked
+pub data IsDownBeside {D : Type 0} (disking : Keeps D) (given : Words) (resources : Resources) (beside beside' : BesideAt) (status : Status) : Type 0 where
+  unkept : AreUnkept disking resources.components beside.outside beside'.outside status → beside'.link ≡ beside.link → beside'.clock ≡ beside.clock → IsDownBeside disking given resources beside beside' status
+  kept : (keepers : List (AnyKeeper D disking)) (between : OutsideAt) → AreKept disking resources.components keepers beside.outside between → IsDownOver disking given resources keepers (record beside { outside = between }) beside' status
+      → IsDownBeside disking given resources beside beside' status
 
--- what a drain did: a moment was read, and from there on what was due was delivered
+-- What was done behind a session: a moment was read, and then the ticks that were due were taken; and behind them, whatever they came to, what was due from that moment on was delivered
 pub record DrainsFromNow (config : Config) (events : List Doing) (how : Drained) : Type 0 where
   pub began : ℕ
+  pub ticks : List Doing
+  pub ticked : Drained
   pub turns : List Doing
-  pub whole : events ≡ Timed began ∷ turns
-  pub drains : DrainsIn config began turns how
+  pub delivered : Drained
+  pub whole : events ≡ Timed began ∷ (ticks ++ turns)
+  pub takes : TakesTicksIn config ticks ticked
+  pub drains : DrainsIn config began turns delivered
+  pub how_is : how ≡ together ticked delivered
 
 module _ {D : Type 0} {disking : Keeps D} {keeping : Ghosts (AnyKeeper D disking)} (kinds : Kinds (Store (AnyKeeper D disking) keeping)) where
   -- what a pass and all that it works with show
@@ -132,7 +153,7 @@ module _ {D : Type 0} {disking : Keeps D} {keeping : Ghosts (AnyKeeper D disking
   abbrev pub IsServedBy : Shared (AnyKeeper D disking) keeping → Pass (AnyKeeper D disking) keeping → Pass (AnyKeeper D disking) keeping → Stream → Stream → WorldAt → WorldAt → Ended → Type 0
   IsServedBy shared = IsServed shared.config shared.objects
 
-  -- what was due behind a session was delivered by this pass, with the random words from here on; nothing was read or written by the source, the sink and the note, and
+  -- the ticks that were due behind a session were taken, and what was due was delivered, by this pass, with the random words from here on; nothing was read or written by the source, the sink and the note, and
   -- neither files nor the outside were asked
   pub record IsDrained (config : Config) (objects : Objects (AnyKeeper D disking) keeping) (pass after : Pass (AnyKeeper D disking) keeping) (words : Stream) (world world' : WorldAt) (how : Drained) : Type 0 where
     pub rest : Stream
@@ -158,7 +179,7 @@ module _ {D : Type 0} {disking : Keeps D} {keeping : Ghosts (AnyKeeper D disking
     pub sound : IsSoundPass kinds (cells_of objects) (seats_of last)
     pub closed : IsClosed config objects last outside outside'
 
-  -- One session over objects that were just started, by their pass; then what was due was delivered; and then all was counted, told and closed
+  -- One session over objects that were just started, by their pass; then ticks were taken, and what was due was delivered; and then all was counted, told and closed
   pub record IsSession (config : Config) (objects : Objects (AnyKeeper D disking) keeping) (pass : Pass (AnyKeeper D disking) keeping) (words : Stream) (world world' : WorldAt) (status : Status) : Type 0 where
     pub after : Pass (AnyKeeper D disking) keeping
     pub between : WorldAt
@@ -176,9 +197,9 @@ module _ {D : Type 0} {disking : Keeps D} {keeping : Ghosts (AnyKeeper D disking
 
   -- all objects were started, and then the session was played; or they were not, and nothing was read
   pub data IsKept (given : Words) (resources : Resources) (words : Stream) (world world' : WorldAt) (status : Status) : Type 0 where
-    down : IsDownBeside disking given resources world.outside world'.outside world.link world'.link status → world' ≡ record world { outside = world'.outside; link = world'.link } → IsKept given resources words world world' status
-    up : (config : Config) (objects : Objects (AnyKeeper D disking) keeping) (pass : Pass (AnyKeeper D disking) keeping) (between : WorldAt) → IsConfiguredBy given resources world.link between.link config → IsUp kinds config world.outside between.outside objects pass
-        → between ≡ record world { outside = between.outside; link = between.link } → IsSession config objects pass words between world' status → IsKept given resources words world world' status
+    down : IsDownBeside disking given resources (beside_of world) (beside_of world') status → world' ≡ record world { outside = world'.outside; link = world'.link; clock = world'.clock } → IsKept given resources words world world' status
+    up : (config : Config) (objects : Objects (AnyKeeper D disking) keeping) (pass : Pass (AnyKeeper D disking) keeping) (between : WorldAt) → IsConfiguredBy given resources world.link between.link config → IsUpNow kinds config (beside_of world) (beside_of between) objects pass
+        → between ≡ record world { outside = between.outside; link = between.link; clock = between.clock } → IsSession config objects pass words between world' status → IsKept given resources words world world' status
 
   -- the resources were read, and then all objects were started; or they were refused, and nothing else was done
   pub data IsBegun (given : Words) (words : Stream) (world world' : WorldAt) (status : Status) : Type 0 where

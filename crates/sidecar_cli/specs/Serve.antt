@@ -3,7 +3,6 @@ use Rattle.std.specs.Prelude.{◌≡◌, ℕ, List, [], ◌∷◌, ◌++◌, len
 use Rattle.std.specs.Option.{option_or}
 use Rattle.side_world.specs.declared.disk.Disk.{Ghosts as Keeps}
 use Rattle.side_world.specs.Told.{Tells}
-use Rattle.link_call.specs.LinkAt.{LinkAt}
 use Rattle.rand_core.specs.Stream.{Stream}
 use Rattle.keeper_core.specs.declared.keeper.Keeper.{Ghosts}
 use Rattle.keeper_journal.specs.declared.any_keeper.AnyKeeper.{AnyKeeper}
@@ -21,9 +20,9 @@ use Rattle.sidecar_serving.specs.declared.end.End.TheVariants as ended
 use Rattle.sidecar_serving.specs.Served.{IsServed}
 use Rattle.sidecar_words.specs.declared.given.Words.{Words}
 use Rattle.sidecar_cli.specs.Configured.{IsConfiguredFor, Says}
-use Rattle.sidecar_cli.specs.Play.{IsClosed, IsConfiguredBy, IsDownBeside, IsFinished, IsUp}
+use Rattle.sidecar_cli.specs.Play.{IsClosed, IsConfiguredBy, IsDownBeside, IsFinished, IsUpNow}
 use Rattle.sidecar_cli.specs.Status.{spent_or}
-use Rattle.sidecar_cli.specs.World.{OutsideAt, WorldAt, secret_of}
+use Rattle.sidecar_cli.specs.World.{OutsideAt, WorldAt, beside_of, secret_of}
 use Rattle.sidecar_cli.specs.declared.status.Status.{Status}
 use Rattle.sidecar_cli.specs.declared.status.Status.TheVariants as ends
 use Rattle.sidecar_cli.specs.declared.status.Device.TheVariants.{Acceptor, Outside}
@@ -76,16 +75,17 @@ module _ {D : Type 0} {disking : Keeps D} {keeping : Ghosts (AnyKeeper D disking
         → IsClosed kinds config objects after between outside' → note' ≡ note → IsServing config objects pass port words note note' outside outside' status
 
   -- all objects were started, and then they were served; or they were not
-  pub data IsKeptServing (given : Words) (resources : Resources) (words : List Stream) (link link' : LinkAt) (note note' : SinkAt) (outside outside' : OutsideAt) (status : Status) : Type 0 where
-    down : IsDownBeside disking given resources outside outside' link link' status → note' ≡ note → IsKeptServing given resources words link link' note note' outside outside' status
-    up : (config : Config) (objects : Objects (AnyKeeper D disking) keeping) (pass : Pass (AnyKeeper D disking) keeping) (between : OutsideAt) → IsConfiguredBy given resources link link' config → IsUp kinds config outside between objects pass
-        → IsServing config objects pass given.port words note note' between outside' status → IsKeptServing given resources words link link' note note' outside outside' status
+  pub data IsKeptServing (given : Words) (resources : Resources) (words : List Stream) (world world' : WorldAt) (status : Status) : Type 0 where
+    down : IsDownBeside disking given resources (beside_of world) (beside_of world') status → world' ≡ record world { outside = world'.outside; link = world'.link; clock = world'.clock } → IsKeptServing given resources words world world' status
+    up : (config : Config) (objects : Objects (AnyKeeper D disking) keeping) (pass : Pass (AnyKeeper D disking) keeping) (between : WorldAt) → IsConfiguredBy given resources world.link between.link config → IsUpNow kinds config (beside_of world) (beside_of between) objects pass
+        → between ≡ record world { outside = between.outside; link = between.link; clock = between.clock } → IsServing config objects pass given.port words between.note world'.note between.outside world'.outside status
+        → world' ≡ record between { note = world'.note; outside = world'.outside } → IsKeptServing given resources words world world' status
 
   -- the resources were read, and then all objects were started; or they were refused, and nothing else was done
   pub data IsBegunServing (given : Words) (words : List Stream) (world world' : WorldAt) (status : Status) : Type 0 where
     refused : (e : ResourcesErr) → IsConfiguredFor given world.files world'.files (Err e) → Says e status → world' ≡ record world { files = world'.files } → IsBegunServing given words world world' status
-    read : (resources : Resources) → IsConfiguredFor given world.files world'.files (Ok resources) → IsKeptServing given resources words world.link world'.link world.note world'.note world.outside world'.outside status
-        → world' ≡ record world { files = world'.files; link = world'.link; note = world'.note; outside = world'.outside } → IsBegunServing given words world world' status
+    read : (resources : Resources) (between : WorldAt) → IsConfiguredFor given world.files between.files (Ok resources) → between ≡ record world { files = between.files }
+        → IsKeptServing given resources words between world' status → IsBegunServing given words world world' status
 
   -- a number was asked for the random words of each worker, in order, and two for the secret bytes; or there was no memory, and none was asked for
   pub data IsServe (words_of : ℕ → Stream) (given : Words) (world world' : WorldAt) (status : Status) : Type 0 where

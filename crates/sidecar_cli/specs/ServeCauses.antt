@@ -60,6 +60,7 @@ module _ {D : Type 0} {disking : Keeps D} {keeping : Ghosts (AnyKeeper D disking
   pub record HasServing (world world' : WorldAt) (spent : Option ℕ) : Type 0 where
     pub config : Config
     pub keepers : List (AnyKeeper D disking)
+    pub start : ℕ
     pub objects : Objects (AnyKeeper D disking) keeping
     pub pass : Pass (AnyKeeper D disking) keeping
     pub after : Pass (AnyKeeper D disking) keeping
@@ -68,7 +69,7 @@ module _ {D : Type 0} {disking : Keeps D} {keeping : Ghosts (AnyKeeper D disking
     pub started : OutsideAt
     pub over : OutsideAt
     pub workers : List (WorkerAt (Store (AnyKeeper D disking) keeping))
-    pub begun : IsStarted config keepers config objects pass
+    pub begun : IsStarted config keepers start config objects pass
     pub wide : length workers ≡ length words
     pub met : WereMet config kinds (cells_of objects) words workers (hub_of (seats_of pass) started) (hub_of (seats_of after) over)
     pub ended : All (λ w. IsSome w.ended) workers

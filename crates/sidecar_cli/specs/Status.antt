@@ -81,7 +81,14 @@ spent_or (Some count) status = Spent count
 abbrev pub status_after : Ended → Option ℕ → Status
 status_after ended spent = spent_or (option_or (spent_in ended) spent) (status_of ended)
 
--- and then what is due was delivered: a run that would have ended well ends for want of memory where a delivery found none
+-- how ticks and the deliveries behind them ended: for want of memory where either found none, and else as the deliveries did
+abbrev pub together : Drained → Drained → Drained
+together drained.Held delivered = drained.Held
+together drained.Done delivered = delivered
+together (drained.Spent count) delivered = delivered
+together drained.UsedUp delivered = delivered
+
+-- and then ticks were taken and what is due was delivered: a run that would have ended well ends for want of memory where one of them found none
 abbrev pub held_over : Drained → Status → Status
 held_over drained.Held Ok = NoMemory
 held_over how status = status

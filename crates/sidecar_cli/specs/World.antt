@@ -60,6 +60,18 @@ world_at gives takes notes holds asks times lends world = record {
   outside = outside_at lends world.outside;
 }
 
+-- what a start has of it: the link by which the app is asked for its list, the clock that is read, and where disks come from
+pub record BesideAt : Type 0 where
+  pub link : LinkAt
+  pub clock : Clocked
+  pub outside : OutsideAt
+
+abbrev pub beside_at : {L C O D A' L' C' S' N' : Type 0} → Asks L → Times C → Lends O D A' L' C' S' N' → L → C → O → BesideAt
+beside_at asks times lends link clock outside = record { link = link_at asks link; clock = clocked times clock; outside = outside_at lends outside }
+
+abbrev pub beside_of : WorldAt → BesideAt
+beside_of world = record { link = world.link; clock = world.clock; outside = world.outside }
+
 -- what is said of two worlds, said of a world before a call and behind it, as its parts show themselves, and of what came of the call
 abbrev pub OverWorld : {S N E F L C O D A' L' C' S' N' X : Type 0} → Gives S → Takes N → Takes E → Holds F → Asks L → Times C → Lends O D A' L' C' S' N' → (WorldAt → WorldAt → X → Type 0) → World S N E F L C O → World S N E F L C O → X → Type 0
 OverWorld gives takes notes holds asks times lends P world world' result =

@@ -110,7 +110,7 @@ fn answer_all<
     }
 }
 
-/// Starts all objects, and answers the requests over them; what was written, or how the run ends without it.
+/// Starts all objects, at the moment at which the clock of a drill stands, and answers the requests over them; what was written, or how the run ends without it.
 fn drilled<O: Outside, R: Rng, W: Wait>(
     rt: &W,
     alloc: Global,
@@ -121,7 +121,8 @@ fn drilled<O: Outside, R: Rng, W: Wait>(
 ) -> Result<KeptSink, Status>
     ensures { IsDrilled ⟦<Store<AnyKeeper<O::Disk>> as ObjectKinds>⟧.kinds ready.config ready.bytes (R.stream rng.old) (outside_at O.Outside outside.old) (outside_at O.Outside outside.new) result }
 {
-    match start_objects(alloc, ready.config, secret, outside) {
+    let start = StillClock::new().now();
+    match start_objects(alloc, ready.config, secret, start, outside) {
         Ok(up) => session(
             rt,
             alloc,

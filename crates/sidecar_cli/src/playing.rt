@@ -12,7 +12,7 @@ ghost use Rattle.sidecar_cli.specs.World.{OverOutside, OverWorld, outside_at, se
 use crate::configuring::{configured, without_resources};
 use crate::counting::tell_ledgers;
 use crate::starting::start_beside_app;
-use crate::status::{held_over, status_after};
+use crate::status::{held_over, status_after, together};
 use crate::{Status, World};
 use conn_serve::{Buffers, Ended};
 use keeper_journal::AnyKeeper;
@@ -20,7 +20,9 @@ use rand_core::{Rng, SeedableRng};
 use rand_pcg::Pcg64;
 use resource_files::Resources;
 use side_world::{Clock, Disk, Files, Link, Outside, Sink, Source};
-use sidecar_core::{Drained, ObjectKinds, Pass, Room, Shared, drain, serve_connection};
+use sidecar_core::{
+    Drained, ObjectKinds, Pass, Room, Shared, drain, serve_connection, take_ticks,
+};
 use sidecar_keepers::give_back;
 use sidecar_words::Words;
 use state_core::Store;
@@ -103,6 +105,7 @@ fn keep<S: Source, N: Sink, E: Sink, F: Files, L: Link, C: Clock, O: Outside, R:
         resources,
         secret,
         &mut world.link,
+        &mut world.clock,
         &mut world.outside,
     ) {
         Ok(up) => session(rt, alloc, up.shared, up.pass, up.room, rng, world),
@@ -110,7 +113,7 @@ fn keep<S: Source, N: Sink, E: Sink, F: Files, L: Link, C: Clock, O: Outside, R:
     }
 }
 
-/// Plays the session by a pass that is alone, delivers what is due, tells the counts of the ledgers, ends the cells, and gives the disks back.
+/// Plays the session by a pass that is alone, takes ticks, delivers what is due, tells the counts of the ledgers, ends the cells, and gives the disks back.
 fn session<S: Source, N: Sink, E: Sink, F: Files, L: Link, C: Clock, O: Outside, R: Rng, W: Wait>(
     rt: &W,
     alloc: Global,
@@ -167,7 +170,7 @@ fn served<S: Source, N: Sink, E: Sink, F: Files, L: Link, C: Clock, O: Outside, 
     )
 }
 
-/// Delivers what is due, and what soon will be, from now on.
+/// Takes the ticks that are due, and then, whatever came of them, delivers what is due, and what soon will be, from now on.
 fn drained<D: Disk, L: Link, C: Clock, R: Rng, W: Wait>(
     rt: &W,
     shared: &Shared<AnyKeeper<D>>,
@@ -181,7 +184,9 @@ fn drained<D: Disk, L: Link, C: Clock, R: Rng, W: Wait>(
     ensures pass { IsPassOf (cells_of shared.now.objects) (seats_of pass.new) }
 {
     let began = clock.now();
-    drain(rt, shared, pass, began, link, clock, rng)
+    let ticked = take_ticks(rt, shared, pass, link, clock, rng);
+    let delivered = drain(rt, shared, pass, began, link, clock, rng);
+    together(ticked, delivered)
 }
 
 /// Tells the counts of the ledgers by a pass that is alone, ends the cells, and gives the disks back. Answers the first count that a seat of the pass shows of an

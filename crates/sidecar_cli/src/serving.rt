@@ -1,6 +1,5 @@
 ghost use Rattle.std.specs.Prelude.{◌≡◌, ◌<◌, ℕ, List, IfOk, OnErr, length, map};
 ghost use Rattle.rand_core.specs.Stream.{Stream};
-ghost use Rattle.link_call.specs.LinkAt.{link_at};
 ghost use Rattle.side_world.specs.Told.{Tells};
 ghost use Rattle.state_core.specs.Store.{keeper_of};
 ghost use Rattle.sidecar_objects.specs.Passes.{IsLone, IsPassOf, IsSoundPass};
@@ -128,40 +127,54 @@ fn begin<
         &given.app,
         given.app_port.is_some(),
     ) {
-        Ok(resources) => keep(
-            rt,
-            alloc,
-            given,
-            resources,
-            secret,
-            rngs,
-            &mut world.link,
-            &mut world.note,
-            &mut world.outside,
-        ),
+        Ok(resources) => keep(rt, alloc, given, resources, secret, rngs, world),
         Err(error) => without_resources(alloc, error),
     }
 }
 
 /// Starts all objects, and serves over them.
-fn keep<L: Link, E: Sink, O: Outside, R: Rng + Drop + Send, W: Threads + Wait + Sync>(
+fn keep<
+    S: Source,
+    N: Sink,
+    E: Sink,
+    F: Files,
+    L: Link,
+    C: Clock,
+    O: Outside,
+    R: Rng + Drop + Send,
+    W: Threads + Wait + Sync,
+>(
     rt: &W,
     alloc: Global,
     given: Words,
     resources: Resources,
     secret: [u8; 16],
     rngs: Vec<R>,
-    link: &mut L,
-    note: &mut E,
-    outside: &mut O,
+    world: &mut World<S, N, E, F, L, C, O>,
 ) -> Status
     requires { length rngs.items < 65535 }
-    ensures { OverOutside E.Sink O.Outside (IsKeptServing ⟦<Store<AnyKeeper<O::Disk>> as ObjectKinds>⟧.kinds given resources (map R.stream rngs.items) (link_at L.Link link.old) (link_at L.Link link.new)) note.old note.new outside.old outside.new result }
+    ensures { OverWorld S.Source N.Sink E.Sink F.Files L.Link C.Clock O.Outside (IsKeptServing ⟦<Store<AnyKeeper<O::Disk>> as ObjectKinds>⟧.kinds given resources (map R.stream rngs.items)) world.old world.new result }
 {
     let port = given.port;
-    match start_beside_app(alloc, given, resources, secret, link, outside) {
+    match start_beside_app(
+        alloc,
+        given,
+        resources,
+        secret,
+        &mut world.link,
+        &mut world.clock,
+        &mut world.outside,
+    ) {
         Ok(up) => serve_over(
-            rt, alloc, up.shared, up.pass, up.room, port, rngs, note, outside,
+            rt,
+            alloc,
+            up.shared,
+            up.pass,
+            up.room,
+            port,
+            rngs,
+            &mut world.note,
+            &mut world.outside,
         ),
         Err(status) => status,
     }

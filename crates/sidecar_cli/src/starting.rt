@@ -5,10 +5,11 @@ ghost use Rattle.sidecar_objects.specs.Pass.{cells_of, seats_of};
 ghost use Rattle.sidecar_core.specs.Started.{IsRoomFor, IsStarted};
 ghost use Rattle.sidecar_keepers.specs.Kinds.{AllFit};
 ghost use Rattle.sidecar_keepers.specs.Stores.{stores_of};
+ghost use Rattle.policy_run.specs.Effects.{clocked};
 ghost use Rattle.link_call.specs.LinkAt.{link_at};
-ghost use Rattle.sidecar_cli.specs.Play.{AreKept, AreUnkept, IsConfiguredBy, IsDown, IsDownBeside, IsDownOver, IsUp, SaysOfKeepers};
+ghost use Rattle.sidecar_cli.specs.Play.{AreKept, AreUnkept, IsConfiguredBy, IsDown, IsDownBeside, IsDownOver, IsStartedNow, IsUp, IsUpNow, SaysOfKeepers};
 ghost use Rattle.sidecar_cli.specs.Fits.{all_fit};
-ghost use Rattle.sidecar_cli.specs.World.{outside_at};
+ghost use Rattle.sidecar_cli.specs.World.{beside_at, outside_at};
 ghost use Rattle.sidecar_serving.specs.Passes.{root_pass};
 ghost use Rattle.sidecar_cli.specs.declared.status.Status.TheVariants as ends;
 
@@ -19,8 +20,8 @@ use itoa::Buffer;
 use keeper_core::Keeper;
 use keeper_journal::AnyKeeper;
 use resource_files::Resources;
-use side_base::{Blob, NoMemory, Text};
-use side_world::{Disk, Link, Outside};
+use side_base::{Blob, Moment, NoMemory, Text};
+use side_world::{Clock, Disk, Link, Outside};
 use sidecar_core::{Config, ObjectKinds, Pass, Room, Shared};
 use sidecar_keepers::{KeepersErr, give_back, start_keepers};
 use sidecar_words::Words;
@@ -36,15 +37,16 @@ pub(crate) struct Started<K: Keeper> {
     pub(crate) room: Room<K>,
 }
 
-/// Makes a keeper for each store, and starts all objects over them; or says how the run ends.
+/// Makes a keeper for each store, and starts all objects over them, with ticks from a moment on; or says how the run ends.
 pub(crate) fn start_objects<O: Outside>(
     alloc: Global,
     config: Config,
     secret: [u8; 16],
+    start: Moment,
     outside: &mut O,
 ) -> Result<Started<AnyKeeper<O::Disk>>, Status>
     ensures same { IfOk result (λ up. up.shared.config ≡ config) }
-    ensures up { IfOk result (λ up. IsUp ⟦<Store<AnyKeeper<O::Disk>> as ObjectKinds>⟧.kinds config (outside_at O.Outside outside.old) (outside_at O.Outside outside.new) up.shared.objects up.pass) }
+    ensures up { IfOk result (λ up. IsUp ⟦<Store<AnyKeeper<O::Disk>> as ObjectKinds>⟧.kinds config start (outside_at O.Outside outside.old) (outside_at O.Outside outside.new) up.shared.objects up.pass) }
     ensures pass { IfOk result (λ up. IsPassOf (cells_of up.shared.objects) (seats_of up.pass)) }
     ensures lone { IfOk result (λ up. IsLone (cells_of up.shared.objects) (seats_of up.pass)) }
     ensures sound { IfOk result (λ up. IsSoundPass ⟦<Store<AnyKeeper<O::Disk>> as ObjectKinds>⟧.kinds (cells_of up.shared.objects) (seats_of up.pass)) }
@@ -54,33 +56,34 @@ pub(crate) fn start_objects<O: Outside>(
     ensures down { IfErr result (λ status. IsDown O.Disk.Disk config.components (outside_at O.Outside outside.old) (outside_at O.Outside outside.new) status) }
 {
     match start_keepers(alloc, &config.components, secret, outside) {
-        Ok(keepers) => over(alloc, config, keepers),
+        Ok(keepers) => over(alloc, config, keepers, start),
         Err(error) => Err(without_keepers(alloc, error)),
     }
 }
 
-/// Makes a keeper for each store, asks the app for its subscriptions, and starts all objects over the keepers; or says how the run ends, and where a list isn't had gives the disks
-/// back.
-pub(crate) fn start_beside_app<L: Link, O: Outside>(
+/// Makes a keeper for each store, asks the app for its subscriptions, and starts all objects over the keepers at the moment that the clock tells then; or says how the run ends, and where a
+/// list isn't had gives the disks back.
+pub(crate) fn start_beside_app<L: Link, C: Clock, O: Outside>(
     alloc: Global,
     given: Words,
     resources: Resources,
     secret: [u8; 16],
     link: &mut L,
+    clock: &mut C,
     outside: &mut O,
 ) -> Result<Started<AnyKeeper<O::Disk>>, Status>
     ensures configured { IfOk result (λ up. IsConfiguredBy given resources (link_at L.Link link.old) (link_at L.Link link.new) up.shared.config) }
-    ensures up { IfOk result (λ up. IsUp ⟦<Store<AnyKeeper<O::Disk>> as ObjectKinds>⟧.kinds up.shared.config (outside_at O.Outside outside.old) (outside_at O.Outside outside.new) up.shared.objects up.pass) }
+    ensures up { IfOk result (λ up. IsUpNow ⟦<Store<AnyKeeper<O::Disk>> as ObjectKinds>⟧.kinds up.shared.config (beside_at L.Link C.Clock O.Outside link.old clock.old outside.old) (beside_at L.Link C.Clock O.Outside link.new clock.new outside.new) up.shared.objects up.pass) }
     ensures pass { IfOk result (λ up. IsPassOf (cells_of up.shared.objects) (seats_of up.pass)) }
     ensures lone { IfOk result (λ up. IsLone (cells_of up.shared.objects) (seats_of up.pass)) }
     ensures sound { IfOk result (λ up. IsSoundPass ⟦<Store<AnyKeeper<O::Disk>> as ObjectKinds>⟧.kinds (cells_of up.shared.objects) (seats_of up.pass)) }
     ensures root { IfOk result (λ up. seats_of up.pass ≡ root_pass 0 (cells_of up.shared.objects)) }
     ensures room { IfOk result (λ up. IsRoomFor (length up.shared.objects.stores.items) up.room) }
     ensures fit { IfOk result (λ up. AllFit (stores_of up.shared.config.components) (map (λ cell. keeper_of cell.first) up.shared.objects.stores.items)) }
-    ensures down { IfErr result (λ status. IsDownBeside O.Disk.Disk given resources (outside_at O.Outside outside.old) (outside_at O.Outside outside.new) (link_at L.Link link.old) (link_at L.Link link.new) status) }
+    ensures down { IfErr result (λ status. IsDownBeside O.Disk.Disk given resources (beside_at L.Link C.Clock O.Outside link.old clock.old outside.old) (beside_at L.Link C.Clock O.Outside link.new clock.new outside.new) status) }
 {
     match make_keepers(alloc, resources, secret, outside) {
-        Ok(kept) => over_app(alloc, given, kept, link, outside),
+        Ok(kept) => over_app(alloc, given, kept, link, clock, outside),
         Err(status) => Err(status),
     }
 }
@@ -110,16 +113,17 @@ fn make_keepers<O: Outside>(
     }
 }
 
-/// Asks the app for its subscriptions, and starts all objects over these keepers; or says how the run ends, and where a list isn't had gives the disks back.
-fn over_app<L: Link, O: Outside>(
+/// Asks the app for its subscriptions, reads the clock, and starts all objects over these keepers; or says how the run ends, and where a list isn't had gives the disks back.
+fn over_app<L: Link, C: Clock, O: Outside>(
     alloc: Global,
     given: Words,
     kept: Kept<O::Disk>,
     link: &mut L,
+    clock: &mut C,
     outside: &mut O,
 ) -> Result<Started<AnyKeeper<O::Disk>>, Status>
     ensures configured { IfOk result (λ up. IsConfiguredBy given kept.resources (link_at L.Link link.old) (link_at L.Link link.new) up.shared.config) }
-    ensures started { IfOk result (λ up. IsStarted up.shared.config kept.keepers.items up.shared.config up.shared.objects up.pass) }
+    ensures started { IfOk result (λ up. IsStartedNow up.shared.config kept.keepers.items (clocked C.Clock clock.old) (clocked C.Clock clock.new) up.shared.objects up.pass) }
     ensures untouched { OnOk result (outside_at O.Outside outside.new ≡ outside_at O.Outside outside.old) }
     ensures pass { IfOk result (λ up. IsPassOf (cells_of up.shared.objects) (seats_of up.pass)) }
     ensures lone { IfOk result (λ up. IsLone (cells_of up.shared.objects) (seats_of up.pass)) }
@@ -127,7 +131,7 @@ fn over_app<L: Link, O: Outside>(
     ensures root { IfOk result (λ up. seats_of up.pass ≡ root_pass 0 (cells_of up.shared.objects)) }
     ensures room { IfOk result (λ up. IsRoomFor (length up.shared.objects.stores.items) up.room) }
     ensures fit { IfOk result (λ up. AllFit (stores_of up.shared.config.components) (map (λ cell. keeper_of cell.first) up.shared.objects.stores.items)) }
-    ensures down { IfErr result (λ status. IsDownOver O.Disk.Disk given kept.resources kept.keepers.items (outside_at O.Outside outside.old) (outside_at O.Outside outside.new) (link_at L.Link link.old) (link_at L.Link link.new) status) }
+    ensures down { IfErr result (λ status. IsDownOver O.Disk.Disk given kept.resources kept.keepers.items (beside_at L.Link C.Clock O.Outside link.old clock.old outside.old) (beside_at L.Link C.Clock O.Outside link.new clock.new outside.new) status) }
 {
     let Kept { resources, keepers } = kept;
     let Resources {
@@ -145,7 +149,8 @@ fn over_app<L: Link, O: Outside>(
                 components,
                 policies,
             };
-            over(alloc, config, keepers)
+            let start = clock.now();
+            over(alloc, config, keepers, start)
         }
         Err(status) => {
             give_back(&components, keepers, outside);
@@ -154,15 +159,16 @@ fn over_app<L: Link, O: Outside>(
     }
 }
 
-/// Starts all objects over these keepers.
+/// Starts all objects over these keepers, with ticks from a moment on.
 fn over<D: Disk>(
     alloc: Global,
     config: Config,
     keepers: Vec<AnyKeeper<D>>,
+    start: Moment,
 ) -> Result<Started<AnyKeeper<D>>, Status>
     requires { AllFit (stores_of config.components) keepers.items }
     ensures same { IfOk result (λ up. up.shared.config ≡ config) }
-    ensures started { IfOk result (λ up. IsStarted config keepers.items config up.shared.objects up.pass) }
+    ensures started { IfOk result (λ up. IsStarted config keepers.items start config up.shared.objects up.pass) }
     ensures pass { IfOk result (λ up. IsPassOf (cells_of up.shared.objects) (seats_of up.pass)) }
     ensures lone { IfOk result (λ up. IsLone (cells_of up.shared.objects) (seats_of up.pass)) }
     ensures sound { IfOk result (λ up. IsSoundPass ⟦<Store<AnyKeeper<D>> as ObjectKinds>⟧.kinds (cells_of up.shared.objects) (seats_of up.pass)) }
@@ -171,7 +177,7 @@ fn over<D: Disk>(
     ensures fit { IfOk result (λ up. AllFit (stores_of up.shared.config.components) (map (λ cell. keeper_of cell.first) up.shared.objects.stores.items)) }
     ensures lacks { IfErr result (λ status. status ≡ ends.NoMemory) }
 {
-    match Shared::start(alloc, config, keepers) {
+    match Shared::start(alloc, config, keepers, start) {
         Ok(started) => {
             let (shared, pass, room) = started;
             Ok(Started { shared, pass, room })

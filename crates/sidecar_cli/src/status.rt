@@ -1,6 +1,6 @@
 ghost use Rattle.std.specs.Prelude.{◌≡◌, ◌≤◌, OnOk, OnErr};
 ghost use Rattle.conn_serve.specs.Ends.{Cut, Sent, sink_at};
-ghost use Rattle.sidecar_cli.specs.Status.{code_of, held_over, line_of, name_of, text_of, spent_in, status_after, status_of};
+ghost use Rattle.sidecar_cli.specs.Status.{code_of, held_over, line_of, name_of, text_of, together, spent_in, status_after, status_of};
 ghost use Rattle.sidecar_cli.specs.Note.{IsNoted};
 
 use crate::noting::part;
@@ -152,7 +152,17 @@ pub(crate) fn status_after(ended: Ended, spent: Option<u64>) -> Status
     }
 }
 
-/// How a run ended that would have ended so, where deliveries behind its connection ended so.
+/// How ticks and the deliveries behind them ended: for want of memory where either found none, and else as the deliveries did.
+pub(crate) fn together(ticked: Drained, delivered: Drained) -> Drained
+    ensures { result ≡ together ticked delivered }
+{
+    match ticked {
+        Drained::Held => Drained::Held,
+        Drained::Done | Drained::Spent { .. } | Drained::UsedUp => delivered,
+    }
+}
+
+/// How a run ended that would have ended so, where ticks and deliveries behind its connection ended so.
 pub(crate) fn held_over(drained: Drained, status: Status) -> Status
     ensures { result ≡ held_over drained status }
 {

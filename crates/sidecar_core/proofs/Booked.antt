@@ -17,7 +17,7 @@ use Rattle.link_call.specs.LinkAt.{LinkAt, asks_none}
 use Rattle.sidecar_objects.specs.declared.doing.Doing.TheVariants.{Stepped}
 use Rattle.sidecar_objects.specs.declared.doing.SlotStep.{SlotStep}
 use Rattle.sidecar_objects.specs.declared.doing.SlotStep.TheVariants as slot
-use Rattle.sidecar_objects.specs.Kind.{Kind, Kinds, CellsAt, SeatsAt, StepOf, stores, ledgers, breakers, book, turns, cells_in, seats_in}
+use Rattle.sidecar_objects.specs.Kind.{Kind, Kinds, CellsAt, SeatsAt, StepOf, stores, ledgers, breakers, book, turns, ticks, cells_in, seats_in}
 use Rattle.sidecar_objects.specs.Doing.{steps_at}
 use Rattle.sidecar_objects.specs.Did.{Did, Does, Standing}
 use Rattle.sidecar_objects.proofs.ByKind.{by_kind}
@@ -51,7 +51,7 @@ module _ {O : Type 0} (kinds : Kinds O) (cells : CellsAt O) (seats : SeatsAt O) 
       held = exchange.stepped step refl refl refl;
       went = stepped (record seats { notes = after }) (slot.Book step) (by_kind _ (still stores _ (λ k. refl)) (still ledgers _ (λ k. refl)) (still breakers _ (λ k. refl))
           (one_grew cells.notes seats.notes (kinds book) after (λ k. flat_map (steps_at book k) (Stepped (slot.Book step) ∷ [])) (growing.called (kinds book) cells.notes.first seats.notes cmd reply after did) (λ k far. (λ i. elsewhere_at 0 k far step i ++ [])))
-          (still turns _ (λ k. refl)));
+          (still turns _ (λ k. refl)) (still ticks _ (λ k. refl)));
     }
 
     -- or it is exhausted
@@ -61,7 +61,7 @@ module _ {O : Type 0} (kinds : Kinds O) (cells : CellsAt O) (seats : SeatsAt O) 
       held = exchange.exhausted count refl refl;
       went = unstepped (record seats { notes = after }) (by_kind _ (still stores _ (λ k. refl)) (still ledgers _ (λ k. refl)) (still breakers _ (λ k. refl))
           (one_grew cells.notes seats.notes (kinds book) after (λ k. []) (growing.exhausted (kinds book) cells.notes.first seats.notes count after did) (λ k far. refl))
-          (still turns _ (λ k. refl)));
+          (still turns _ (λ k. refl)) (still ticks _ (λ k. refl)));
     }
 
 -- an exhausted cell's seat shows the count

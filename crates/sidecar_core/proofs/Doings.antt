@@ -31,7 +31,7 @@ use Rattle.state_api.specs.Ran.{ran_of}
 use Rattle.sidecar_objects.specs.declared.doing.Doing.{Doing}
 use Rattle.sidecar_objects.specs.declared.doing.Doing.TheVariants.{Stepped}
 use Rattle.sidecar_objects.specs.declared.doing.SlotStep.TheVariants.{Store}
-use Rattle.sidecar_objects.specs.Kind.{Kinds, CellsAt, SeatsAt, stores, ledgers, breakers, book, turns, cells_in, seats_in}
+use Rattle.sidecar_objects.specs.Kind.{Kinds, CellsAt, SeatsAt, stores, ledgers, breakers, book, turns, ticks, cells_in, seats_in}
 use Rattle.sidecar_objects.specs.Doing.{placed, steps_at, asked_in}
 use Rattle.sidecar_objects.specs.Did.{Did, Standing}
 use Rattle.sidecar_objects.proofs.ByKind.{by_kind}
@@ -59,6 +59,9 @@ module _ (i j : ℕ) (events : List (Event StoreStep)) where
 
   joined_nowhere : (k : ℕ) → flat_map (steps_at turns k) (map (placed i j) events) ≡ []
   joined_nowhere k = laid_own step j (steps_at turns k) (λ w. refl) (λ m. refl) (λ ms. refl) (λ s. refl) events ∙ none_of_each _ (λ s. refl) (flat_map own_of events)
+
+  ticked_nowhere : (k : ℕ) → flat_map (steps_at ticks k) (map (placed i j) events) ≡ []
+  ticked_nowhere k = laid_own step j (steps_at ticks k) (λ w. refl) (λ m. refl) (λ ms. refl) (λ s. refl) events ∙ none_of_each _ (λ s. refl) (flat_map own_of events)
 
   asked_nowhere : flat_map asked_in (map (placed i j) events) ≡ []
   asked_nowhere = laid_own step j asked_in (λ w. refl) (λ m. refl) (λ ms. refl) (λ s. refl) events ∙ none_of_each _ (λ s. refl) (flat_map own_of events)
@@ -90,7 +93,8 @@ module _ {O : Type 0} (kinds : Kinds O) (cells : CellsAt O) (seats : SeatsAt O) 
           (each_none (kinds ledgers) cells.ledgers seats.ledgers (λ k. flat_map (steps_at ledgers k) (map (placed i j) events)) (λ k. entered_nowhere i j events k))
           grew
           (each_none (kinds book) (cells_in cells book) (seats_in seats book) (λ k. flat_map (steps_at book k) (map (placed i j) events)) (λ k. noted_nowhere i j events k))
-          (each_none (kinds turns) (cells_in cells turns) (seats_in seats turns) (λ k. flat_map (steps_at turns k) (map (placed i j) events)) (λ k. joined_nowhere i j events k));
+          (each_none (kinds turns) (cells_in cells turns) (seats_in seats turns) (λ k. flat_map (steps_at turns k) (map (placed i j) events)) (λ k. joined_nowhere i j events k))
+          (each_none (kinds ticks) (cells_in cells ticks) (seats_in seats ticks) (λ k. flat_map (steps_at ticks k) (map (placed i j) events)) (λ k. ticked_nowhere i j events k));
       times = subst (λ l. Between clock.last l clock'.last) (sym (laid_moments (step i j events) j (λ s. refl) events)) e.times;
       pauses = subst (λ l. Rises clock.paused (sum_by (λ (n : ℕ). n) l) clock'.paused) (sym (laid_pauses (step i j events) j (λ s. refl) events)) e.pauses;
       ticks = subst (λ l. Tells clock.ticks clock'.ticks l) (sym (laid_ticks (step i j events) j (λ s. refl) events)) e.ticks;

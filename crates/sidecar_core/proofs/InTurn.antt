@@ -25,14 +25,14 @@ use Rattle.actor_api.specs.Stepping as own
 use Rattle.actor_api.specs.Calling.{Finishes, Invokes, Joins, Replies, TakesTurn}
 use Rattle.actor_api.specs.Calling as calling
 use Rattle.sidecar_objects.specs.declared.doing.Doing.{Doing}
-use Rattle.sidecar_objects.specs.Kind.{Kind, Kinds, CellsAt, SeatsAt, StepOf, stores, ledgers, breakers, book, turns, cells_in, seats_in}
+use Rattle.sidecar_objects.specs.Kind.{Kind, Kinds, CellsAt, SeatsAt, StepOf, stores, ledgers, breakers, book, turns, ticks, cells_in, seats_in}
 use Rattle.sidecar_objects.specs.Doing.{laid, steps_at, asked_in, word_in, moment_in, pause_in, tick_in}
 use Rattle.sidecar_objects.specs.Did.{Did, Standing}
 use Rattle.sidecar_objects.proofs.ByKind.{by_kind}
 use Rattle.sidecar_objects.proofs.Laid.{here_at, elsewhere_at, none_of_each}
 use Rattle.sidecar_objects.proofs.Single.{one_grew}
 use Rattle.sidecar_core.specs.Actors.{does_own}
-use Rattle.sidecar_core.proofs.Over.{IsSilent, asked_by, broke_nowhere, did_laid, entered_by, joined_by, noted_by, stored_by}
+use Rattle.sidecar_turns.proofs.Over.{IsSilent, asked_by, broke_nowhere, did_laid, entered_by, joined_by, noted_by, stored_by, ticked_by}
 use Rattle.sidecar_core.proofs.Statuses.{fine_given}
 
 -- ---- what a test of a name says
@@ -80,6 +80,10 @@ in_no_book : (k : ℕ) (e : Own) → steps_at book k (does_own e) ≡ []
 in_no_book k (entered step) = refl
 in_no_book k (asked call) = refl
 
+in_no_ticks : (k : ℕ) (e : Own) → steps_at ticks k (does_own e) ≡ []
+in_no_ticks k (entered step) = refl
+in_no_ticks k (asked call) = refl
+
 stepped_here : (owns : List Own) → flat_map (λ e. steps_at turns 0 (does_own e)) owns ≡ flat_map entered_in owns
 stepped_here [] = refl
 stepped_here (entered step ∷ owns) = (λ c. here_at 0 step c ++ stepped_here owns c)
@@ -121,7 +125,8 @@ module _ {O : Type 0} (kinds : Kinds O) (cells : CellsAt O) (seats : SeatsAt O) 
       (still book _ (λ k. noted_by does_own owns_alone 0 events k ∙ none_of_each _ (in_no_book k) (flat_map own_of events)))
       (one_grew cells.turns seats.turns (kinds turns) seat' (λ k. flat_map (steps_at turns k) (map (laid does_own 0) events))
       (subst (λ l. Grew (kinds turns) cells.turns.first seats.turns l seat') (sym (joined_by does_own owns_alone 0 events 0 ∙ stepped_here (flat_map own_of events))) e.owned.steps)
-      (λ k far. joined_by does_own owns_alone 0 events k ∙ stepped_elsewhere k far (flat_map own_of events))))
+      (λ k far. joined_by does_own owns_alone 0 events k ∙ stepped_elsewhere k far (flat_map own_of events)))
+      (still ticks _ (λ k. ticked_by does_own owns_alone 0 events k ∙ none_of_each _ (in_no_ticks k) (flat_map own_of events))))
       (subst (λ l. Asks link l link') (sym (asked_by does_own owns_alone 0 events ∙ asked_there (flat_map own_of events))) e.owned.calls)
 
 -- ---- the status of the response, where each reply of the link is one

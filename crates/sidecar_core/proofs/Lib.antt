@@ -5,11 +5,10 @@ mod Brought
 mod Chosen
 mod Closed
 mod Doings
+mod Entering
 mod Gathered
 mod InTurn
-mod Linked
 mod Moved
-mod Over
 mod Requested
 mod Rooted
 mod Routed

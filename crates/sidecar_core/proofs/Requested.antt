@@ -25,7 +25,8 @@ use Rattle.invoke_api.specs.Places.{Apps}
 use Rattle.bind_api.specs.Binding.{Binds}
 use Rattle.bind_api.specs.Binding as binding
 use Rattle.sidecar_core.specs.declared.config.Config.{Config}
-use Rattle.sidecar_core.specs.Called.{AtApp, AtService, Tried, apps_in, asked_under}
+use Rattle.sidecar_turns.specs.Ticking.{asked_under}
+use Rattle.sidecar_core.specs.Called.{AtApp, AtService, Tried, apps_in}
 use Rattle.sidecar_core.specs.Named.{IsNamed, IsNone}
 use Rattle.sidecar_turns.specs.Brokers.{is_broker, brokers_of}
 

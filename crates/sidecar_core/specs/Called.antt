@@ -1,5 +1,5 @@
 -- Calls of apps and of bound services, and messages that are published, as what is done over all objects.
-use Rattle.std.specs.Prelude.{◌≡◌, ℕ, List, map, Result, unwrap_or}
+use Rattle.std.specs.Prelude.{◌≡◌, ℕ, List, map, Result}
 use Rattle.side_base.specs.declared.message.LinkRequest.{LinkRequest}
 use Rattle.side_base.specs.declared.message.Request.{Request}
 use Rattle.side_base.specs.declared.message.Response.{Response}
@@ -23,9 +23,10 @@ use Rattle.bind_api.specs.Binding.{Binds}
 use Rattle.pubsub_api.specs.declared.publication.Publication.{Publication}
 use Rattle.pubsub_api.specs.Publishing.{Publishes, unknown_pubsub}
 use Rattle.sidecar_objects.specs.declared.doing.Doing.{Doing}
-use Rattle.sidecar_objects.specs.declared.doing.Doing.TheVariants.{Asked, Stepped}
+use Rattle.sidecar_objects.specs.declared.doing.Doing.TheVariants.{Stepped}
 use Rattle.sidecar_objects.specs.declared.doing.SlotStep.TheVariants.{Ledger}
 use Rattle.sidecar_objects.specs.Doing.{laid}
+use Rattle.sidecar_turns.specs.Ticking.{asked_under}
 use Rattle.sidecar_core.specs.declared.config.Config.{Config}
 use Rattle.sidecar_core.specs.Named.{IsNamed, IsNone, ledger_of}
 use Rattle.sidecar_core.specs.Responses.{no_binding}
@@ -35,10 +36,6 @@ use Rattle.sidecar_core.specs.Responses.{no_binding}
 -- a request of a link is tried so often, under what is bound to its target
 abbrev pub Tried : Bound → LinkRequest → List (Event LinkCall) → Outcome Response Miss → Type 0
 Tried bound asked attempts outcome = Attempts bound (Tries asked) outcome attempts
-
--- what is done under what is bound, where an attempt is a call of the link
-abbrev pub asked_under : Bound → List (Event LinkCall) → List Doing
-asked_under bound attempts = map (laid (λ call. Asked call) (unwrap_or bound.breaker 0)) attempts
 
 -- where the apps of a configuration are called
 abbrev pub apps_in : Config → Apps

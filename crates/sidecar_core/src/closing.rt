@@ -27,6 +27,7 @@ impl<K: Keeper> Shared<K> {
             routers: _,
             sites: _,
             brokers: _,
+            crons: _,
             notes: _,
             sub_notes: _,
         } = self;

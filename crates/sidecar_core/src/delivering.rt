@@ -1,11 +1,10 @@
 //! What a sidecar does of itself, beside answering requests.
 ghost use Rattle.std.specs.Prelude.{◌≡◌, ◌<◌, ℕ, length, Err};
-ghost use Rattle.delivery_turn.specs.declared.ending.Turn.TheVariants as ended;
 ghost use Rattle.sidecar_objects.specs.Passes.{IsPassOf};
 ghost use Rattle.sidecar_objects.specs.Shown.{Shows, ShowsAt};
 ghost use Rattle.sidecar_objects.specs.Pass.{DoesAlone, DoesBy, cells_of, seats_of};
 ghost use Rattle.sidecar_turns.specs.Counting.{Counted};
-ghost use Rattle.sidecar_core.specs.Delivery.{DrainsIn, IdlesIn};
+ghost use Rattle.sidecar_core.specs.Delivery.{DrainsIn, IdlesIn, TakesTicksIn, TicksIn};
 
 use crate::Shared;
 use keeper_core::Keeper;
@@ -14,7 +13,7 @@ use rand_core::Rng;
 use side_base::Moment;
 use side_world::{Clock, Link};
 use sidecar_objects::{ObjectKinds, Pass};
-use sidecar_turns::{Drained, Turn};
+use sidecar_turns::{Drained, Duties, IdleTurn, TickTurn};
 use state_core::Store;
 use std::sync::Wait;
 use turn_cell::Exhausted;
@@ -38,8 +37,33 @@ impl<K: Keeper> Shared<K> {
     }
 }
 
-/// What a worker does when no connection came: one turn of delivery, on the first ledger that isn't idle, in the order of their components. A sidecar
-/// without an app port has nothing to deliver: it makes no step, and is idle.
+/// Takes the tick that is due first, of the cron components, and calls the app for it under what is bound to what comes from its component. A sidecar without an app
+/// port takes none: it makes no step, and is idle.
+pub fn tick<K: Keeper, L: Link, C: Clock, R: Rng, W: Wait>(
+    rt: &W,
+    shared: &Shared<K>,
+    pass: &mut Pass<K>,
+    link: &mut L,
+    clock: &mut C,
+    rng: &mut R,
+) -> TickTurn
+    requires pass { IsPassOf (cells_of shared.now.objects) (seats_of pass.old) }
+    ensures does { DoesBy ⟦<Store<K> as ObjectKinds>⟧.kinds L.Link C.Clock R.stream shared.now.objects pass.old pass.new link.old link.new clock.old clock.new rng.old rng.new (TicksIn shared.now.config) result }
+    ensures shows { (count : ℕ) → result ≡ TickTurn.Exhausted count → Shows (seats_of pass.new) count }
+{
+    sidecar_turns::tick(
+        rt,
+        &shared.crons,
+        &shared.objects,
+        pass,
+        link,
+        clock,
+        rng,
+    )
+}
+
+/// What a worker does when no connection came: the tick that is due first, of the cron components, and then one turn of delivery, on the first ledger that isn't
+/// idle, in the order of their components. A sidecar without an app port has neither: it makes no step, and is idle.
 pub fn idle_turn<K: Keeper, L: Link, C: Clock, R: Rng, W: Wait>(
     rt: &W,
     shared: &Shared<K>,
@@ -47,15 +71,43 @@ pub fn idle_turn<K: Keeper, L: Link, C: Clock, R: Rng, W: Wait>(
     link: &mut L,
     clock: &mut C,
     rng: &mut R,
-) -> Turn
+) -> IdleTurn
     requires pass { IsPassOf (cells_of shared.now.objects) (seats_of pass.old) }
     ensures does { DoesBy ⟦<Store<K> as ObjectKinds>⟧.kinds L.Link C.Clock R.stream shared.now.objects pass.old pass.new link.old link.new clock.old clock.new rng.old rng.new (IdlesIn shared.now.config) result }
-    ensures shows { (count : ℕ) → result ≡ ended.Exhausted count → Shows (seats_of pass.new) count }
+    ensures shows { (count : ℕ) → result ≡ IdleTurn.Exhausted count → Shows (seats_of pass.new) count }
 {
+    let duties = Duties {
+        crons: &shared.crons,
+        brokers: &shared.brokers,
+        subs: &shared.config.subs,
+    };
     sidecar_turns::idle_turn(
         rt,
-        &shared.brokers,
-        &shared.config.subs,
+        &duties,
+        &shared.objects,
+        pass,
+        link,
+        clock,
+        rng,
+    )
+}
+
+/// Takes the ticks that are due, in at most 4,096 turns, and calls the app for each.
+pub fn take_ticks<K: Keeper, L: Link, C: Clock, R: Rng, W: Wait>(
+    rt: &W,
+    shared: &Shared<K>,
+    pass: &mut Pass<K>,
+    link: &mut L,
+    clock: &mut C,
+    rng: &mut R,
+) -> Drained
+    requires pass { IsPassOf (cells_of shared.now.objects) (seats_of pass.old) }
+    ensures does { DoesBy ⟦<Store<K> as ObjectKinds>⟧.kinds L.Link C.Clock R.stream shared.now.objects pass.old pass.new link.old link.new clock.old clock.new rng.old rng.new (TakesTicksIn shared.now.config) result }
+    ensures shows { (count : ℕ) → result ≡ Drained.Spent count → Shows (seats_of pass.new) count }
+{
+    sidecar_turns::take_ticks(
+        rt,
+        &shared.crons,
         &shared.objects,
         pass,
         link,

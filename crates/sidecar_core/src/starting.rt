@@ -9,7 +9,8 @@ ghost use Rattle.ledger_core.specs.Ledger.{plans_of};
 ghost use Rattle.breaker_core.specs.Breaker.{policy_of};
 ghost use Rattle.meta_api.specs.Notes.{pairs_of};
 ghost use Rattle.sidecar_turns.specs.Brokers.{HaveBreakers as HaveInbound};
-ghost use Rattle.sidecar_core.specs.Delivery.{brokers_in};
+ghost use Rattle.sidecar_turns.specs.Crons.{HaveGates};
+ghost use Rattle.sidecar_core.specs.Delivery.{brokers_in, crons_in};
 ghost use Rattle.sidecar_core.specs.Plans.{plan_of, plans_in};
 ghost use Rattle.sidecar_turns.specs.Brokers.{is_broker, brokers_of};
 ghost use Rattle.sidecar_core.specs.Sites.{HasBreakerOf, HaveBreakers, is_store, notes_of, note_of, site_of, sites_of, stores_of, sub_note_of, sub_notes_of};
@@ -21,14 +22,15 @@ use crate::{Config, Room, Shared, StoreSite};
 use actor_turns::Turns;
 use api_routes::Routers;
 use breaker_core::Breaker;
+use cron_ticks::Ticks;
 use keeper_core::Keeper;
 use ledger_core::{Ledger, Plan, Plans};
 use meta_api::{ComponentNote, ComponentNotes, Notes, SubscriptionNote, SubscriptionNotes};
 use policy_spec::{BreakerPolicies, Policies, Target, bind, breakers};
 use resource_spec::{Component, ComponentKind, Components};
-use side_base::{NoMemory, Text};
+use side_base::{Moment, NoMemory, Text};
 use sidecar_objects::{ObjectKinds, Objects, Pass};
-use sidecar_turns::Brokers;
+use sidecar_turns::{Brokers, Crons, periods_of};
 use state_core::{Prefix, Store};
 use std::alloc::Global;
 use topic_spec::{Sub, Subs};
@@ -36,17 +38,18 @@ use turn_cell::Object;
 
 impl<K: Keeper> Shared<K> {
     /// Starts all objects of a configuration, with one keeper for each state component, in their order: a ledger for each pub/sub component, with
-    /// the plans of all subscriptions, a breaker for each target that names one, an empty book of metadata, and
-    /// turns without a ticket. The pass is that of the root seats, and is alone. The room is for `close`.
+    /// the plans of all subscriptions, a breaker for each target that names one, an empty book of metadata, turns without a
+    /// ticket, and ticks of the cron components, in their order, which are counted from the moment `start` on. The pass is that of the root seats, and is alone. The room is for `close`.
     ///
     /// Without memory the keepers are dropped.
     pub fn start(
         alloc: Global,
         config: Config,
         keepers: Vec<K>,
+        start: Moment,
     ) -> Result<(Shared<K>, Pass<K>, Room<K>), NoMemory>
         requires { length keepers.items ≡ length (stores_of config.components) }
-        ensures started { IfOk result (λ made. IsStarted config keepers.items made.0.config made.0.objects made.1) }
+        ensures started { IfOk result (λ made. IsStarted config keepers.items start made.0.config made.0.objects made.1) }
         ensures pass { IfOk result (λ made. IsPassOf (cells_of made.0.objects) (seats_of made.1)) }
         ensures lone { IfOk result (λ made. IsLone (cells_of made.0.objects) (seats_of made.1)) }
         ensures sound { IfOk result (λ made. IsSoundPass ⟦<Store<K> as ObjectKinds>⟧.kinds (cells_of made.0.objects) (seats_of made.1)) }
@@ -54,11 +57,12 @@ impl<K: Keeper> Shared<K> {
     {
         let room = room_for(alloc, keepers.len())?;
         let tables = tables_for(alloc, &config)?;
-        let (objects, pass) = objects_for(alloc, &config, keepers)?;
+        let (objects, pass) = objects_for(alloc, &config, keepers, start)?;
         let Tables {
             routers,
             sites,
             brokers,
+            crons,
             notes,
             sub_notes,
         } = tables;
@@ -69,6 +73,7 @@ impl<K: Keeper> Shared<K> {
             routers,
             sites,
             brokers,
+            crons,
             notes,
             sub_notes,
         };
@@ -82,6 +87,7 @@ struct Tables {
     routers: Routers,
     sites: Vec<StoreSite>,
     brokers: Brokers,
+    crons: Crons,
     notes: ComponentNotes,
     sub_notes: SubscriptionNotes,
 }
@@ -92,11 +98,14 @@ fn tables_for(alloc: Global, config: &Config) -> Result<Tables, NoMemory>
     ensures bounds { IfOk result (λ tables. HaveBreakers config.now tables.sites.items) }
     ensures brokers { IfOk result (λ tables. tables.brokers ≡ brokers_in config.now) }
     ensures inbound { IfOk result (λ tables. HaveInbound (length config.now.policies.breakers) tables.brokers.inbound) }
+    ensures crons { IfOk result (λ tables. tables.crons ≡ crons_in config.now) }
+    ensures gates { IfOk result (λ tables. HaveGates (length config.now.policies.breakers) tables.crons.crons) }
     ensures notes { IfOk result (λ tables. tables.notes ≡ notes_of config.now) }
     ensures sub_notes { IfOk result (λ tables. tables.sub_notes ≡ sub_notes_of config.now) }
 {
     let sites = sites_for(alloc, config)?;
     let brokers = Brokers::new(alloc, config.app_port, &config.components, &config.policies)?;
+    let crons = Crons::new(alloc, config.app_port, &config.components, &config.policies)?;
     let notes = notes_for(alloc, &config.components)?;
     let sub_notes = sub_notes_for(alloc, &config.subs)?;
     let routers = Routers::new(alloc)?;
@@ -104,6 +113,7 @@ fn tables_for(alloc: Global, config: &Config) -> Result<Tables, NoMemory>
         routers,
         sites,
         brokers,
+        crons,
         notes,
         sub_notes,
     })
@@ -114,13 +124,15 @@ fn objects_for<K: Keeper>(
     alloc: Global,
     config: &Config,
     keepers: Vec<K>,
+    start: Moment,
 ) -> Result<(Objects<K>, Pass<K>), NoMemory>
-    ensures started { IfOk result (λ made. IsStarted config.now keepers.items config.now made.0 made.1) }
+    ensures started { IfOk result (λ made. IsStarted config.now keepers.items start config.now made.0 made.1) }
     ensures sound { IfOk result (λ made. IsSoundPass ⟦<Store<K> as ObjectKinds>⟧.kinds (cells_of made.0) (seats_of made.1)) }
 {
     let ledgers = ledgers_for(alloc, config)?;
     let breakers = breakers_for(alloc, breakers(&config.policies))?;
     let stores = stores_for(alloc, keepers)?;
+    let periods = periods_of(alloc, &config.components)?;
     let (objects, pass) = Objects::start(
         alloc,
         stores,
@@ -128,6 +140,7 @@ fn objects_for<K: Keeper>(
         breakers,
         Notes::new(alloc),
         Turns::new(alloc),
+        Ticks::new(periods, start),
     )?;
     Ok((objects, pass))
 }

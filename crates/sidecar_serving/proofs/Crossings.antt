@@ -19,10 +19,12 @@ use Rattle.turn_cell.proofs.cell.TurnCell.TheSendSync as cell
 use Rattle.state_core.proofs.store.Store.TheSendSync as store
 use Rattle.breaker_core.proofs.breaker.Breaker.TheSendSync as breaker
 use Rattle.actor_turns.proofs.turns.Turns.TheSendSync as turns
+use Rattle.cron_ticks.proofs.ticks.Ticks.TheSendSync as ticks
 use Rattle.meta_api.proofs.notes.Notes.TheSendSync as notes
 use Rattle.sidecar_core.proofs.config.Config.TheSendSync as config
 use Rattle.sidecar_core.proofs.site.StoreSite.TheSendSync as site
 use Rattle.sidecar_turns.proofs.brokers.Brokers.TheSendSync as brokers
+use Rattle.sidecar_turns.proofs.crons.Crons.TheSendSync as crons
 use Rattle.sidecar_objects.specs.contracts.objects.Objects as Objects
 use Rattle.sidecar_objects.specs.contracts.objects.Pass as Pass
 use Rattle.sidecar_core.specs.contracts.shared.Shared as Shared
@@ -44,10 +46,10 @@ routers_sync = search (node.crosses, crosses, sendable) depth 60 fits 20000
 
 module _ (T : RattleType) (g : Ghosts T.Denot) where
   pub pass_send : IsSend T → IsSend (Pass.the_field T g).row
-  pass_send s = search (seat.the_send, store.the_send, ledger_send, breaker.the_send, notes.the_send, turns.the_send, crosses, sendable) depth 60 fits 20000
+  pass_send s = search (seat.the_send, store.the_send, ledger_send, breaker.the_send, notes.the_send, turns.the_send, ticks.the_send, crosses, sendable) depth 60 fits 20000
 
   objects_sync : IsSend T → IsSync (Objects.the_field T g).row
-  objects_sync s = search (cell.the_sync, store.the_send, ledger_send, breaker.the_send, notes.the_send, turns.the_send, crosses, sendable) depth 60 fits 20000
+  objects_sync s = search (cell.the_sync, store.the_send, ledger_send, breaker.the_send, notes.the_send, turns.the_send, ticks.the_send, crosses, sendable) depth 60 fits 20000
 
   pub shared_sync : IsSend T → IsSync (Shared.the_row T g)
   shared_sync s = recorded_sync (Shared.the_field T g).row _ _ (Shared.the_type T g).to_one (struct_sync (declared.shape (Shared.the_type T g)) (
@@ -63,8 +65,11 @@ module _ (T : RattleType) (g : Ghosts T.Denot) where
             (
               search (brokers.the_sync, crosses, sendable) depth 60 fits 20000,
               (
-                search (note.the_sync, sequence.the_sync, crosses, sendable) depth 60 fits 20000,
-                (search (sub_note.the_sync, sequence.the_sync, crosses, sendable) depth 60 fits 20000, tt),
+                search (crons.the_sync, crosses, sendable) depth 60 fits 20000,
+                (
+                  search (note.the_sync, sequence.the_sync, crosses, sendable) depth 60 fits 20000,
+                  (search (sub_note.the_sync, sequence.the_sync, crosses, sendable) depth 60 fits 20000, tt),
+                ),
               ),
             ),
           ),

@@ -16,8 +16,8 @@ use Rattle.conn_serve.specs.Exchanged.{request_in}
 use Rattle.conn_serve.specs.Session.{Session, trace_of}
 use Rattle.conn_serve.specs.Served.{Served}
 use Rattle.sidecar_core.specs.declared.config.Config.{Config}
-use Rattle.delivery_turn.specs.declared.ending.Turn.{Turn}
-use Rattle.delivery_turn.specs.declared.ending.Turn.TheVariants as turns
+use Rattle.sidecar_turns.specs.declared.idling.IdleTurn.{IdleTurn}
+use Rattle.sidecar_turns.specs.declared.idling.IdleTurn.TheVariants as turns
 use Rattle.sidecar_objects.specs.declared.doing.Doing.{Doing}
 use Rattle.sidecar_objects.specs.Composed.{did_on}
 use Rattle.sidecar_core.specs.Delivery.{IdlesIn}
@@ -128,14 +128,14 @@ module _ {O S N : Type 0} (config : Config) (kinds : Kinds O) (cells : CellsAt O
       }
 
   -- a turn that ends its worker found a cell exhausted
-  spent_turn : (turn : Turn) (count : ℕ) → exit_of_turned (turned_of turn) ≡ Some (exits.Spent count) → turn ≡ turns.Exhausted count
-  spent_turn (turns.Delivered message place settled) count is = absurd (cc)
+  spent_turn : (turn : IdleTurn) (count : ℕ) → exit_of_turned (turned_of turn) ≡ Some (exits.Spent count) → turn ≡ turns.Exhausted count
+  spent_turn turns.Did count is = absurd (cc)
   spent_turn (turns.Idle next) count is = absurd (cc)
   spent_turn turns.Held count is = absurd (cc)
   spent_turn (turns.Exhausted other) count is = ap (λ (n : ℕ). turns.Exhausted n) (cc)
 
   -- the turn was taken
-  pub turned_on : (due due' : Due S N) (told : Option (List Answer)) (exit exit' : Option Exit) (turn : Turn) (after : Standing O) → due ≡ dues.Turn → due' ≡ dues.Nothing → exit' ≡ exit_of_turned (turned_of turn) → Does kinds cells at after (λ events. IdlesIn config events turn) → ((count : ℕ) → turn ≡ turns.Exhausted count → Shows after.seats count)
+  pub turned_on : (due due' : Due S N) (told : Option (List Answer)) (exit exit' : Option Exit) (turn : IdleTurn) (after : Standing O) → due ≡ dues.Turn → due' ≡ dues.Nothing → exit' ≡ exit_of_turned (turned_of turn) → Does kinds cells at after (λ events. IdlesIn config events turn) → ((count : ℕ) → turn ≡ turns.Exhausted count → Shows after.seats count)
       → HasDone config kinds cells start (owed_of due) (IsNewDue reads writes due) (record { at = at; told = told; exit = exit }) → HasDone config kinds cells start (owed_of due') (IsNewDue reads writes due') (record { at = after; told = told; exit = exit' })
   turned_on due due' told exit exit' turn after was is ends-so does shown before =
       let done = subst (λ d. HasDone config kinds cells start (owed_of d) (IsNewDue reads writes d) (record { at = at; told = told; exit = exit })) was before in

@@ -8,7 +8,7 @@ use Rattle.turn_cell.specs.Passes.{EachRoot, EachSeat, EachSound, EachSplit, Eac
 use Rattle.turn_cell.proofs.Lists.{one_place}
 use Rattle.turn_cell.proofs.Passes.{each_weaker, met_roots}
 use Rattle.turn_pass.specs.Pass.{MayEachSplit}
-use Rattle.sidecar_objects.specs.Kind.{Kind, CellsAt, Kinds, SeatsAt, stores, ledgers, breakers, book, turns, cells_in, seats_in}
+use Rattle.sidecar_objects.specs.Kind.{Kind, CellsAt, Kinds, SeatsAt, stores, ledgers, breakers, book, turns, ticks, cells_in, seats_in}
 use Rattle.sidecar_objects.specs.Passes.{IsLone, IsPassOf, IsRootPass, IsSoundPass, IsSplitOffPass, MayMeet, MaySplit, MetPass, SplitPass}
 use Rattle.sidecar_objects.proofs.ByKind.{by_kind}
 use Rattle.sidecar_objects.proofs.Single.{one_seat, the_seat}
@@ -44,18 +44,18 @@ only_one a b e = cc
 
 -- a worker's own pass is one of the cells
 pub own_pass : {O : Type 0} (cells : CellsAt O) (seats : SeatsAt O) → IsPassOf cells seats → IsOwnPass cells seats
-own_pass cells seats of = record { stores = of.each stores; ledgers = of.each ledgers; breakers = of.each breakers; notes = the_seat cells.notes seats.notes _ (of.each book); turns = the_seat cells.turns seats.turns _ (of.each turns) }
+own_pass cells seats of = record { stores = of.each stores; ledgers = of.each ledgers; breakers = of.each breakers; notes = the_seat cells.notes seats.notes _ (of.each book); turns = the_seat cells.turns seats.turns _ (of.each turns); ticks = the_seat cells.ticks seats.ticks _ (of.each ticks) }
 
 pub pass_owned : {O : Type 0} (cells : CellsAt O) (seats : SeatsAt O) → IsOwnPass cells seats → IsPassOf cells seats
-pass_owned cells seats own = record { each = by_kind _ own.stores own.ledgers own.breakers (one_seat cells.notes seats.notes _ own.notes) (one_seat cells.turns seats.turns _ own.turns) }
+pass_owned cells seats own = record { each = by_kind _ own.stores own.ledgers own.breakers (one_seat cells.notes seats.notes _ own.notes) (one_seat cells.turns seats.turns _ own.turns) (one_seat cells.ticks seats.ticks _ own.ticks) }
 
 module _ {O : Type 0} (cells : CellsAt O) where
   -- of each kind the seats of these passes are made of their cells
   root_in : (n : ℕ) (kind : Kind) → seats_in (root_pass n cells) kind ≡ map (root_seat n) (cells_in cells kind)
-  root_in n = by_kind _ refl refl refl refl refl
+  root_in n = by_kind _ refl refl refl refl refl refl
 
   worker_in : (n : ℕ) (kind : Kind) → seats_in (worker_pass n cells) kind ≡ map (worker_seat n) (cells_in cells kind)
-  worker_in n = by_kind _ refl refl refl refl refl
+  worker_in n = by_kind _ refl refl refl refl refl refl
 
   pub root_pass_is : (n : ℕ) → IsRootPass n cells (root_pass n cells)
   root_pass_is n = record { each = λ kind. subst (λ l. EachRoot n (cells_in cells kind) l) (sym (root_in n kind)) (roots_are n (cells_in cells kind)) }
@@ -90,8 +90,8 @@ module _ {O : Type 0} (cells : CellsAt O) where
       → OnOk result (after ≡ root_pass (n + 1) cells) × IfOk result (λ x. of x ≡ worker_pass n cells)
   pass_split n (Err e) of roots after is split = (tt, tt)
   pass_split n (Ok x) of roots after is split = (
-    λ i. record { stores = (split_in stores).0 i; ledgers = (split_in ledgers).0 i; breakers = (split_in breakers).0 i; notes = only_one _ _ (split_in book).0 i; turns = only_one _ _ (split_in turns).0 i },
-    λ i. record { stores = (split_in stores).1 i; ledgers = (split_in ledgers).1 i; breakers = (split_in breakers).1 i; notes = only_one _ _ (split_in book).1 i; turns = only_one _ _ (split_in turns).1 i },
+    λ i. record { stores = (split_in stores).0 i; ledgers = (split_in ledgers).0 i; breakers = (split_in breakers).0 i; notes = only_one _ _ (split_in book).0 i; turns = only_one _ _ (split_in turns).0 i; ticks = only_one _ _ (split_in ticks).0 i },
+    λ i. record { stores = (split_in stores).1 i; ledgers = (split_in ledgers).1 i; breakers = (split_in breakers).1 i; notes = only_one _ _ (split_in book).1 i; turns = only_one _ _ (split_in turns).1 i; ticks = only_one _ _ (split_in ticks).1 i },
   )
     where
       split_in : (kind : Kind) → (seats_in after kind ≡ map (root_seat (n + 1)) (cells_in cells kind)) × (seats_in (of x) kind ≡ map (worker_seat n) (cells_in cells kind))

@@ -2,8 +2,8 @@
 use Rattle.std.specs.Prelude.{ℕ, Bool, true, false, is_some, min, Option, Some, None}
 use Rattle.conn_serve.specs.declared.ended.Ended.{Ended}
 use Rattle.conn_serve.specs.declared.ended.Ended.TheVariants as ends
-use Rattle.delivery_turn.specs.declared.ending.Turn.{Turn}
-use Rattle.delivery_turn.specs.declared.ending.Turn.TheVariants as turns
+use Rattle.sidecar_turns.specs.declared.idling.IdleTurn.{IdleTurn}
+use Rattle.sidecar_turns.specs.declared.idling.IdleTurn.TheVariants as turns
 use Rattle.sidecar_workers.specs.declared.exit.Exit.{Exit}
 use Rattle.sidecar_workers.specs.declared.exit.Exit.TheVariants as exits
 use Rattle.sidecar_workers.specs.declared.work.Served.{Served}
@@ -30,26 +30,26 @@ served_of ends.SinkFailed = served.Next
 served_of ends.NoMemory = served.NoMemory
 
 -- what its `turn` answers after one that came to this
-abbrev pub turned_of : Turn → Turned
-turned_of (turns.Delivered message place settled) = turned.Went
+abbrev pub turned_of : IdleTurn → Turned
+turned_of turns.Did = turned.Went
 turned_of (turns.Idle next) = turned.Went
 turned_of turns.Held = turned.NoMemory
 turned_of (turns.Exhausted count) = turned.Spent count
 
--- something was delivered
-abbrev pub was_delivered : Turn → Bool
-was_delivered (turns.Delivered message place settled) = true
-was_delivered (turns.Idle next) = false
-was_delivered turns.Held = false
-was_delivered (turns.Exhausted count) = false
+-- a tick was taken, or something was delivered
+abbrev pub did_something : IdleTurn → Bool
+did_something turns.Did = true
+did_something (turns.Idle next) = false
+did_something turns.Held = false
+did_something (turns.Exhausted count) = false
 
 -- the last millisecond of the year 9999
 abbrev pub last_moment : ℕ
 last_moment = 253402300799999
 
--- when the next delivery will be due, where that is known
-abbrev pub next_due : Turn → ℕ
-next_due (turns.Delivered message place settled) = last_moment
+-- when the next tick or delivery will be due, where that is known
+abbrev pub next_due : IdleTurn → ℕ
+next_due turns.Did = last_moment
 next_due (turns.Idle None) = last_moment
 next_due (turns.Idle (Some next)) = min next last_moment
 next_due turns.Held = last_moment

@@ -8,7 +8,7 @@ use Rattle.conn_serve.specs.declared.ended.Ended.TheVariants as ends
 use Rattle.conn_serve.specs.Exchanged.{Exchanged, Unanswered}
 use Rattle.conn_serve.specs.Session.{Session, trace_of}
 use Rattle.sidecar_core.specs.declared.config.Config.{Config}
-use Rattle.delivery_turn.specs.declared.ending.Turn.{Turn}
+use Rattle.sidecar_turns.specs.declared.idling.IdleTurn.{IdleTurn}
 use Rattle.sidecar_objects.specs.declared.doing.Doing.{Doing}
 use Rattle.sidecar_core.specs.Delivery.{IdlesIn}
 use Rattle.sidecar_objects.specs.Kind.{CellsAt, Kinds}
@@ -53,7 +53,7 @@ pub record Connected (config : Config) (back : Back) (events : List Doing) (exit
 
 -- one turn of what a worker does when no connection came
 pub record Turned (config : Config) (events : List Doing) (exit : Option Exit) : Type 0 where
-  pub turn : Turn
+  pub turn : IdleTurn
   pub idles : IdlesIn config events turn
   pub exit_is : exit ≡ exit_of_turned (turned_of turn)
 

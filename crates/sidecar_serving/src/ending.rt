@@ -3,7 +3,7 @@ ghost use Rattle.sidecar_serving.specs.Ending.{end_of, is_failed, served_of, spe
 
 use crate::End;
 use conn_serve::Ended;
-use sidecar_core::Turn;
+use sidecar_core::IdleTurn;
 use sidecar_workers::{Exit, Served, Turned};
 
 /// What a worker's `serve` answers after a connection that ended so.
@@ -25,13 +25,13 @@ pub(crate) fn served_of(ended: Ended) -> Served
 }
 
 /// What a worker's `turn` answers after one that came to this.
-pub(crate) fn turned_of(turn: &Turn) -> Turned
+pub(crate) fn turned_of(turn: &IdleTurn) -> Turned
     ensures { result ≡ turned_of turn.now }
 {
     match turn {
-        Turn::Delivered { .. } | Turn::Idle { .. } => Turned::Went,
-        Turn::Held => Turned::NoMemory,
-        Turn::Exhausted { count } => Turned::Spent { count: *count },
+        IdleTurn::Did | IdleTurn::Idle { .. } => Turned::Went,
+        IdleTurn::Held => Turned::NoMemory,
+        IdleTurn::Exhausted { count } => Turned::Spent { count: *count },
     }
 }
 

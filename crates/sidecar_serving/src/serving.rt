@@ -1,6 +1,6 @@
 ghost use Rattle.sidecar_objects.specs.Pass.{cells_of, seats_of};
 ghost use Rattle.std.proofs.Props.{props};
-ghost use Rattle.sidecar_serving.specs.Passes.{IsOwnPass, turns_set};
+ghost use Rattle.sidecar_serving.specs.Passes.{IsOwnPass, ticks_set, turns_set};
 
 use crate::due::Due;
 use conn_serve::Buffers;
@@ -23,5 +23,5 @@ pub(crate) struct Serving<'a, K: Keeper, A: Acceptor, L: Link, C: Clock, R: Rng>
     pub(crate) due: Due<A::From, A::Into>,
     /// How it ended, if a connection or a turn of its own ended it.
     pub(crate) exit: Option<Exit>,
-    ghost of: { IsOwnPass (cells_of shared.now.objects) (seats_of pass) } by { Prim.hlevel (turns_set, props) },
+    ghost of: { IsOwnPass (cells_of shared.now.objects) (seats_of pass) } by { Prim.hlevel (turns_set, ticks_set, props) },
 }

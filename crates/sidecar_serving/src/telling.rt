@@ -1,28 +1,30 @@
 //! What a worker tells its acceptor of other work, so that some worker's next answer is that nothing came.
 ghost use Rattle.std.specs.Prelude.{◌≡◌, min};
-ghost use Rattle.sidecar_serving.specs.Ending.{last_moment, next_due, was_delivered};
+ghost use Rattle.sidecar_serving.specs.Ending.{did_something, last_moment, next_due};
 
 use side_base::{MOMENT_LIMIT, Moment};
-use sidecar_core::Turn;
+use sidecar_core::IdleTurn;
 
-/// Whether something was delivered: behind it more may wait.
-pub(crate) fn was_delivered(turn: &Turn) -> bool
-    ensures { result ≡ was_delivered turn.now }
+/// Whether a tick was taken or something was delivered: behind it more may wait.
+pub(crate) fn did_something(turn: &IdleTurn) -> bool
+    ensures { result ≡ did_something turn.now }
 {
     match turn {
-        Turn::Delivered { .. } => true,
-        Turn::Idle { .. } | Turn::Held | Turn::Exhausted { .. } => false,
+        IdleTurn::Did => true,
+        IdleTurn::Idle { .. } | IdleTurn::Held | IdleTurn::Exhausted { .. } => false,
     }
 }
 
-/// When the next delivery will be due: the last moment that there is where none is known.
-pub(crate) fn next_due(turn: &Turn) -> Moment
+/// When the next tick or delivery will be due: the last moment that there is where none is known.
+pub(crate) fn next_due(turn: &IdleTurn) -> Moment
     ensures { result ≡ next_due turn.now }
 {
     match turn {
-        Turn::Idle { next: Some(next) } => moment_or_last(*next),
-        Turn::Delivered { .. } | Turn::Idle { next: None } | Turn::Held | Turn::Exhausted { .. } =>
-            moment_or_last(MOMENT_LIMIT),
+        IdleTurn::Idle { next: Some(next) } => moment_or_last(*next),
+        IdleTurn::Did
+        | IdleTurn::Idle { next: None }
+        | IdleTurn::Held
+        | IdleTurn::Exhausted { .. } => moment_or_last(MOMENT_LIMIT),
     }
 }
 

@@ -4,7 +4,7 @@ ghost use Rattle.state_core.specs.declared.store.Store.{Store as StoreRecord};
 use crate::due::{Due, set, take};
 use crate::ending::{served_of, turned_of};
 use crate::serving::Serving;
-use crate::telling::{next_due, was_delivered};
+use crate::telling::{did_something, next_due};
 use keeper_core::Keeper;
 use rand_core::Rng;
 use side_world::{Accepted, Acceptor, Clock, Link};
@@ -97,7 +97,7 @@ impl<K: Keeper, A: Acceptor, L: Link, C: Clock, R: Rng> Work for Serving<'_, K, 
                     self.acceptor.leave();
                     return turned;
                 }
-                if was_delivered(&turn) {
+                if did_something(&turn) {
                     self.acceptor.wake();
                     return turned;
                 }

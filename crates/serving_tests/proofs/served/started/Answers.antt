@@ -12,5 +12,6 @@ returns-in-Ok g c =
         breakers = roots.each kind.breakers i;
         notes = ap (λ l. get_or l 0 c.in-Ok.pass.notes) (roots.each kind.book) i;
         turns = ap (λ l. get_or l 0 c.in-Ok.pass.turns) (roots.each kind.turns) i;
+        ticks = ap (λ l. get_or l 0 c.in-Ok.pass.ticks) (roots.each kind.ticks) i;
       };
     }

@@ -2,7 +2,7 @@ use Rattle.std.proofs.Common.{◌≡◌, Some, subst, arith}
 use Rattle.atomic_table.proofs.Lists.{at_index, set_here}
 use Rattle.retry_core.specs.declared.policy.Bound.{Bound}
 use Rattle.sidecar_objects.specs.Kind.{breakers}
-use Rattle.sidecar_core.proofs.Linked.{asked_gated, asked_plainly}
+use Rattle.sidecar_turns.proofs.Linked.{asked_gated, asked_plainly}
 use Rattle.sidecar_core.proofs.Requested.{app_called, breaker_low}
 use Rattle.sidecar_core.proofs.app_request.at_app.Goals as goal
 

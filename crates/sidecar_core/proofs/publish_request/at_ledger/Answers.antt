@@ -5,7 +5,7 @@ use Rattle.ledger_core.specs.Ledger.{plans_of}
 use Rattle.sidecar_objects.specs.Kind.{ledgers}
 use Rattle.sidecar_core.specs.Plans.{plan_of, plans_in}
 use Rattle.sidecar_core.proofs.Beginning.{all_at}
-use Rattle.sidecar_core.proofs.Linked.{entered_at}
+use Rattle.sidecar_core.proofs.Entering.{entered_at}
 use Rattle.sidecar_core.proofs.publish_request.at_ledger.Goals as goal
 
 pub index_mut-requires : goal.index_mut-requires

@@ -3,6 +3,7 @@ use Rattle.std.specs.Option.{ForSome}
 use Rattle.std.proofs.lemmas.List.{length-map}
 use Rattle.state_core.specs.Store.{keeper_of}
 use Rattle.breaker_core.specs.Breaker.{policy_of}
+use Rattle.cron_ticks.specs.Schedule.{Schedule}
 use Rattle.sidecar_core.specs.Sites.{site_of, stores_of}
 use Rattle.sidecar_core.specs.Started.{IsRoomFor}
 use Rattle.sidecar_core.proofs.Beginning.{all_at, as_many}
@@ -17,10 +18,13 @@ invariant_of-shared g c =
       has_notes = tables.notes;
       has_sub_notes = tables.sub_notes;
       has_brokers = tables.brokers;
+      has_crons = tables.crons;
       stores = as_many (λ cell. keeper_of cell.first) c.in_ok-objects.objects.stores.items c.args.keepers.items started.stores ∙ c.requires ∙ sym (ap length tables.sites ∙ length-map (stores_of c.args.config.components) (site_of c.args.config));
       ledgers = started.ledgers;
       plans = started.plans;
       inbound = tables.inbound;
+      periods = ap (λ (s : Schedule). s.periods) started.ticks;
+      gates = tables.gates;
       breakers = as_many (λ cell. policy_of cell.first) c.in_ok-objects.objects.breakers.items c.args.config.policies.breakers started.breakers;
       bounds = all_at (λ site. ForSome site.bound.breaker (λ place. place < length c.args.config.policies.breakers)) c.in_ok-tables.tables.sites.items tables.bounds;
     }

@@ -11,14 +11,14 @@ idle_turn-turn-requires g c = record { pass = pass_owned _ _ c.args.self.now.of 
 pub invariant_of-self : goal.invariant_of-self
 invariant_of-self g c = record { of = own_pass _ _ (pass_stays _ _ _ _ _ c.idle_turn-turn.ensures.does.went (pass_owned _ _ c.args.self.now.of)) }
 
-pub invariant_of-self-then-was_delivered : goal.invariant_of-self-then-was_delivered
-invariant_of-self-then-was_delivered g c = record { of = own_pass _ _ (pass_stays _ _ _ _ _ c.idle_turn-turn.ensures.does.went (pass_owned _ _ c.args.self.now.of)) }
+pub invariant_of-self-then-did_something : goal.invariant_of-self-then-did_something
+invariant_of-self-then-did_something g c = record { of = own_pass _ _ (pass_stays _ _ _ _ _ c.idle_turn-turn.ensures.does.went (pass_owned _ _ c.args.self.now.of)) }
 
 pub invariant_of-self-in-Turn : goal.invariant_of-self-in-Turn
 invariant_of-self-in-Turn g c = record { of = own_pass _ _ (pass_stays _ _ _ _ _ c.idle_turn-turn.ensures.does.went (pass_owned _ _ c.args.self.now.of)) }
 
-pub returns-then-was_delivered-clause-kept : goal.returns-then-was_delivered-clause-kept
-returns-then-was_delivered-clause-kept g c = (refl, λ start done. rw c.wake.ensures.told (turned_on _ _ _ _ _ start _ _ _ _ _ _ c.idle_turn-turn.result _ (sym c.take.ensures.taken ∙ c.in-Turn.is) c.take.ensures.left (c.after_turn-self.ensures ∙ ap exit_of_turned c.turned_of-turned.ensures) c.idle_turn-turn.ensures.does c.idle_turn-turn.ensures.shows done))
+pub returns-then-did_something-clause-kept : goal.returns-then-did_something-clause-kept
+returns-then-did_something-clause-kept g c = (refl, λ start done. rw c.wake.ensures.told (turned_on _ _ _ _ _ start _ _ _ _ _ _ c.idle_turn-turn.result _ (sym c.take.ensures.taken ∙ c.in-Turn.is) c.take.ensures.left (c.after_turn-self.ensures ∙ ap exit_of_turned c.turned_of-turned.ensures) c.idle_turn-turn.ensures.does c.idle_turn-turn.ensures.shows done))
 
 pub returns-clause-kept : goal.returns-clause-kept
 returns-clause-kept g c = (refl, λ start done. rw c.due.ensures.told (turned_on _ _ _ _ _ start _ _ _ _ _ _ c.idle_turn-turn.result _ (sym c.take.ensures.taken ∙ c.in-Turn.is) c.take.ensures.left (c.after_turn-self.ensures ∙ ap exit_of_turned c.turned_of-turned.ensures) c.idle_turn-turn.ensures.does c.idle_turn-turn.ensures.shows done))
