@@ -1,11 +1,15 @@
 -- What a request to an output binding is answered, and why.
-use Rattle.std.proofs.Common.{◌≡◌, ◌⊎◌, ℕ, true, List, Ok, inl, inr, ap, ◌∙◌, arith}
-use Rattle.std.specs.Prelude.{codes, decimal, ◌++◌, ◌&&◌, nat_le, if◌then◌else◌}
+use Rattle.std.proofs.Common.{◌≡◌, ◌⊎◌, ℕ, true, List, Ok, Option, Some, inl, inr, ap, sym, subst, unwrap_or, ◌∙◌, arith}
+use Rattle.std.specs.Prelude.{[], codes, decimal, ◌++◌, ◌&&◌, nat_le, if◌then◌else◌}
 use Rattle.std.proofs.lemmas.Bool.Decides.{nat_tests}
 use Rattle.side_base.specs.declared.message.Response.{Response}
 use Rattle.side_world.specs.declared.link.LinkCall.{LinkCall}
 use Rattle.api_routes.specs.declared.route.Route.TheVariants.{Binding}
+use mathlib.Core.Option.{some-injective}
+use lib.ListN.{get_elem?}
 use Rattle.resource_spec.specs.Component.{Loaded}
+use Rattle.resource_spec.specs.declared.component.ComponentKind.{ComponentKind}
+use Rattle.resource_spec.specs.declared.component.ComponentKind.TheVariants as kind
 use Rattle.resource_spec.specs.Url.{Address}
 use Rattle.policy_run.specs.declared.outcome.Outcome.{Outcome}
 use Rattle.policy_run.specs.declared.outcome.Outcome.TheVariants.{Good, Bad, Refused, Exhausted, NoMemory}
@@ -22,16 +26,31 @@ use Rattle.bind_api.specs.Binding as binding
 use Rattle.bind_api.specs.Binding.{BindingReplies, Binds, IsAddress, not_bound, taken_with, told}
 use Rattle.sidecar_objects.specs.Kind.{CellsAt, Kinds}
 use Rattle.sidecar_turns.specs.Ticking.{asked_under}
+use Rattle.sidecar_core.specs.declared.config.Config.{Config}
 use Rattle.sidecar_core.specs.Called.{AtBinding, Tried}
 use Rattle.sidecar_core.specs.Called as at
+use Rattle.sidecar_core.specs.Named.{IsNamed}
 use Rattle.sidecar_core.specs.Responses.{no_binding}
 use Rattle.sidecar_core.specs.Shown.{some_seat}
 use Rattle.session_laws.specs.Served.{HasNoMemory, IsServed, Served}
 use Rattle.session_laws.specs.Asking.{HasReply}
-use Rattle.session_laws.specs.Bindings.{IsAnsweredWhereAllIsWell, IsBinding, IsBindingAnswered, IsSuccess, bound_to, expired, failed, lacks, refused, replied, unknown, wrong}
+use Rattle.session_laws.specs.Bindings.{CronIsUnknown, IsAnsweredWhereAllIsWell, IsBinding, IsBindingAnswered, IsSuccess, bound_to, expired, failed, lacks, refused, replied, unknown, wrong}
 use Rattle.session_laws.specs.Bindings.{exhausted as spent}
 use Rattle.session_laws.proofs.Routed.{by_route, exhausted_so}
 use Rattle.session_laws.proofs.LastTries.{IsWhyOf, outcome_so}
+
+-- one component has the name
+one_named : (config : Config) (name : List ℕ) (place other : ℕ) (one two : Loaded) → IsNamed config name place one → IsNamed config name other two → one ≡ two
+one_named config name place other one two first second =
+    let same : place ≡ other = ap (λ (o : Option ℕ). unwrap_or o 0) (sym first.first ∙ second.first) in
+    some-injective one two (sym first.there ∙ ap (λ k. get_elem? config.components k) same ∙ second.there)
+
+abbrev IsHttp : ComponentKind → Type 0
+IsHttp kind.BindingHttp = Unit {0}
+IsHttp kind.StateMemory = ⊥
+IsHttp kind.StateJournal = ⊥
+IsHttp kind.PubsubMemory = ⊥
+IsHttp kind.BindingCron = ⊥
 
 module _ {O : Type 0} (kinds : Kinds O) (cells : CellsAt O) (name : List ℕ) (served : Served O) (is : IsServed kinds cells (Binding name) served) where
   said_or : (response : Response) → (served.reply ≡ Ok response → IsBindingAnswered name served) → IsOr response served.reply → IsBindingAnswered name served
@@ -68,6 +87,20 @@ module _ {O : Type 0} (kinds : Kinds O) (cells : CellsAt O) (name : List ℕ) (s
       by (inl (at.unknown_name none gives)) = said_or (no_binding name) (unknown none gives.0) gives.1
       by (inl (at.known place component named kind service)) = at_service component (record { place = place; named = named; kind = kind }) service.attempts service.whole service.binds
       by (inr none) = lacks none
+
+  -- ---- cron components
+
+  pub cron_unknown : CronIsUnknown name served
+  cron_unknown cron = by (by_route kinds cells (Binding name) served is)
+    where
+      told_or : served.events ≡ [] → IsOr (no_binding name) served.reply → ((served.events ≡ []) × (served.reply ≡ Ok (no_binding name))) ⊎ HasNoMemory served
+      told_or nothing (inl said) = inl (nothing, said)
+      told_or nothing (inr none) = inr none
+
+      by : AtBinding served.config served.request name served.events served.reply ⊎ HasNoMemory served → ((served.events ≡ []) × (served.reply ≡ Ok (no_binding name))) ⊎ HasNoMemory served
+      by (inl (at.unknown_name none gives)) = told_or gives.0 gives.1
+      by (inl (at.known place component named http service)) = absurd (subst IsHttp (sym http ∙ ap (λ (c : Loaded). c.kind) (one_named served.config name place cron.place component cron.component named cron.named) ∙ cron.kind) tt)
+      by (inr none) = inr none
 
   -- ---- where all is well
 

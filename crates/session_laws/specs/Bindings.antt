@@ -4,7 +4,7 @@ use Rattle.side_base.specs.declared.message.Response.{Response}
 use Rattle.retry_core.specs.declared.policy.Bound.{Bound}
 use Rattle.resource_spec.specs.Component.{Loaded}
 use Rattle.resource_spec.specs.Url.{Address}
-use Rattle.resource_spec.specs.declared.component.ComponentKind.TheVariants.{BindingHttp}
+use Rattle.resource_spec.specs.declared.component.ComponentKind.TheVariants.{BindingCron, BindingHttp}
 use Rattle.policy_spec.specs.Policies as aim
 use Rattle.policy_spec.specs.Policies.{bound_by}
 use Rattle.policy_run.specs.declared.outcome.Refusal.{Refusal}
@@ -52,6 +52,17 @@ module _ {O : Type 0} (name : List ℕ) (served : Served O) where
     refused : (refusal : Refusal) → IsTurnedAway (bound_to served.config name) refusal served.events → served.reply ≡ Ok (not_bound (refusal_text refusal)) → IsBindingAnswered
     exhausted : HasExhausted served → IsBindingAnswered
     lacks : HasNoMemory served → IsBindingAnswered
+
+  -- the name is that of a cron component
+  pub record NamesCron : Type 0 where
+    pub place : ℕ
+    pub component : Loaded
+    pub named : IsNamed served.config name place component
+    pub kind : component.kind ≡ BindingCron
+
+  -- then nothing is done, and the answer is that no binding of the name is known; or there was no memory
+  abbrev pub CronIsUnknown : Type 0
+  CronIsUnknown = NamesCron → ((served.events ≡ []) × (served.reply ≡ Ok (no_binding name))) ⊎ HasNoMemory served
 
   -- there is a binding of the name, and the body is not malformed
   pub record IsBindingAsked : Type 0 where

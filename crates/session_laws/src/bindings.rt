@@ -3,7 +3,7 @@ ghost use Rattle.std.specs.Prelude.{ℕ, List};
 ghost use Rattle.api_routes.specs.declared.route.Route.TheVariants.{Binding};
 ghost use Rattle.sidecar_objects.specs.Kind.{CellsAt};
 ghost use Rattle.session_laws.specs.Served.{IsServed, Served};
-ghost use Rattle.session_laws.specs.Bindings.{IsAnsweredWhereAllIsWell, IsBindingAnswered};
+ghost use Rattle.session_laws.specs.Bindings.{CronIsUnknown, IsAnsweredWhereAllIsWell, IsBindingAnswered};
 
 use keeper_core::Keeper;
 use sidecar_objects::ObjectKinds;
@@ -19,4 +19,9 @@ pub fn each_answer_of_a_binding_has_its_cause<K: Keeper>()
 /// one away, no cell is exhausted and the last reply is one of 200 to 299, the answer is 200 with its content, or 204 where it has none; or there was no memory.
 pub fn a_binding_is_answered_where_all_is_well<K: Keeper>()
     ensures { (cells : CellsAt _) (name : List ℕ) (served : Served _) → IsServed ⟦<Store<K> as ObjectKinds>⟧.kinds cells (Binding name) served → IsAnsweredWhereAllIsWell name served }
+{}
+
+/// A cron component is no output binding: a request to one does nothing, and is answered that no binding of the name is known; or there was no memory.
+pub fn a_cron_component_is_unknown_to_requests<K: Keeper>()
+    ensures { (cells : CellsAt _) (name : List ℕ) (served : Served _) → IsServed ⟦<Store<K> as ObjectKinds>⟧.kinds cells (Binding name) served → CronIsUnknown name served }
 {}

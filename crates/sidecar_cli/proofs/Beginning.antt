@@ -51,11 +51,12 @@ module _ {D : Type 0} {disking : Keeps D} {keeping : Ghosts (AnyKeeper D disking
     down_over (Ok up) down = tt
     down_over (Err status) down = kept keepers between are_kept down
 
-  module _ (keepers : List (AnyKeeper D disking)) (made : Config) (start : ℕ) (clock clock' : Clocked) (reads : ReadsNow clock start clock') where
-    -- what was started as this is, is configured so
-    pub started_as : (result : Result X Status) → IfOk result (λ up. config up ≡ made) → IfOk result (λ up. IsStarted made keepers start made (objects up) (pass up)) → IfOk result (λ up. IsStartedNow (config up) keepers clock clock' (objects up) (pass up))
-    started_as (Ok up) same started = record { start = start; reads = reads; started = subst (λ (c : Config). IsStarted c keepers start c (objects up) (pass up)) (sym same) started }
-    started_as (Err status) same started = tt
+  module _ (keepers : List (AnyKeeper D disking)) (made : Config) where
+    -- what was started as this is, at the moment that the clock told, is configured so
+    pub started_as : (start : ℕ) (clock clock' : Clocked) → ReadsNow clock start clock' → (result : Result X Status) → IfOk result (λ up. config up ≡ made) → IfOk result (λ up. IsStarted made keepers start made (objects up) (pass up))
+        → IfOk result (λ up. IsStartedNow (config up) keepers clock clock' (objects up) (pass up))
+    started_as start clock clock' reads (Ok up) same started = record { start = start; reads = reads; started = subst (λ (c : Config). IsStarted c keepers start c (objects up) (pass up)) (sym same) started }
+    started_as start clock clock' reads (Err status) same started = tt
 
     module _ (given : Words) (resources : Resources) (link link' : LinkAt) (subs : List Sub) (subscribed : IsSubscribed given.app_port resources.subscriptions link link' (Ok subs)) (is : made ≡ config_of given resources subs) where
       pub configured_as : (result : Result X Status) → IfOk result (λ up. config up ≡ made) → IfOk result (λ up. IsConfiguredBy given resources link link' (config up))
@@ -63,6 +64,7 @@ module _ {D : Type 0} {disking : Keeps D} {keeping : Ghosts (AnyKeeper D disking
       configured_as (Err status) same = tt
 
       -- there was no memory for the objects
-      pub lacking_as : (outside : OutsideAt) (result : Result X Status) → IfErr result (λ status. status ≡ ends.NoMemory) → IfErr result (λ status. IsDownOver disking given resources keepers (record { link = link; clock = clock; outside = outside }) (record { link = link'; clock = clock'; outside = outside }) status)
-      lacking_as outside (Ok up) lacking = tt
-      lacking_as outside (Err status) lacking = lacks made start (record { subs = subs; subscribed = subscribed; same = is }) reads refl lacking
+      pub lacking_as : (start : ℕ) (clock clock' : Clocked) → ReadsNow clock start clock' → (outside : OutsideAt) (result : Result X Status) → IfErr result (λ status. status ≡ ends.NoMemory)
+          → IfErr result (λ status. IsDownOver disking given resources keepers (record { link = link; clock = clock; outside = outside }) (record { link = link'; clock = clock'; outside = outside }) status)
+      lacking_as start clock clock' reads outside (Ok up) lacking = tt
+      lacking_as start clock clock' reads outside (Err status) lacking = lacks made start (record { subs = subs; subscribed = subscribed; same = is }) reads refl lacking
