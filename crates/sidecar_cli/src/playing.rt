@@ -20,9 +20,7 @@ use rand_core::{Rng, SeedableRng};
 use rand_pcg::Pcg64;
 use resource_files::Resources;
 use side_world::{Clock, Disk, Files, Link, Outside, Sink, Source};
-use sidecar_core::{
-    Drained, ObjectKinds, Pass, Room, Shared, drain, serve_connection, take_ticks,
-};
+use sidecar_core::{Drained, ObjectKinds, Pass, Room, Shared, drain, serve_connection, take_ticks};
 use sidecar_keepers::give_back;
 use sidecar_words::Words;
 use state_core::Store;

@@ -51,15 +51,7 @@ pub fn tick<K: Keeper, L: Link, C: Clock, R: Rng, W: Wait>(
     ensures does { DoesBy ⟦<Store<K> as ObjectKinds>⟧.kinds L.Link C.Clock R.stream shared.now.objects pass.old pass.new link.old link.new clock.old clock.new rng.old rng.new (TicksIn shared.now.config) result }
     ensures shows { (count : ℕ) → result ≡ TickTurn.Exhausted count → Shows (seats_of pass.new) count }
 {
-    sidecar_turns::tick(
-        rt,
-        &shared.crons,
-        &shared.objects,
-        pass,
-        link,
-        clock,
-        rng,
-    )
+    sidecar_turns::tick(rt, &shared.crons, &shared.objects, pass, link, clock, rng)
 }
 
 /// What a worker does when no connection came: the tick that is due first, of the cron components, and then one turn of delivery, on the first ledger that isn't
@@ -81,15 +73,7 @@ pub fn idle_turn<K: Keeper, L: Link, C: Clock, R: Rng, W: Wait>(
         brokers: &shared.brokers,
         subs: &shared.config.subs,
     };
-    sidecar_turns::idle_turn(
-        rt,
-        &duties,
-        &shared.objects,
-        pass,
-        link,
-        clock,
-        rng,
-    )
+    sidecar_turns::idle_turn(rt, &duties, &shared.objects, pass, link, clock, rng)
 }
 
 /// Takes the ticks that are due, in at most 4,096 turns, and calls the app for each.
@@ -105,15 +89,7 @@ pub fn take_ticks<K: Keeper, L: Link, C: Clock, R: Rng, W: Wait>(
     ensures does { DoesBy ⟦<Store<K> as ObjectKinds>⟧.kinds L.Link C.Clock R.stream shared.now.objects pass.old pass.new link.old link.new clock.old clock.new rng.old rng.new (TakesTicksIn shared.now.config) result }
     ensures shows { (count : ℕ) → result ≡ Drained.Spent count → Shows (seats_of pass.new) count }
 {
-    sidecar_turns::take_ticks(
-        rt,
-        &shared.crons,
-        &shared.objects,
-        pass,
-        link,
-        clock,
-        rng,
-    )
+    sidecar_turns::take_ticks(rt, &shared.crons, &shared.objects, pass, link, clock, rng)
 }
 
 /// Delivers what is due, and waits for what will be due within 60,000 ms of the moment `began`, in at most 4,096 turns.
