@@ -18,7 +18,7 @@ use Rattle.policy_run.specs.Effects.{Clocked}
 use Rattle.link_call.specs.LinkAt.{LinkAt, asks_none}
 use Rattle.sidecar_objects.specs.declared.doing.Doing.TheVariants.{Stepped}
 use Rattle.sidecar_objects.specs.declared.doing.SlotStep.TheVariants as slot
-use Rattle.sidecar_objects.specs.Kind.{Kinds, CellsAt, SeatsAt, stores, ledgers, breakers, book, turns, cells_in, seats_in}
+use Rattle.sidecar_objects.specs.Kind.{Kinds, CellsAt, SeatsAt, stores, ledgers, breakers, book, turns, ticks, cells_in, seats_in}
 use Rattle.sidecar_objects.specs.Doing.{steps_at}
 use Rattle.sidecar_objects.specs.Did.{Does, Standing}
 use Rattle.sidecar_objects.proofs.ByKind.{by_kind}
@@ -45,7 +45,8 @@ module _ {O : Type 0} (kinds : Kinds O) (cells : CellsAt O) (seats : SeatsAt O) 
           (subst (λ l. Grew (kinds ledgers) cell.first seat l after) (sym (λ i. here_at place step i ++ [])) (called (kinds ledgers) cell.first seat Counts reply after extends))
           (λ k far. (λ i. elsewhere_at place k far step i ++ [])))
           (each_none (kinds breakers) cells.breakers seats.breakers _ (λ k. refl)) (each_none (kinds book) (cells_in cells book) (seats_in seats book) _ (λ k. refl))
-          (each_none (kinds turns) (cells_in cells turns) (seats_in seats turns) _ (λ k. refl));
+          (each_none (kinds turns) (cells_in cells turns) (seats_in seats turns) _ (λ k. refl))
+          (each_none (kinds ticks) (cells_in cells ticks) (seats_in seats ticks) _ (λ k. refl));
       times = le_refl clock.last;
       pauses = rises_nothing clock.paused;
       ticks = tells_nothing clock.ticks;
@@ -63,7 +64,8 @@ module _ {O : Type 0} (kinds : Kinds O) (cells : CellsAt O) (seats : SeatsAt O) 
       grew = by_kind _ (each_none (kinds stores) cells.stores seats.stores _ (λ k. refl))
           (each_one (kinds ledgers) cells.ledgers seats.ledgers (λ k. []) place cell seat after at there (exhausted (kinds ledgers) cell.first seat e.count after spent) (λ k far. refl))
           (each_none (kinds breakers) cells.breakers seats.breakers _ (λ k. refl)) (each_none (kinds book) (cells_in cells book) (seats_in seats book) _ (λ k. refl))
-          (each_none (kinds turns) (cells_in cells turns) (seats_in seats turns) _ (λ k. refl));
+          (each_none (kinds turns) (cells_in cells turns) (seats_in seats turns) _ (λ k. refl))
+          (each_none (kinds ticks) (cells_in cells ticks) (seats_in seats ticks) _ (λ k. refl));
       times = le_refl clock.last;
       pauses = rises_nothing clock.paused;
       ticks = tells_nothing clock.ticks;

@@ -12,7 +12,8 @@ use Rattle.sidecar_objects.specs.declared.doing.Doing.TheVariants.{Timed, Waited
 use Rattle.sidecar_objects.specs.Kind.{Kinds, CellsAt, SeatsAt, cells_in, seats_in}
 use Rattle.sidecar_objects.specs.Did.{Did, Does, Standing}
 use Rattle.sidecar_objects.specs.Composed.{did_on}
-use Rattle.sidecar_turns.specs.Draining.{GoesOn, OneMore, Pauses, Pausing}
+use Rattle.sidecar_turns.specs.Draining.{GoesOn, Pauses, Pausing}
+use Rattle.sidecar_turns.specs.Repeating.{OneMore}
 
 module _ {O : Type 0} (kinds : Kinds O) (cells : CellsAt O) (seats : SeatsAt O) (link : LinkAt) (words : Stream) (clock clock' : Clocked) where
   abbrev at_clock : Clocked → Standing O
@@ -31,7 +32,7 @@ module _ {O : Type 0} (kinds : Kinds O) (cells : CellsAt O) (seats : SeatsAt O) 
 
   -- a turn behind which the drain pauses, and goes on
   pub waited : (turns : List Doing → Turn → Type 0) (began due : ℕ) (turn : Turn) (at : Standing O) → Does kinds cells at (at_clock clock) (λ events. turns events turn) → ((events : List Doing) → Pauses due events → GoesOn began turn events) → Pausing due clock clock'
-      → Does kinds cells at (at_clock clock') (OneMore turns began)
+      → Does kinds cells at (at_clock clock') (OneMore turns (GoesOn began))
   waited turns began due turn at turned follows pausing =
       let pause : List Doing = Timed pausing.0 ∷ Waited (due - pausing.0) ∷ [] in record {
         events = turned.events ++ pause;

@@ -26,7 +26,7 @@ use Rattle.delivery_turn.specs.Stepping.{entered_in}
 use Rattle.delivery_turn.specs.Stepping as own
 use Rattle.delivery_turn.specs.Delivery.{Delivery, Setting}
 use Rattle.sidecar_objects.specs.declared.doing.Doing.{Doing}
-use Rattle.sidecar_objects.specs.Kind.{Kinds, CellsAt, SeatsAt, stores, ledgers, breakers, book, turns, cells_in, seats_in}
+use Rattle.sidecar_objects.specs.Kind.{Kinds, CellsAt, SeatsAt, stores, ledgers, breakers, book, turns, ticks, cells_in, seats_in}
 use Rattle.sidecar_objects.specs.Doing.{laid, steps_at, asked_in, word_in, moment_in, pause_in, tick_in}
 use Rattle.sidecar_objects.specs.Did.{Did, Does, Standing}
 use Rattle.sidecar_objects.proofs.ByKind.{by_kind}
@@ -83,6 +83,10 @@ no_turns : (i k : ℕ) (e : Own) → steps_at turns k (own_at i e) ≡ []
 no_turns i k (entered step) = refl
 no_turns i k (asked call) = refl
 
+no_ticks : (i k : ℕ) (e : Own) → steps_at ticks k (own_at i e) ≡ []
+no_ticks i k (entered step) = refl
+no_ticks i k (asked call) = refl
+
 -- ---- the events of a turn, kind by kind
 
 module _ (i j : ℕ) (events : List (Event Own)) where
@@ -103,6 +107,9 @@ module _ (i j : ℕ) (events : List (Event Own)) where
 
   pub in_no_turns : (k : ℕ) → flat_map (steps_at turns k) placed ≡ []
   in_no_turns k = laid_own (own_at i) j (steps_at turns k) (λ w. refl) (λ m. refl) (λ ms. refl) (λ s. refl) events ∙ none_of_each _ (no_turns i k) (flat_map own_of events)
+
+  pub in_no_ticks : (k : ℕ) → flat_map (steps_at ticks k) placed ≡ []
+  in_no_ticks k = laid_own (own_at i) j (steps_at ticks k) (λ w. refl) (λ m. refl) (λ ms. refl) (λ s. refl) events ∙ none_of_each _ (no_ticks i k) (flat_map own_of events)
 
   pub calls : flat_map asked_in placed ≡ flat_map own.asked_in (flat_map own_of events)
   calls = laid_own (own_at i) j asked_in (λ w. refl) (λ m. refl) (λ ms. refl) (λ s. refl) events ∙ asked_there i (flat_map own_of events)
@@ -136,7 +143,8 @@ module _ {O : Type 0} (kinds : Kinds O) (cells : CellsAt O) (seats : SeatsAt O) 
           (each_one (kinds ledgers) cells.ledgers seats.ledgers (λ k. flat_map (steps_at ledgers k) (placed i j events)) i cell seat seat' at there (subst (λ l. Grew (kinds ledgers) cell.first seat l seat') (sym (here i j events)) e.owned.steps) (λ k far. elsewhere i j events k far))
           grew
           (each_none (kinds book) (cells_in cells book) (seats_in seats book) (λ k. flat_map (steps_at book k) (placed i j events)) (λ k. in_no_book i j events k))
-          (each_none (kinds turns) (cells_in cells turns) (seats_in seats turns) (λ k. flat_map (steps_at turns k) (placed i j events)) (λ k. in_no_turns i j events k));
+          (each_none (kinds turns) (cells_in cells turns) (seats_in seats turns) (λ k. flat_map (steps_at turns k) (placed i j events)) (λ k. in_no_turns i j events k))
+          (each_none (kinds ticks) (cells_in cells ticks) (seats_in seats ticks) (λ k. flat_map (steps_at ticks k) (placed i j events)) (λ k. in_no_ticks i j events k));
       times = subst (λ l. Between clock.last l clock'.last) (sym (laid_moments (own_at i) j (no_moment i) events)) e.times;
       pauses = subst (λ l. Rises clock.paused (sum_by (λ (n : ℕ). n) l) clock'.paused) (sym (laid_pauses (own_at i) j (no_pause i) events)) e.pauses;
       ticks = subst (λ l. Tells clock.ticks clock'.ticks l) (sym (laid_ticks (own_at i) j (no_tick i) events)) e.ticks;

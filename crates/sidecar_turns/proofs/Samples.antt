@@ -15,7 +15,8 @@ use Rattle.sidecar_turns.specs.declared.draining.Drained.{Drained}
 use Rattle.sidecar_turns.specs.declared.draining.Drained.TheVariants as drained
 use Rattle.sidecar_turns.specs.Brokers.{Sites}
 use Rattle.sidecar_turns.specs.Delivering.{Delivers, DeliversFrom, IsIdle, idled, none_left, turn_events, went}
-use Rattle.sidecar_turns.specs.Draining.{Drains, GoesOn, Last, OneMore, Pauses, Stops, Turns, ended, used_up, went_on}
+use Rattle.sidecar_turns.specs.Draining.{Drains, GoesOn, Pauses, Stops}
+use Rattle.sidecar_turns.specs.Repeating.{Last, OneMore, Turns, ended, used_up, went_on}
 use Rattle.sidecar_turns.proofs.InOrder.{behind_busy}
 
 -- ---- ledgers in order
@@ -47,8 +48,8 @@ not_quiet inbound subs event events turn delivers = let is : event ∷ events �
 not_used_up : drained.Done ≡ drained.UsedUp → ⊥
 not_used_up e = absurd (cc)
 
-last_idle : (sites : Sites) (subs : List Sub) (began : ℕ) (events : List Doing) → Delivers sites subs events (ends.Idle None) → Last (Delivers sites subs) began events drained.Done
-last_idle sites subs began events delivers = record { turn = ends.Idle None; taken = delivers; stops = refl }
+last_idle : (sites : Sites) (subs : List Sub) (began : ℕ) (events : List Doing) → Delivers sites subs events (ends.Idle None) → Last (Delivers sites subs) (Stops began) events drained.Done
+last_idle sites subs began events delivers = record { turn = ends.Idle None; taken = delivers; stops_so = refl }
 
 pub alone : (inbound : List Bound) (subs : List Sub) (began : ℕ) → Drains (record { port = None; inbound = inbound }) subs began [] drained.Done
 alone inbound subs began = record {
@@ -58,7 +59,7 @@ alone inbound subs began = record {
   all = λ e. absurd (not_used_up e);
 }
 
-two_turns : (sites : Sites) (subs : List Sub) (began : ℕ) (one two : List Doing) → OneMore (Delivers sites subs) began one → Delivers sites subs two (ends.Idle None) → Drains sites subs began (one ++ two) drained.Done
+two_turns : (sites : Sites) (subs : List Sub) (began : ℕ) (one two : List Doing) → OneMore (Delivers sites subs) (GoesOn began) one → Delivers sites subs two (ends.Idle None) → Drains sites subs began (one ++ two) drained.Done
 two_turns sites subs began one two more delivers = record {
   taken = 2;
   turned = went_on 1 one two drained.Done more (ended two drained.Done (last_idle sites subs began two delivers));
@@ -78,7 +79,7 @@ later sites subs began next last one two idle near delivers =
 
 -- ---- what is none
 
-quiet : (inbound : List Bound) (subs : List Sub) (began taken : ℕ) (events : List Doing) (how : Drained) → Turns (Delivers (record { port = None; inbound = inbound }) subs) began taken events how → events ≡ []
+quiet : (inbound : List Bound) (subs : List Sub) (began taken : ℕ) (events : List Doing) (how : Drained) → Turns (Delivers (record { port = None; inbound = inbound }) subs) (GoesOn began) (Stops began) taken events how → events ≡ []
 quiet inbound subs began taken events how used_up = refl
 quiet inbound subs began taken events how (ended all end last) = last.taken.0
 quiet inbound subs began taken events how (went_on left one rest end more turned) = absurd (subst (λ t. GoesOn began t more.between) more.taken.1 more.goes_on)

@@ -1,5 +1,5 @@
 -- What is delivered behind the connection of a run on standard input, before the run ends.
-use Rattle.std.specs.Prelude.{◌≡◌, ◌≤◌, ◌<◌, ◌+◌, ◌-◌, ℕ, suc, List, [], ◌∷◌, ◌++◌, Option, Some, None}
+use Rattle.std.specs.Prelude.{◌≡◌, ◌≤◌, ◌<◌, ◌+◌, ◌-◌, ℕ, List, [], ◌∷◌, Option, Some, None}
 use Rattle.side_world.specs.declared.clock.Tick.TheVariants as tick
 use Rattle.side_world.specs.Moments.{Rises}
 use Rattle.side_world.specs.Told.{Tells}
@@ -15,6 +15,7 @@ use Rattle.sidecar_turns.specs.declared.draining.Following.{Following}
 use Rattle.sidecar_turns.specs.declared.draining.Following.TheVariants.{Another, Waiting, End}
 use Rattle.sidecar_turns.specs.Brokers.{Sites}
 use Rattle.sidecar_turns.specs.Delivering.{Delivers}
+use Rattle.sidecar_turns.specs.Repeating.{Repeats}
 
 -- ---- what follows a turn
 
@@ -41,44 +42,11 @@ Stops began (Exhausted count) how = how ≡ drained.Spent count
 
 -- ---- all turns
 
--- one turn that a further one follows, and what stands between them
-pub record OneMore (turns : List Doing → Turn → Type 0) (began : ℕ) (events : List Doing) : Type 0 where
-  pub first : List Doing
-  pub between : List Doing
-  pub turn : Turn
-  pub taken : turns first turn
-  pub goes_on : GoesOn began turn between
-  pub whole : events ≡ first ++ between
-
--- the last turn
-pub record Last (turns : List Doing → Turn → Type 0) (began : ℕ) (events : List Doing) (how : Drained) : Type 0 where
-  pub turn : Turn
-  pub taken : turns events turn
-  pub stops : Stops began turn how
-
--- so many turns of these, one after the other: the last one ends the drain, or as many were taken as there may be
-pub data Turns (turns : List Doing → Turn → Type 0) (began : ℕ) : ℕ → List Doing → Drained → Type 0 where
-  used_up : Turns turns began 0 [] drained.UsedUp
-  ended : (events : List Doing) (how : Drained) → Last turns began events how → Turns turns began 1 events how
-  went_on : (taken : ℕ) (first rest : List Doing) (how : Drained) → OneMore turns began first → Turns turns began taken rest how → Turns turns began (suc taken) (first ++ rest) how
-
--- At most 4,096 turns are taken; all of them are, where no turn was the last one
-pub record Drain (turns : List Doing → Turn → Type 0) (began : ℕ) (events : List Doing) (how : Drained) : Type 0 where
-  pub taken : ℕ
-  pub turned : Turns turns began taken events how
-  pub few : taken ≤ 4096
-  pub all : how ≡ drained.UsedUp → taken ≡ 4096
-
--- the same of the turns of delivery over the ledgers of these brokers
+-- turns of delivery over the ledgers of these brokers, up to the one that ends the drain
 abbrev pub Drains : Sites → List Sub → ℕ → List Doing → Drained → Type 0
-Drains sites subs began events how = Drain (Delivers sites subs) began events how
+Drains sites subs began events how = Repeats (Delivers sites subs) (GoesOn began) (Stops began) events how
 
 -- ---- the parts of a turn, as the code makes them
-
--- a turn of a drain, behind which a further one follows, or which ended it
-abbrev pub StepsOn : Sites → List Sub → ℕ → List Doing → Option Drained → Type 0
-StepsOn sites subs began events None = OneMore (Delivers sites subs) began events
-StepsOn sites subs began events (Some how) = Last (Delivers sites subs) began events how
 
 -- a further turn follows at once, or after a pause up to a moment, or none does
 abbrev pub IsFollowed : ℕ → Turn → Following → Type 0

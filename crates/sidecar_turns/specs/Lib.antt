@@ -1,7 +1,11 @@
 pub mod Brokers
+pub mod Crons
 pub mod Stepping
 pub mod Delivering
+pub mod Ticking
 pub mod Idling
+pub mod Repeating
 pub mod Draining
+pub mod Taking
 pub mod Counting
 pub mod Accounts

@@ -94,7 +94,7 @@ fn deliver_each<K: Keeper, L: Link, C: Clock, R: Rng, W: Wait>(
 }
 
 /// The earlier of two moments, where there are any.
-fn earlier(one: Option<u64>, other: Option<u64>) -> Option<u64>
+pub(crate) fn earlier(one: Option<u64>, other: Option<u64>) -> Option<u64>
     ensures { result ≡ earlier one other }
 {
     match one {

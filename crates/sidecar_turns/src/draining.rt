@@ -5,8 +5,9 @@ ghost use Rattle.delivery_turn.specs.declared.ending.Turn.TheVariants as ended;
 ghost use Rattle.sidecar_objects.specs.Passes.{IsPassOf};
 ghost use Rattle.sidecar_objects.specs.Pass.{DoesBy, cells_of, seats_of};
 ghost use Rattle.sidecar_turns.specs.Brokers.{AreOf};
-ghost use Rattle.sidecar_turns.specs.Delivering.{ShowsOne};
-ghost use Rattle.sidecar_turns.specs.Draining.{Drains, IsFollowed, Pausing, StepsOn};
+ghost use Rattle.sidecar_turns.specs.Delivering.{Delivers, ShowsOne};
+ghost use Rattle.sidecar_turns.specs.Draining.{Drains, GoesOn, IsFollowed, Pausing, Stops};
+ghost use Rattle.sidecar_turns.specs.Repeating.{StepsOn};
 
 use crate::{Brokers, deliver};
 use delivery_turn::Turn;
@@ -25,16 +26,16 @@ const TURNS: u32 = 4096;
 /// How long after its beginning a drain waits for what will be due, in milliseconds.
 const SOON_MS: u64 = 60_000;
 
-/// How a drain ended.
+/// How a drain ended, and how the taking of ticks did.
 #[derive(Clone, Copy, Debug, PartialEq, Eq)]
 pub enum Drained {
-    /// Nothing is due, and nothing will be soon.
+    /// Nothing is due; and of deliveries none will be soon.
     Done,
-    /// There was no memory; the delivery is due again.
+    /// There was no memory. A delivery is due again, and a tick is not.
     Held,
     /// A cell has no ticket left; `count` was read in it, and its seat shows it.
     Spent { count: u64 },
-    /// As many turns were taken as a drain may take.
+    /// As many turns were taken as may be.
     UsedUp,
 }
 
@@ -93,7 +94,7 @@ fn drain_once<K: Keeper, L: Link, C: Clock, R: Rng, W: Wait>(
     requires pass { IsPassOf (cells_of duty.now.objects.now) (seats_of pass.old) }
     requires cells { AreOf (cells_of duty.now.objects.now) duty.now.brokers.now duty.now.subs.now }
     ensures does { DoesBy ⟦<Store<K> as ObjectKinds>⟧.kinds L.Link C.Clock R.stream duty.now.objects.now pass.old pass.new link.old link.new clock.old clock.new rng.old rng.new
-        (StepsOn duty.now.brokers.now duty.now.subs.now duty.now.began) result }
+        (StepsOn (Delivers duty.now.brokers.now duty.now.subs.now) (GoesOn duty.now.began) (Stops duty.now.began)) result }
     ensures shows { (count : ℕ) → result ≡ Some (Drained.Spent count) → ShowsOne duty.now.brokers.now.inbound (seats_of pass.new) count }
 {
     let turn = deliver(

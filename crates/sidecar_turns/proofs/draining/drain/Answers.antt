@@ -1,20 +1,22 @@
 use Rattle.std.proofs.Common.{arith}
 use Rattle.sidecar_objects.specs.Composed.{pass_stays}
 use Rattle.sidecar_turns.specs.Delivering.{Delivers}
+use Rattle.sidecar_turns.specs.Draining.{GoesOn, Stops}
+use Rattle.sidecar_turns.proofs.Ended.{drain_ended}
 use Rattle.sidecar_turns.proofs.Turned.{all_taken, last_taken, none_taken, one_taken}
 use Rattle.sidecar_turns.proofs.draining.drain.Goals as goal
 
 pub loop-taken-init : goal.loop-taken-init
-loop-taken-init g c = record { so_far = none_taken (Delivers c.args.brokers.now c.args.subs.now) c.args.began _ _ _ }
+loop-taken-init g c = record { so_far = none_taken (Delivers c.args.brokers.now c.args.subs.now) (GoesOn c.args.began) (Stops c.args.began) _ _ _ }
 
 pub drain_once-requires-clause-pass : goal.drain_once-requires-clause-pass
 drain_once-requires-clause-pass g c = pass_stays _ _ _ _ _ c.loop-taken.invariant.so_far.went c.requires.pass
 
 pub returns-in-Some-clause-does : goal.returns-in-Some-clause-does
-returns-in-Some-clause-does g c = last_taken (Delivers c.args.brokers.now c.args.subs.now) c.args.began _ _ _ _ _ c.loop-taken._taken c.loop-taken.invariant.so_far c.in-Some.how (omega (arith, c.loop-taken-test.true)) c.in-Some.ensures.does
+returns-in-Some-clause-does g c = last_taken (Delivers c.args.brokers.now c.args.subs.now) (GoesOn c.args.began) (Stops c.args.began) _ _ _ _ _ c.loop-taken._taken c.loop-taken.invariant.so_far c.in-Some.how (drain_ended c.args.began c.in-Some.how) (omega (arith, c.loop-taken-test.true)) c.in-Some.ensures.does
 
 pub loop-taken-preserved : goal.loop-taken-preserved
-loop-taken-preserved g c = record { so_far = one_taken (Delivers c.args.brokers.now c.args.subs.now) c.args.began _ _ _ _ _ c.loop-taken._taken c.loop-taken.invariant.so_far c.in_default.ensures.does }
+loop-taken-preserved g c = record { so_far = one_taken (Delivers c.args.brokers.now c.args.subs.now) (GoesOn c.args.began) (Stops c.args.began) _ _ _ _ _ c.loop-taken._taken c.loop-taken.invariant.so_far c.in_default.ensures.does }
 
 pub returns-clause-does : goal.returns-clause-does
-returns-clause-does g c = all_taken (Delivers c.args.brokers.now c.args.subs.now) c.args.began _ _ _ _ c.loop-taken._taken (omega (arith, c.loop-taken-test.false)) c.loop-taken.invariant.so_far
+returns-clause-does g c = all_taken (Delivers c.args.brokers.now c.args.subs.now) (GoesOn c.args.began) (Stops c.args.began) _ _ _ _ c.loop-taken._taken (omega (arith, c.loop-taken-test.false)) c.loop-taken.invariant.so_far
