@@ -121,7 +121,8 @@ fn drilled<O: Outside, R: Rng, W: Wait>(
 ) -> Result<KeptSink, Status>
     ensures { IsDrilled ⟦<Store<AnyKeeper<O::Disk>> as ObjectKinds>⟧.kinds ready.config ready.bytes (R.stream rng.old) (outside_at O.Outside outside.old) (outside_at O.Outside outside.new) result }
 {
-    let start = StillClock::new().now();
+    let mut clock = StillClock::new();
+    let start = clock.now();
     match start_objects(alloc, ready.config, secret, start, outside) {
         Ok(up) => session(
             rt,
