@@ -1,6 +1,5 @@
 -- A tick that is taken and posted, as what was done over all objects.
-use Rattle.std.proofs.Common.{◌≡◌, ◌∙◌, ◌≢◌, ◌<◌, ℕ, List, [], ◌∷◌, ◌++◌, length, Result, Ok, Err, Some, refl, sym, ap, subst, arith, flat_map}
-use Rattle.std.specs.Prelude.{IfOk, IfErr}
+use Rattle.std.proofs.Common.{◌≡◌, ◌∙◌, ◌≢◌, ◌<◌, ℕ, List, [], ◌∷◌, ◌++◌, length, Result, refl, sym, ap, subst, arith, flat_map}
 use mathlib.Core.Option.{some}
 use lib.ListN.{get_elem?}
 use Rattle.rand_core.specs.Stream.{Stream, next_u64}
@@ -63,11 +62,6 @@ posted_by port cron came link clock attempts posts = record { attempts = attempt
 
 -- ---- the step of the ticks
 
--- what a call of their cell means
-abbrev pub taken_by : Result TicksReply Exhausted → Taking
-taken_by (Ok reply) = taking_of reply
-taken_by (Err e) = taking.Ended (turn.Exhausted e.count)
-
 -- the place of a tick that was given is one of a binding
 pub is_there : (object : Ghosts Ticks TicksCmd TicksReply) (first : Ticks) → ((history : List Step) (entry : Step) → object.steps first history entry → IsStep (schedule_of first) history entry)
     → (seat after : Sitting Ticks TicksCmd TicksReply) (cmd : TicksCmd) (reply : TicksReply) → Extends object first seat cmd reply after → (place : ℕ) → taking_of reply ≡ taking.Tick place → place < length (schedule_of first).periods
@@ -109,7 +103,7 @@ module _ {O : Type 0} (kinds : Kinds O) (cells : CellsAt O) (seats : SeatsAt O) 
     };
   }
 
-  unstepped : (e : Exhausted) → Exhausts (kinds ticks) cells.ticks.first seats.ticks e.count after → Does kinds cells (at_seat seats.ticks clock) (at_seat after clock') (TakesBy (taking.Ended (turn.Exhausted e.count)))
+  pub unstepped : (e : Exhausted) → Exhausts (kinds ticks) cells.ticks.first seats.ticks e.count after → Does kinds cells (at_seat seats.ticks clock) (at_seat after clock') (TakesBy (taking.Ended (turn.Exhausted e.count)))
   unstepped e spent = record {
     events = Timed now ∷ [];
     held = ticking.exhausted now e.count refl refl;
@@ -123,11 +117,14 @@ module _ {O : Type 0} (kinds : Kinds O) (cells : CellsAt O) (seats : SeatsAt O) 
     };
   }
 
-  -- whatever is answered
-  pub took_one : (result : Result TicksReply Exhausted) (taken : Taking) → IfOk result (λ reply. Extends (kinds ticks) cells.ticks.first seats.ticks (Take now) reply after) → IfErr result (λ e. Exhausts (kinds ticks) cells.ticks.first seats.ticks e.count after)
-      → taken ≡ taken_by result → Does kinds cells (at_seat seats.ticks clock) (at_seat after clock') (TakesBy taken)
-  took_one (Ok reply) taken ok err is = subst (λ t. Does kinds cells (at_seat seats.ticks clock) (at_seat after clock') (TakesBy t)) (sym is) (stepped_by reply ok)
-  took_one (Err e) taken ok err is = subst (λ t. Does kinds cells (at_seat seats.ticks clock) (at_seat after clock') (TakesBy t)) (sym is) (unstepped e err)
+  -- the same, as it goes on
+  pub stepped_so : (reply : TicksReply) (taken : Taking) → Extends (kinds ticks) cells.ticks.first seats.ticks (Take now) reply after → taken ≡ taking_of reply → Does kinds cells (at_seat seats.ticks clock) (at_seat after clock') (TakesBy taken)
+  stepped_so reply taken extends is = subst (λ t. Does kinds cells (at_seat seats.ticks clock) (at_seat after clock') (TakesBy t)) (sym is) (stepped_by reply extends)
+
+-- no answer says that the cell is exhausted
+pub unspent : (reply : TicksReply) (count : ℕ) → taking_of reply ≡ taking.Ended (turn.Exhausted count) → ⊥
+unspent (says.Tick at number due) count is = absurd (cc)
+unspent (says.Idle next) count is = absurd (cc)
 
 -- ---- both, one after the other
 
