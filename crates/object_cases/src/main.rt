@@ -1,5 +1,5 @@
-//! Plays the cases of the files that its words name: histories of stores, keepers, breakers, ledgers and turns of actors, runs of retries, and
-//! trips, each with what must come of it. Prints each case that differs, and at the end how many there were.
+//! Plays the cases of the files that its words name: histories of stores, keepers, breakers, ledgers, turns of actors and ticks of bindings, runs of
+//! retries, and trips, each with what must come of it. Prints each case that differs, and at the end how many there were.
 #![tactic(auto)]
 
 mod aimed;
@@ -14,6 +14,7 @@ mod store_case;
 mod store_text;
 mod store_words;
 mod taken;
+mod ticks_case;
 mod trip_case;
 mod turns_case;
 mod words;

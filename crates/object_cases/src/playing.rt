@@ -5,6 +5,7 @@ use crate::keeper_case::play_keeper;
 use crate::ledger_case::play_ledger;
 use crate::retry_case::play_retry;
 use crate::store_case::play_store;
+use crate::ticks_case::play_ticks;
 use crate::trip_case::play_trip;
 use crate::turns_case::play_turns;
 use case_text::{Lines, Piece, Player, Section, sections};
@@ -28,6 +29,7 @@ fn judge<W: Wait>(rt: &W, alloc: Global, sections: &[Section<'_>], lines: &mut L
         "ledger" => play_ledger(alloc, sections, lines),
         "trip" => play_trip(alloc, sections, lines),
         "turns" => play_turns(rt, alloc, sections, lines),
+        "ticks" => play_ticks(rt, alloc, sections, lines),
         _ => lines.add("no such case\n"),
     }
     if sections.len() < 2 {
@@ -35,7 +37,7 @@ fn judge<W: Wait>(rt: &W, alloc: Global, sections: &[Section<'_>], lines: &mut L
     }
 }
 
-/// The cases of stores, keepers, breakers, ledgers, turns of actors, retries and trips, whose calls may wait.
+/// The cases of stores, keepers, breakers, ledgers, turns of actors, ticks of bindings, retries and trips, whose calls may wait.
 #[derive(Drop)]
 pub(crate) struct Cases<'a, W> {
     pub(crate) rt: &'a W,

@@ -2,6 +2,7 @@ pub mod Over
 pub mod Linked
 mod Placed
 mod Gathered
+mod Periods
 mod CountedOnce
 mod InOrder
 mod Turned

@@ -1,8 +1,7 @@
 -- Parts of an idle turn, one after the other, as what was done over all objects.
-use Rattle.std.proofs.Common.{◌≡◌, ◌∙◌, ◌⊎◌, ℕ, List, ◌++◌, inl, inr, refl, sym, subst}
+use Rattle.std.proofs.Common.{◌≡◌, ℕ, ◌++◌, inr, refl}
 use Rattle.delivery_turn.specs.declared.ending.Turn.{Turn}
 use Rattle.delivery_turn.specs.declared.ending.Turn.TheVariants as ended
-use Rattle.sidecar_objects.specs.declared.doing.Doing.{Doing}
 use Rattle.sidecar_objects.specs.Kind.{Kinds, CellsAt}
 use Rattle.sidecar_objects.specs.Did.{Does, Standing}
 use Rattle.sidecar_objects.specs.Composed.{did_on}
@@ -15,15 +14,15 @@ use Rattle.sidecar_turns.specs.Idling as idling
 
 module _ {O : Type 0} (kinds : Kinds O) (cells : CellsAt O) (part others : Part) (at : Standing O) where
   -- it ended the turn
-  pub ended_there : (after : Standing O) (turn : IdleTurn) → Does kinds cells at after (λ events. part events turn) → Ends turn → Does kinds cells at after (λ events. Then part others events turn)
-  ended_there after turn does ends = record { events = does.events; held = idling.ended does.held ends; went = does.went }
+  pub alone_done : (after : Standing O) (turn : IdleTurn) → Does kinds cells at after (λ events. part events turn) → Ends turn → Does kinds cells at after (λ events. Then part others events turn)
+  alone_done after turn does ends = record { events = does.events; held = idling.alone does.held ends; went = does.went }
 
   -- the others came behind it
   pub both_done : (between after : Standing O) (one two turn : IdleTurn) → Does kinds cells at between (λ events. part events one) → ¬ Ends one → Does kinds cells between after (λ events. others events two) → turn ≡ both one two
       → Does kinds cells at after (λ events. Then part others events turn)
   both_done between after one two turn does busy more is = record {
     events = does.events ++ more.events;
-    held = idling.went_on does.events more.events one two does.held busy more.held refl is;
+    held = idling.followed does.events more.events one two does.held busy more.held refl is;
     went = did_on kinds cells at does.events between more.events after does.went more.went;
   }
 

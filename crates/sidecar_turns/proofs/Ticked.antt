@@ -1,14 +1,16 @@
 -- A tick that is taken and posted, as what was done over all objects.
-use Rattle.std.proofs.Common.{◌≡◌, ◌∙◌, ◌≢◌, ◌<◌, ℕ, List, [], ◌∷◌, ◌++◌, length, Result, Ok, Err, Some, refl, sym, ap, subst, arith, flat_map}
-use Rattle.std.specs.Prelude.{IfOk, IfErr}
+use Rattle.std.proofs.Common.{true≢false, ◌≡◌, ◌∙◌, ◌≢◌, ◌<◌, ◌==◌, ℕ, Bool, true, false, List, [], ◌∷◌, ◌++◌, length, get_or, None, Result, Ok, Err, refl, sym, ap, subst, arith, flat_map}
+use Rattle.std.proofs.lemmas.Bool.Decides.{Decides-eqb}
+use Rattle.std.proofs.lemmas.List.{get_or_default}
+use Rattle.atomic_table.proofs.Lists.{at_index}
 use mathlib.Core.Option.{some}
 use lib.ListN.{get_elem?}
 use Rattle.rand_core.specs.Stream.{Stream, next_u64}
 use Rattle.side_world.specs.declared.link.LinkCall.{LinkCall}
 use Rattle.side_world.specs.Moments.{Rises}
 use Rattle.side_world.proofs.Composed.{drawn_nothing, rises_nothing}
-use Rattle.turn_cell.specs.declared.entry.Entry.{Entry}
 use Rattle.turn_cell.specs.declared.error.ApiErr.{ApiErr}
+use Rattle.turn_cell.specs.declared.error.ApiErr.TheVariants as error
 use Rattle.turn_cell.specs.declared.error.Exhausted.{Exhausted}
 use Rattle.turn_cell.specs.declared.object.Object.{Ghosts}
 use Rattle.turn_cell.specs.Growth.{EachGrew, Grew}
@@ -36,8 +38,8 @@ use Rattle.sidecar_objects.specs.declared.doing.Doing.TheVariants.{Stepped, Time
 use Rattle.sidecar_objects.specs.declared.doing.SlotStep.TheVariants as slot
 use Rattle.sidecar_objects.specs.Kind.{Kind, Kinds, CellsAt, SeatsAt, stores, ledgers, breakers, book, turns, ticks, cells_in, seats_in}
 use Rattle.sidecar_objects.specs.Doing.{steps_at}
-use Rattle.sidecar_objects.specs.Did.{Did, Does, Standing}
-use Rattle.sidecar_objects.specs.Composed.{did_on}
+use Rattle.sidecar_objects.specs.Did.{Does, Standing}
+use Rattle.sidecar_objects.specs.Composed.{did_on, does_nothing}
 use Rattle.sidecar_objects.proofs.ByKind.{by_kind}
 use Rattle.sidecar_objects.proofs.Laid.{here_at, elsewhere_at}
 use Rattle.sidecar_objects.proofs.Single.{one_grew}
@@ -62,11 +64,6 @@ pub posted_by : (port : ℕ) (cron : Cron) (came : Result Posted ApiErr) (link :
 posted_by port cron came link clock attempts posts = record { attempts = attempts; posts = posted_so cron.bound port cron.name came link clock attempts posts; whole = refl }
 
 -- ---- the step of the ticks
-
--- what a call of their cell means
-abbrev pub taken_by : Result TicksReply Exhausted → Taking
-taken_by (Ok reply) = taking_of reply
-taken_by (Err e) = taking.Ended (turn.Exhausted e.count)
 
 -- the place of a tick that was given is one of a binding
 pub is_there : (object : Ghosts Ticks TicksCmd TicksReply) (first : Ticks) → ((history : List Step) (entry : Step) → object.steps first history entry → IsStep (schedule_of first) history entry)
@@ -109,7 +106,7 @@ module _ {O : Type 0} (kinds : Kinds O) (cells : CellsAt O) (seats : SeatsAt O) 
     };
   }
 
-  unstepped : (e : Exhausted) → Exhausts (kinds ticks) cells.ticks.first seats.ticks e.count after → Does kinds cells (at_seat seats.ticks clock) (at_seat after clock') (TakesBy (taking.Ended (turn.Exhausted e.count)))
+  pub unstepped : (e : Exhausted) → Exhausts (kinds ticks) cells.ticks.first seats.ticks e.count after → Does kinds cells (at_seat seats.ticks clock) (at_seat after clock') (TakesBy (taking.Ended (turn.Exhausted e.count)))
   unstepped e spent = record {
     events = Timed now ∷ [];
     held = ticking.exhausted now e.count refl refl;
@@ -123,11 +120,36 @@ module _ {O : Type 0} (kinds : Kinds O) (cells : CellsAt O) (seats : SeatsAt O) 
     };
   }
 
-  -- whatever is answered
-  pub took_one : (result : Result TicksReply Exhausted) (taken : Taking) → IfOk result (λ reply. Extends (kinds ticks) cells.ticks.first seats.ticks (Take now) reply after) → IfErr result (λ e. Exhausts (kinds ticks) cells.ticks.first seats.ticks e.count after)
-      → taken ≡ taken_by result → Does kinds cells (at_seat seats.ticks clock) (at_seat after clock') (TakesBy taken)
-  took_one (Ok reply) taken ok err is = subst (λ t. Does kinds cells (at_seat seats.ticks clock) (at_seat after clock') (TakesBy t)) (sym is) (stepped_by reply ok)
-  took_one (Err e) taken ok err is = subst (λ t. Does kinds cells (at_seat seats.ticks clock) (at_seat after clock') (TakesBy t)) (sym is) (unstepped e err)
+  -- the same, as it goes on
+  pub stepped_so : (reply : TicksReply) (taken : Taking) → Extends (kinds ticks) cells.ticks.first seats.ticks (Take now) reply after → taken ≡ taking_of reply → Does kinds cells (at_seat seats.ticks clock) (at_seat after clock') (TakesBy taken)
+  stepped_so reply taken extends is = subst (λ t. Does kinds cells (at_seat seats.ticks clock) (at_seat after clock') (TakesBy t)) (sym is) (stepped_by reply extends)
+
+-- no answer says that the cell is exhausted
+pub unspent : (reply : TicksReply) (count : ℕ) → taking_of reply ≡ taking.Ended (turn.Exhausted count) → ⊥
+unspent (says.Tick at number due) count is = absurd (cc)
+unspent (says.Idle next) count is = absurd (cc)
+
+-- a call that came so found its breaker's cell exhausted
+pub came_spent : (came : Result Posted ApiErr) (count : ℕ) → turn_of came ≡ turn.Exhausted count → came ≡ Err (error.Exhausted count)
+came_spent (Ok posted) count is = absurd (cc)
+came_spent (Err error.NoMemory) count is = absurd (cc)
+came_spent (Err (error.Exhausted there)) count is = ap {A = ℕ} {B = Result Posted ApiErr} (λ n. Err (error.Exhausted n)) (same is)
+  where
+    same : turn.Exhausted there ≡ turn.Exhausted count → there ≡ count
+    same e = cc
+
+-- ---- which bindings there are
+
+pub nothing_ticks : (crons : List Cron) (test : Bool) → test ≡ (length crons == 0) → test ≡ true → crons ≡ []
+nothing_ticks [] test is holds = refl
+nothing_ticks (cron ∷ crons) test is holds = let empty = (Decides-eqb (length (cron ∷ crons)) 0).0 (sym is ∙ holds) in absurd (omega (arith, empty))
+
+pub something_ticks : (crons : List Cron) (test : Bool) → test ≡ (length crons == 0) → test ≡ false → ¬ (crons ≡ [])
+something_ticks crons test is fails none = absurd (true≢false (sym (is ∙ ap (λ (l : List Cron). length l == 0) none) ∙ fails))
+
+-- the binding at a place
+pub cron_there : (crons : List Cron) (place : ℕ) (other : Cron) → place < length crons → get_elem? crons place ≡ some (get_or crons place other)
+cron_there crons place other low = at_index crons place (get_or crons place other) low (get_or_default crons place other (get_or crons place other) low)
 
 -- ---- both, one after the other
 
@@ -154,20 +176,24 @@ module _ (port : ℕ) (crons : List Cron) where
 
   -- where something ticks
   of_some : (events : List Doing) (last : TickTurn) → ¬ (crons ≡ []) → TicksApp port crons events last → TicksSome port crons events last
-  of_some events last some-there ticks = by crons refl
+  of_some events last some-there does = by crons refl
     where
       by : (those : List Cron) → crons ≡ those → TicksSome port those events last
       by [] is = absurd (some-there is)
-      by (cron ∷ others) is = subst (λ l. TicksApp port l events last) is ticks
+      by (cron ∷ others) is = subst (λ l. TicksApp port l events last) is does
 
   module _ {O : Type 0} (kinds : Kinds O) (cells : CellsAt O) (at : Standing O) (some-there : ¬ (crons ≡ [])) where
-    pub ticked_app : (between after : Standing O) (place : ℕ) (cron : Cron) (came : Result Posted ApiErr) → get_elem? crons place ≡ some cron → Does kinds cells at between (TakesBy (taking.Tick place)) → Does kinds cells between after (λ events. PostsFor port cron events came)
-        → Does kinds cells at after (λ events. TicksSome port crons events (turn_of came))
-    ticked_app between after place cron came there takes posts = record {
+    pub ticked_app : (between after : Standing O) (place : ℕ) (cron : Cron) (came : Result Posted ApiErr) (last : TickTurn) → last ≡ turn_of came → get_elem? crons place ≡ some cron → Does kinds cells at between (TakesBy (taking.Tick place)) → Does kinds cells between after (λ events. PostsFor port cron events came)
+        → Does kinds cells at after (λ events. TicksSome port crons events last)
+    ticked_app between after place cron came last is there takes posts = record {
       events = takes.events ++ posts.events;
-      held = of_some (takes.events ++ posts.events) (turn_of came) some-there (posted_for place cron came takes.events posts.events there takes.held posts.held);
+      held = subst (TicksSome port crons (takes.events ++ posts.events)) (sym is) (of_some (takes.events ++ posts.events) (turn_of came) some-there (posted_for place cron came takes.events posts.events there takes.held posts.held));
       went = did_on kinds cells at takes.events between posts.events after takes.went posts.went;
     }
 
     pub idle_app : (after : Standing O) (last : TickTurn) → Does kinds cells at after (TakesBy (taking.Ended last)) → Does kinds cells at after (λ events. TicksSome port crons events last)
     idle_app after last takes = record { events = takes.events; held = of_some takes.events last some-there (ended_so last takes.events takes.held); went = takes.went }
+
+  -- where nothing ticks
+  pub never_app : {O : Type 0} (kinds : Kinds O) (cells : CellsAt O) (at : Standing O) → crons ≡ [] → Does kinds cells at at (λ events. TicksSome port crons events (turn.Idle None))
+  never_app kinds cells at none = does_nothing kinds cells at (λ events. TicksSome port crons events (turn.Idle None)) (subst (λ l. TicksSome port l [] (turn.Idle None)) (sym none) (refl, refl))

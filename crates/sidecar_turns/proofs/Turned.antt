@@ -1,5 +1,5 @@
 -- Turns of a kind, one after the other.
-use Rattle.std.proofs.Common.{◌≡◌, ◌∙◌, ◌≤◌, ◌+◌, ℕ, suc, List, [], ◌++◌, sym, subst, arith, append-nil, append_assoc}
+use Rattle.std.proofs.Common.{◌≡◌, ◌≤◌, ◌+◌, ℕ, suc, List, [], ◌++◌, sym, subst, arith, append-nil, append_assoc}
 use Rattle.sidecar_objects.specs.declared.doing.Doing.{Doing}
 use Rattle.sidecar_objects.specs.Kind.{Kinds, CellsAt}
 use Rattle.sidecar_objects.specs.Did.{Does, Standing}

@@ -3,7 +3,6 @@ use Rattle.std.specs.Prelude.{◌≡◌, ℕ, Bool, true, false, List, map, filt
 use Rattle.std.proofs.Common.{◌∙◌, sym}
 use Rattle.std.specs.List.{All}
 use Rattle.std.proofs.lemmas.List.{length-map}
-use Rattle.retry_core.specs.declared.policy.Bound.{Bound}
 use Rattle.retry_core.specs.Bound.{IsWithinLimit}
 use Rattle.resource_spec.specs.declared.component.ComponentKind.{ComponentKind}
 use Rattle.resource_spec.specs.declared.component.ComponentKind.TheVariants as kinds
@@ -39,13 +38,13 @@ cron_by policies c = record { name = c.name; bound = bound_by policies (inbound 
 abbrev pub crons_of : Option ℕ → List Loaded → Binding → Inputs
 crons_of port components policies = record { port = port; crons = map (cron_by policies) (crons_among components) }
 
--- the period that its schedule says
+-- the period that a schedule says
+abbrev pub period_said : Option (List ℕ) → ℕ
+period_said None = 0
+period_said (Some schedule) = unwrap_or (period_in schedule) 0
+
 abbrev pub period_of : Loaded → ℕ
-period_of c = of_schedule (setting_of c (codes "schedule"))
-  where
-    of_schedule : Option (List ℕ) → ℕ
-    of_schedule None = 0
-    of_schedule (Some schedule) = unwrap_or (period_in schedule) 0
+period_of c = period_said (setting_of c (codes "schedule"))
 
 abbrev pub periods_of : List Loaded → List ℕ
 periods_of components = map period_of (crons_among components)

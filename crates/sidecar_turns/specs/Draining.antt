@@ -1,5 +1,5 @@
 -- What is delivered behind the connection of a run on standard input, before the run ends.
-use Rattle.std.specs.Prelude.{◌≡◌, ◌≤◌, ◌<◌, ◌+◌, ◌-◌, ℕ, List, [], ◌∷◌, Option, Some, None}
+use Rattle.std.specs.Prelude.{◌≡◌, ◌≤◌, ◌<◌, ◌+◌, ◌-◌, ℕ, List, [], ◌∷◌, Some, None}
 use Rattle.side_world.specs.declared.clock.Tick.TheVariants as tick
 use Rattle.side_world.specs.Moments.{Rises}
 use Rattle.side_world.specs.Told.{Tells}

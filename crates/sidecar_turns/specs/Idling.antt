@@ -40,8 +40,8 @@ both part other = other
 
 -- one part, and then, unless it ends the turn, another
 pub data Then (part others : Part) (events : List Doing) (turn : IdleTurn) : Type 0 where
-  ended : part events turn → Ends turn → Then part others events turn
-  went_on : (first rest : List Doing) (one two : IdleTurn) → part first one → ¬ Ends one → others rest two → events ≡ first ++ rest → turn ≡ both one two → Then part others events turn
+  alone : part events turn → Ends turn → Then part others events turn
+  followed : (first rest : List Doing) (one two : IdleTurn) → part first one → ¬ Ends one → others rest two → events ≡ first ++ rest → turn ≡ both one two → Then part others events turn
 
 -- ---- an idle turn
 

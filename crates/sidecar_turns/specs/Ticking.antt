@@ -13,7 +13,7 @@ use Rattle.state_core.specs.declared.store.Store.{Store}
 use Rattle.retry_core.specs.declared.policy.Bound.{Bound}
 use Rattle.policy_run.specs.Event.{Event}
 use Rattle.policy_run.specs.Attempts.{Attempts}
-use Rattle.policy_run.specs.Effects.{Clocked, clocked}
+use Rattle.policy_run.specs.Effects.{clocked}
 use Rattle.link_call.specs.Linked.{Tries}
 use Rattle.link_call.specs.LinkAt.{LinkAt}
 use Rattle.cron_ticks.specs.declared.command.TicksCmd.TheVariants.{Take}

@@ -1,5 +1,6 @@
-ghost use Rattle.std.specs.Prelude.{◌≡◌, ◌<◌, ◌^◌, ◌++◌, ◌∷◌, [], All, IfOk, OnOk, length, map};
+ghost use Rattle.std.specs.Prelude.{◌≡◌, ◌<◌, ◌≤◌, ◌+◌, ◌^◌, ◌++◌, ◌∷◌, [], true, All, IfOk, OnOk, length, map};
 ghost use Rattle.retry_core.specs.Bound.{IsWithinLimit};
+ghost use Rattle.resource_spec.specs.Component.{HasNeeds};
 ghost use Rattle.cron_ticks.specs.Schedule.{IsPeriod};
 ghost use Rattle.sidecar_turns.specs.Brokers.{HasBreakerOf};
 ghost use Rattle.sidecar_turns.specs.Crons.{AreWithinLimits, HaveGates, cron_by, crons_among, crons_of, is_cron, period_of, periods_of};
@@ -146,6 +147,7 @@ pub fn periods_of(alloc: Global, components: &Components) -> Result<Periods, NoM
 fn add_period(component: &Component, periods: &mut Periods) -> Result<(), NoMemory>
     ensures added { OnOk result (periods.new ≡ periods.old ++ map period_of (crons_among (component.now ∷ []))) }
     ensures each { OnOk result (All IsPeriod periods.old → All IsPeriod periods.new) }
+    ensures few { OnOk result (length periods.new ≤ length periods.old + 1) }
 {
     if !is_cron(component.kind()) {
         return Ok(());
@@ -156,7 +158,8 @@ fn add_period(component: &Component, periods: &mut Periods) -> Result<(), NoMemo
 
 /// How often a component ticks.
 fn period_of(component: &Component) -> u64
-    requires { is_cron component.now.kind ≡ true }
+    requires kind { is_cron component.now.kind ≡ true }
+    requires needs { HasNeeds component.now }
     ensures exact { result ≡ period_of component.now }
     ensures each { IsPeriod result }
 {

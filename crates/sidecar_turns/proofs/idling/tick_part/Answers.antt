@@ -1,4 +1,4 @@
-use Rattle.std.proofs.Common.{◌∙◌, refl, sym}
+use Rattle.std.proofs.Common.{◌∙◌, sym}
 use Rattle.sidecar_objects.specs.Composed.{does_as}
 use Rattle.sidecar_turns.specs.Idling.{TickPart}
 use Rattle.sidecar_turns.specs.Ticking.{Ticks}
