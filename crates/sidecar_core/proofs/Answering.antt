@@ -21,7 +21,7 @@ use Rattle.sidecar_core.specs.declared.config.Config.{Config}
 use Rattle.sidecar_objects.specs.declared.doing.Doing.{Doing}
 use Rattle.retry_core.specs.declared.policy.Bound.{Bound}
 use Rattle.sidecar_objects.specs.Kind.{SeatsAt}
-use Rattle.link_call.specs.Came.{Gives, IsOr}
+use Rattle.link_call.specs.Came.{IsOr}
 use Rattle.sidecar_core.specs.Exchange.{Answered, IsDone, AtActorState, AtSite, AtStore, FaultGives, PutReplies, store_in}
 use Rattle.sidecar_core.specs.Exchange as exchange
 use Rattle.sidecar_core.specs.Shown.{ActorStoreShows, RouteShows, StoreShows}

@@ -24,7 +24,6 @@ use Rattle.actor_api.specs.Stepping.{Own, TurnsSeat, Went, asked, entered, enter
 use Rattle.actor_api.specs.Stepping as own
 use Rattle.actor_api.specs.Calling.{Finishes, Invokes, Joins, Replies, TakesTurn}
 use Rattle.actor_api.specs.Calling as calling
-use Rattle.sidecar_objects.specs.declared.doing.Doing.{Doing}
 use Rattle.sidecar_objects.specs.Kind.{Kind, Kinds, CellsAt, SeatsAt, StepOf, stores, ledgers, breakers, book, turns, ticks, cells_in, seats_in}
 use Rattle.sidecar_objects.specs.Doing.{laid, steps_at, asked_in, word_in, moment_in, pause_in, tick_in}
 use Rattle.sidecar_objects.specs.Did.{Did, Standing}

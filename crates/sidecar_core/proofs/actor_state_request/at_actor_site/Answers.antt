@@ -1,4 +1,4 @@
-use Rattle.std.proofs.Common.{Ok, Err, subst}
+use Rattle.std.proofs.Common.{subst}
 use Rattle.state_core.specs.declared.command.Cmd.{Cmd}
 use Rattle.state_api.specs.Given.{Tells}
 use Rattle.state_api.specs.Asked.{AsksActor}

@@ -1,10 +1,10 @@
-use Rattle.std.proofs.Common.{Ok, refl, subst, arith}
+use Rattle.std.proofs.Common.{Ok, refl, subst}
 use Rattle.policy_run.specs.Effects.{clocked}
 use Rattle.link_call.specs.LinkAt.{link_at}
 use Rattle.sidecar_objects.specs.Composed.{does_nothing, does_as}
 use Rattle.sidecar_core.specs.Exchange.{SetsNote}
-use Rattle.sidecar_core.proofs.Answering.{actors_answered, actors_show, done_answered, has_actor, names_store, not_exhausted, state_answered}
-use Rattle.sidecar_core.proofs.Statuses.{fine_at_actor, fine_at_list, fine_at_set, fine_at_store, fine_given}
+use Rattle.sidecar_core.proofs.Answering.{actors_answered, actors_show, done_answered, has_actor, names_store, state_answered}
+use Rattle.sidecar_core.proofs.Statuses.{fine_at_actor, fine_at_list, fine_at_set, fine_at_store}
 use Rattle.sidecar_core.proofs.responding.answer.Goals as goal
 
 pub returns-in-Publish-clause-does : goal.returns-in-Publish-clause-does
