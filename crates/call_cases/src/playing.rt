@@ -7,7 +7,7 @@ use crate::crowded_clock::CrowdedClock;
 use actor_turns::Turns;
 use breaker_core::Breaker;
 use case_text::{Lines, Piece, Player, Section, joined_text, name_in, sections};
-use case_world::{World, add_asked, add_clock, breaker_in};
+use case_world::{World, add_asked, add_clock, breaker_in, let_another_out};
 use policy_run::{BreakerAt, NoBreaker};
 use std::alloc::Global;
 use std::sync::Wait;
@@ -38,6 +38,7 @@ fn guarded<W: Wait>(
     requires { IsSeatOf cell.now seat.old }
 {
     let common = common_to(alloc, sections, Some(0));
+    let_another_out(rt, sections, cell, seat);
     let mut guard = BreakerAt { cell, seat };
     calls(rt, alloc, &common, sections, &mut guard, world, lines);
 }

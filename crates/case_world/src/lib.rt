@@ -3,10 +3,12 @@
 //!
 //! - `script` and `world` make the link and the clock by what a case says that they answer; `same_word` is one random word for ever.
 //! - `bound` has timeouts, retries and a breaker's policy.
+//! - `another` has a breaker let another caller's call through.
 //! - `told` tells responses, what was asked of the link, and where the clock stands.
 //! - `words` has what single words say.
 #![tactic(auto)]
 
+mod another;
 mod bound;
 mod same_word;
 mod script;
@@ -14,6 +16,7 @@ mod told;
 mod words;
 mod world;
 
+pub use another::let_another_out;
 pub use bound::{bound_in, breaker_in};
 pub use same_word::SameWord;
 pub use script::body_of;

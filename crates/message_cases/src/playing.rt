@@ -4,11 +4,10 @@ ghost use Rattle.turn_cell.specs.Sitting.{IsSeatOf};
 use crate::broker::play_brokers;
 use crate::given::common_to;
 use crate::stepping::Scene;
-use breaker_core::{Breaker, BreakerCmd};
+use breaker_core::Breaker;
 use case_text::{Lines, Piece, Player, Section, joined_text, name_in, sections};
 use case_world::{
-    World, add_answer, add_asked, add_asked_briefly, add_clock, breaker_in, moment, number_named,
-    text,
+    World, add_answer, add_asked, add_asked_briefly, add_clock, breaker_in, let_another_out, text,
 };
 use link_call::given;
 use policy_run::{BreakerAt, NoBreaker};
@@ -23,29 +22,6 @@ fn unguarded<W: Wait>(rt: &W, alloc: Global, sections: &[Section<'_>], scene: &m
     play_brokers(rt, &common, sections, &mut NoBreaker, scene);
 }
 
-fn ask<W: Wait>(rt: &W, cell: &TurnCell<Breaker>, seat: &mut Seat<Breaker>, cmd: BreakerCmd)
-    requires { IsSeatOf cell.now seat.old }
-    ensures { IsSeatOf cell.now seat.new }
-{
-    let _ = cell.call(rt, seat, &cmd);
-}
-
-// A call of another caller fails at the beginning of 1970, and one is let through at this moment, of which the breaker is not told.
-fn another_is_out<W: Wait>(rt: &W, cell: &TurnCell<Breaker>, seat: &mut Seat<Breaker>, ms: u64)
-    requires { IsSeatOf cell.now seat.old }
-    ensures { IsSeatOf cell.now seat.new }
-{
-    let now = moment(0);
-    ask(rt, cell, seat, BreakerCmd::Admit { now });
-    let report = BreakerCmd::Report {
-        generation: 0,
-        now,
-        good: false,
-    };
-    ask(rt, cell, seat, report);
-    ask(rt, cell, seat, BreakerCmd::Admit { now: moment(ms) });
-}
-
 // The deliveries by a breaker's seat.
 fn guarded<W: Wait>(
     rt: &W,
@@ -58,9 +34,7 @@ fn guarded<W: Wait>(
     requires { IsSeatOf cell.now seat.old }
 {
     let common = common_to(alloc, sections, Some(0), &mut scene.told);
-    if name_in(sections, "out").is_some() {
-        another_is_out(rt, cell, seat, number_named(sections, "out"));
-    }
+    let_another_out(rt, sections, cell, seat);
     let mut guard = BreakerAt { cell, seat };
     play_brokers(rt, &common, sections, &mut guard, scene);
 }
