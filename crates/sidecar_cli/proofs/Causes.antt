@@ -383,7 +383,7 @@ module _ {D : Type 0} {disking : Keeps D} {keeping : Ghosts (AnyKeeper D disking
       pub link : now.link ≡ world.link
       pub untouched : IsUntouched world now
 
-    module _ (resources : Resources) (now : WorldAt) (read : HasRead resources now) (rest : world' ≡ record now { outside = world'.outside; link = world'.link }) where
+    module _ (resources : Resources) (now : WorldAt) (read : HasRead resources now) (rest : world' ≡ record now { outside = world'.outside; link = world'.link; clock = world'.clock }) where
       still : IsUntouched world world'
       still = record { source = ap (λ w. w.source) rest ∙ read.untouched.source; sink = ap (λ w. w.sink) rest ∙ read.untouched.sink }
 

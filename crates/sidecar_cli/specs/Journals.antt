@@ -1,5 +1,5 @@
 -- What the stores of a run have saved, and what their journals hold of it.
-use Rattle.std.specs.Prelude.{◌≡◌, List, [], ◌∷◌, Some}
+use Rattle.std.specs.Prelude.{◌≡◌, ℕ, List, [], ◌∷◌, Some}
 use Rattle.side_world.specs.declared.disk.Disk.{Ghosts as Keeps}
 use Rattle.side_world.specs.Outside.{Disks}
 use Rattle.keeper_core.specs.declared.changes.Changes.{Changes}
